@@ -1,0 +1,4 @@
+pub mod LineLaws
+pub mod LegalLaws
+pub mod QuietLaws
+pub mod StepLaws

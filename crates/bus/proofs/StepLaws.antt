@@ -1,0 +1,195 @@
+-- What single cycles and the parts of an operation leave, where the chip allows them.
+use Prim.Native.Nat.{ℕ, zero, suc, _+_, _-_, _*_, _/_, _%_, _≤_, _<_}
+use mathlib.Core.Bool.{Bool, true, false, cond, false≢true}
+use mathlib.Core.List.{List, [], _∷_, _++_, map}
+use mathlib.Core.Path.{_≡_, refl, sym, ap, ap₂, _∙_}
+use native.Mathlib.Nat.{zero-add, add-zero, sub-zero}
+use native.Mathlib.Omega.{arith}
+use native.Mathlib.Numerals.{add-one}
+use borrow.Author.Tests.{eq-eqb, ne-eqb, le-leb, lt-leb, lt-ltb, le-ltb, eqb-true, eqb-false}
+use lib.Dec.{eqb, leb, ltb}
+use lib.ListN.{length, set, getD, replicate, length-set}
+use lib.Seq.{sets}
+use Rattle.geometry.specs.declared.Geometry.{Geometry}
+use Rattle.geometry.specs.Limits.{Valid, valid}
+use Rattle.geometry.specs.Sizes.{pageSize, blockSize, rowCount, columnBytes, rowBytes}
+use Rattle.geometry.proofs.LimitLaws.{holds}
+use Rattle.cells.specs.Cells.{programmed, weakened, raised}
+use Rattle.chip.specs.declared.interface.Interface.{Interface}
+use Rattle.chip.specs.Interface.{beginning, begun, inPhase, readMode, statusMode, outputResumed, plainCommand, shifted, moreAddress, fullAddress, addressFits, latched, addressed, afterReset, started}
+use Rattle.chip.specs.Device.{Device, Setting, Cycle, device, withPort, exec, commanded, isConfirm, nextColumn, dataTaken, dataGiven, lessBusy, lengthsFit, rowAt, blockAt, pageAt, pageOf, withPage, blockOf, withBlock, finished, completed, statusRead, confirmable, confirmed, readStarted, programStarted, eraseStarted}
+use Rattle.chip.specs.Device.Cycle.{command, address, dataIn, dataOut, status}
+use Rattle.bus.specs.Line.{run}
+use Rattle.bus.proofs.LineLaws.{by-test, run-append}
+
+-- a phase in which address bytes are taken
+abbrev pub taking : ℕ → Bool
+taking p = cond (eqb p 3) true (cond (eqb p 4) true (eqb p 5))
+
+abbrev pub atColumn : ℕ → Interface → Interface
+atColumn c i =
+    record { phase = i .phase; count = i .count; address = i .address; first = i .first; column = c; operation = i .operation; busy = i .busy; failed = i .failed; loaded = i .loaded; fate = i .fate; illegal = i .illegal }
+
+abbrev pub busyWith : ℕ → Interface → Interface
+busyWith k i =
+    record { phase = i .phase; count = i .count; address = i .address; first = i .first; column = i .column; operation = i .operation; busy = k; failed = i .failed; loaded = i .loaded; fate = i .fate; illegal = i .illegal }
+
+addressed-latched : (g : Geometry) (b : ℕ) (i : Interface) → taking (i .phase) ≡ true → addressed g b i ≡ latched g b i
+unfolding addressed
+addressed-latched g b i h =
+    by-test (eqb (i .phase) 3) (λ e. rw e)
+    (λ e. by-test (eqb (i .phase) 4) (λ f. rw (e, f))
+    (λ f. by-test (eqb (i .phase) 5) (λ k. rw (e, f, k)) (λ k. absurd (false≢true (sym (rw (e, f, k)) ∙ h)))))
+
+-- the address register after two column bytes, and after three row bytes behind them
+column-number : (c : ℕ) → c < 65536 → shifted (c / 256 % 256) (shifted (c % 256) 0) ≡ c * 16777216
+column-number c h = omega arith
+
+row-number : (a r : ℕ) → r < 16777216 → shifted (r / 256 / 256 % 256) (shifted (r / 256 % 256) (shifted (r % 256) (a * 16777216))) ≡ a + r * 65536
+row-number a r h = omega arith
+
+pub address-number : (c r : ℕ) → c < 65536 → r < 16777216 → shifted (r / 256 / 256 % 256) (shifted (r / 256 % 256) (shifted (r % 256) (shifted (c / 256 % 256) (shifted (c % 256) 0)))) ≡ c + r * 65536
+address-number c r hc hr = rw (column-number c hc) (row-number c r hr)
+
+module _ (s : Setting) (d : Device) where
+  -- 80h and 60h
+  pub begin-program : d .port .phase ≤ 2 → exec s d (command 128) ≡ withPort (beginning 4 0 (d .port)) d
+  unfolding exec commanded isConfirm plainCommand begun
+  begin-program h = rw (le-leb _ _ h)
+
+  pub begin-erase : d .port .phase ≤ 2 → exec s d (command 96) ≡ withPort (beginning 5 2 (d .port)) d
+  unfolding exec commanded isConfirm plainCommand begun
+  begin-erase h = rw (le-leb _ _ h)
+
+  -- 00h where no page is loaded, and where one is
+  pub begin-read : d .port .phase ≤ 2 → eqb (d .port .loaded) 1 ≡ false → exec s d (command 0) ≡ withPort (beginning 3 0 (d .port)) d
+  unfolding exec commanded isConfirm plainCommand readMode
+  begin-read h e = rw (le-leb _ _ h, e)
+
+  pub resume-output : d .port .phase ≤ 2 → eqb (d .port .loaded) 1 ≡ true → exec s d (command 0) ≡ withPort (outputResumed (d .port)) d
+  unfolding exec commanded isConfirm plainCommand readMode
+  resume-output h e = rw (le-leb _ _ h, e)
+
+  pub one-address : (b : ℕ) (i : Interface) → taking (i .phase) ≡ true → i .count < 4 → exec s (withPort i d) (address b) ≡ withPort (moreAddress (shifted b (i .address)) i) d
+  unfolding exec latched
+  one-address b i t h = rw (addressed-latched (s .geometry) b i t, lt-leb 5 (i .count) (omega arith), lt-ltb (i .count) 4 h)
+
+  pub last-address : (b : ℕ) (i : Interface) → taking (i .phase) ≡ true → i .count ≡ 4 → addressFits (s .geometry) (shifted b (i .address)) ≡ true → exec s (withPort i d) (address b) ≡ withPort (fullAddress (shifted b (i .address)) i) d
+  unfolding exec latched
+  last-address b i t h f = rw (addressed-latched (s .geometry) b i t, lt-leb 5 (i .count) (omega arith), le-ltb (i .count) 4 (omega arith), f)
+
+  -- two column bytes and three row bytes
+  pub five-bytes : (p c r : ℕ) (i : Interface) → taking p ≡ true → c < 65536 → r < 16777216 → addressFits (s .geometry) (c + r * 65536) ≡ true → run s (withPort (beginning p 0 i) d) (map address (columnBytes c ++ rowBytes r)) ≡ withPort (fullAddress (c + r * 65536) (beginning p 0 i)) d
+  unfolding run
+  five-bytes p c r i t hc hr f =
+      let i₀ = beginning p 0 i in
+      let i₁ = moreAddress (shifted (c % 256) 0) i₀ in
+      let i₂ = moreAddress (shifted (c / 256 % 256) (i₁ .address)) i₁ in
+      let i₃ = moreAddress (shifted (r % 256) (i₂ .address)) i₂ in
+      let i₄ = moreAddress (shifted (r / 256 % 256) (i₃ .address)) i₃ in
+      let n = address-number c r hc hr in
+      rw (
+        one-address (c % 256) i₀ t (omega arith),
+        one-address (c / 256 % 256) i₁ t (omega arith),
+        one-address (r % 256) i₂ t (omega arith),
+        one-address (r / 256 % 256) i₃ t (omega arith),
+        last-address (r / 256 / 256 % 256) i₄ t refl (rw n f),
+      )
+      (ap (λ (a : ℕ). withPort (fullAddress a i₀) d) n)
+
+  pub three-bytes : (r : ℕ) (i : Interface) → r < 16777216 → addressFits (s .geometry) (r * 65536) ≡ true → run s (withPort (beginning 5 2 i) d) (map address (rowBytes r)) ≡ withPort (fullAddress (r * 65536) (beginning 5 2 i)) d
+  unfolding run
+  three-bytes r i hr f =
+      let i₀ = beginning 5 2 i in
+      let i₁ = moreAddress (shifted (r % 256) 0) i₀ in
+      let i₂ = moreAddress (shifted (r / 256 % 256) (i₁ .address)) i₁ in
+      let n = row-number 0 r hr ∙ zero-add (r * 65536) in
+      rw (
+        one-address (r % 256) i₀ refl (omega arith),
+        one-address (r / 256 % 256) i₁ refl (omega arith),
+        last-address (r / 256 / 256 % 256) i₂ refl refl (rw n f),
+      )
+      (ap (λ (a : ℕ). withPort (fullAddress a i₀) d) n)
+
+module _ (s : Setting) where
+  one-in : (x : ℕ) (i : Interface) (a r h : List ℕ) → i .phase ≡ 6 → i .column < length r → exec s (device i a r h) (dataIn x) ≡ device (nextColumn i) a (set r (i .column) x) h
+  unfolding exec dataTaken
+  one-in x i a r h p q = rw (eq-eqb (i .phase) 6 p, lt-ltb (i .column) (length r) q)
+
+  pub one-out : (i : Interface) (a r h : List ℕ) → i .phase ≡ 2 → i .column < length r → exec s (device i a r h) dataOut ≡ device (nextColumn i) a r h
+  unfolding exec dataGiven
+  one-out i a r h p q = rw (eq-eqb (i .phase) 2 p, lt-ltb (i .column) (length r) q)
+
+  pub one-busy : (i : Interface) (a r h : List ℕ) → i .phase ≡ 8 → 0 < i .busy → exec s (device i a r h) status ≡ device (lessBusy i) a r h
+  unfolding exec statusRead
+  one-busy i a r h p q =
+      rw (ne-eqb (i .phase) 1 (λ e. omega (arith, e)), eq-eqb (i .phase) 8 p, ne-eqb (i .busy) 0 (λ e. omega (arith, e)))
+
+  -- data in, from the present column on
+  pub data-taken : (xs : List ℕ) (i : Interface) (a r h : List ℕ) → i .phase ≡ 6 → i .column + length xs ≤ length r → run s (device i a r h) (map dataIn xs) ≡ device (atColumn (i .column + length xs) i) a (sets r (i .column) xs) h
+  unfolding run
+  data-taken [] i a r h p q = ap (λ (k : ℕ). device (atColumn k i) a r h) (sym (add-zero (i .column)))
+  data-taken (x ∷ xs) i a r h p q =
+      ap (λ (y : Device). run s y (map dataIn xs)) (one-in x i a r h p (omega arith))
+      ∙ (data-taken xs (nextColumn i) a (set r (i .column) x) h p (rw length-set (omega arith))
+      ∙ ap₂ (λ (k n : ℕ). device (atColumn k i) a (sets (set r (i .column) x) n xs) h) (omega arith) (add-one (i .column)))
+
+  -- data out
+  pub data-given : (n : ℕ) (i : Interface) (a r h : List ℕ) → i .phase ≡ 2 → i .column + n ≤ length r → run s (device i a r h) (replicate n dataOut) ≡ device (atColumn (i .column + n) i) a r h
+  unfolding run
+  data-given zero i a r h p q = ap (λ (k : ℕ). device (atColumn k i) a r h) (sym (add-zero (i .column)))
+  data-given (suc n) i a r h p q =
+      ap (λ (x : Device). run s x (replicate n dataOut)) (one-out i a r h p (omega arith))
+      ∙ (data-given n (nextColumn i) a r h p (omega arith) ∙ ap (λ (k : ℕ). device (atColumn k i) a r h) (omega arith))
+
+  -- status reads that are answered busy
+  pub busy-reads : (n : ℕ) (i : Interface) (a r h : List ℕ) → i .phase ≡ 8 → n ≤ i .busy → run s (device i a r h) (replicate n status) ≡ device (busyWith (i .busy - n) i) a r h
+  unfolding run
+  busy-reads zero i a r h p q = ap (λ (k : ℕ). device (busyWith k i) a r h) (sym (sub-zero (i .busy)))
+  busy-reads (suc n) i a r h p q =
+      ap (λ (x : Device). run s x (replicate n status)) (one-busy i a r h p (omega arith))
+      ∙ (busy-reads n (lessBusy i) a r h p (omega arith) ∙ ap (λ (k : ℕ). device (busyWith k i) a r h) (omega arith))
+
+  -- the status read that reports ready
+  pub ready-read : (d : Device) → d .port .phase ≡ 8 → d .port .busy ≡ 0 → lengthsFit (s .geometry) d ≡ true → rowAt (d .port) < rowCount (s .geometry) → exec s d status ≡ completed (s .geometry) d
+  unfolding exec statusRead finished
+  ready-read d p q f r =
+      rw (
+        ne-eqb (d .port .phase) 1 (λ e. omega (arith, e)),
+        eq-eqb (d .port .phase) 8 p,
+        eq-eqb (d .port .busy) 0 q,
+        f,
+        lt-ltb _ _ r,
+      )
+
+  -- FFh, in every phase
+  pub reset-command : (d : Device) → exec s d (command 255) ≡ withPort (afterReset (d .port)) d
+  unfolding exec commanded isConfirm plainCommand
+  reset-command d = refl
+
+  -- 70h when ready, and after a confirm cycle
+  pub status-ready : (d : Device) → d .port .phase ≤ 2 → exec s d (command 112) ≡ withPort (inPhase 1 (d .port)) d
+  unfolding exec commanded isConfirm plainCommand statusMode
+  status-ready d h = rw (le-leb _ _ h)
+
+  pub status-busy : (d : Device) → d .port .phase ≡ 7 → exec s d (command 112) ≡ withPort (inPhase 8 (d .port)) d
+  unfolding exec commanded isConfirm plainCommand statusMode
+  status-busy d h = rw (lt-leb (d .port .phase) 2 (omega arith), eq-eqb (d .port .phase) 7 h)
+
+  -- the lengths and the row that every confirm cycle wants
+  confirm-allowed : (d : Device) → lengthsFit (s .geometry) d ≡ true → length (s .mask) ≡ blockSize (s .geometry) → rowAt (d .port) < rowCount (s .geometry) → confirmable s d ≡ true
+  unfolding confirmable
+  confirm-allowed d f m r = rw (f, eq-eqb _ _ m, lt-ltb _ _ r)
+
+  pub confirm-read : (d : Device) → lengthsFit (s .geometry) d ≡ true → length (s .mask) ≡ blockSize (s .geometry) → rowAt (d .port) < rowCount (s .geometry) → d .port .phase ≡ 3 → d .port .count ≡ 5 → exec s d (command 48) ≡ device (started 1 (s .fates) (d .port)) (d .array) (pageOf (s .geometry) d) (d .history)
+  unfolding exec commanded isConfirm confirmed readStarted
+  confirm-read d f m r p n = rw (confirm-allowed d f m r, eq-eqb _ _ p, eq-eqb _ _ n)
+
+  pub confirm-program : (d : Device) → lengthsFit (s .geometry) d ≡ true → length (s .mask) ≡ blockSize (s .geometry) → rowAt (d .port) < rowCount (s .geometry) → d .port .phase ≡ 6 → d .port .first ≡ 0 → d .port .column ≡ pageSize (s .geometry) → getD (d .history) (blockAt (s .geometry) (d .port)) 0 ≤ pageAt (s .geometry) (d .port) → exec s d (command 16) ≡ device (started 2 (s .fates) (d .port)) (withPage (s .geometry) d (programmed (pageOf (s .geometry) d) (weakened (d .register) (s .mask)))) (d .register) (set (d .history) (blockAt (s .geometry) (d .port)) (pageAt (s .geometry) (d .port) + 1))
+  unfolding exec commanded isConfirm confirmed programStarted
+  confirm-program d f m r p n c h =
+      rw (confirm-allowed d f m r, eq-eqb _ _ p, eq-eqb _ _ n, eq-eqb _ _ c, le-leb _ _ h)
+
+  pub confirm-erase : (d : Device) → lengthsFit (s .geometry) d ≡ true → length (s .mask) ≡ blockSize (s .geometry) → rowAt (d .port) < rowCount (s .geometry) → d .port .phase ≡ 5 → d .port .count ≡ 5 → exec s d (command 208) ≡ device (started 3 (s .fates) (d .port)) (withBlock (s .geometry) d (raised (blockOf (s .geometry) d) (s .mask))) (d .register) (set (d .history) (blockAt (s .geometry) (d .port)) 255)
+  unfolding exec commanded isConfirm confirmed eraseStarted
+  confirm-erase d f m r p n = rw (confirm-allowed d f m r, eq-eqb _ _ p, eq-eqb _ _ n)

@@ -1,0 +1,4 @@
+pub mod CellLaws
+pub mod CellTests
+pub mod PartLaws
+pub mod RewriteLaws

@@ -1,0 +1,124 @@
+-- How an operation with a confirm cycle ends, for every allowance, fate and mask.
+use Prim.Native.Nat.{ℕ, _+_, _-_, _≤_, _<_}
+use mathlib.Core.Bool.{Bool, true, false, cond, false≢true}
+use mathlib.Core.List.{List}
+use mathlib.Core.Path.{_≡_, refl, sym, ap, subst, _∙_}
+use native.Mathlib.Omega.{arith}
+use borrow.Author.Tests.{eq-eqb, ne-eqb, le-leb, lt-leb, lt-ltb, le-ltb, leb-true, leb-false, ltb-true, ltb-false, eqb-true, eqb-false}
+use lib.Dec.{eqb, leb, ltb}
+use lib.ListN.{length, take}
+use Rattle.geometry.specs.Limits.{Valid}
+use Rattle.geometry.specs.Sizes.{pageSize, blockSize, chipSize}
+use Rattle.chip.specs.Interface.{busyOf, failedFor, nextFate}
+use Rattle.chip.specs.Device.{Device, Setting, Cycle}
+use Rattle.bus.specs.Line.{Line, run, sendAll, uncutLine, cutLine, Quiet}
+use Rattle.bus.proofs.LineLaws.{by-test}
+use Rattle.operations.specs.Cycles.{confirmedCycles, outcomeOf}
+use Rattle.operations.specs.Ends.{Called, End, endOf, confirmedEnd, endsAs, answered, wordFor, totalFor}
+use Rattle.operations.specs.declared.Outcome.the-variants.{Passed, Failed, Silent, Cut}
+use Rattle.operations.proofs.ConfirmLaws.{Confirmed, through, silent, early-cut, late-cut}
+
+pub same-end : {x y : End} → x .outcome ≡ y .outcome → x .array ≡ y .array → x .history ≡ y .history → x .left ≡ y .left → x .fate ≡ y .fate → x ≡ y
+same-end o a h l f = λ i. record { outcome = o i; array = a i; history = h i; left = l i; fate = f i }
+
+-- the numbers and bytes of an operation: quiet up to its confirm cycle, and what passing adds
+pub record Effect (s : Setting) (d : Device) (first : List Cycle) (code op : ℕ) (d₂ d₄ : Device) (a₂ h₂ : List ℕ) : Type 0 where
+  pub confirmed : Confirmed s d first code d₂ d₄
+  pub quiet : (n : ℕ) → Quiet d (run s d (take n first))
+  pub busy-is : d₂ .port .busy ≡ busyOf (wordFor s d)
+  pub failed-is : d₂ .port .failed ≡ failedFor op (wordFor s d)
+  pub fate-is : d₂ .port .fate ≡ nextFate (s .fates) (d .port .fate)
+  pub array-long : length (d₄ .array) ≡ chipSize (s .geometry)
+  pub register-long : length (d₄ .register) ≡ pageSize (s .geometry)
+  pub history-long : length (d₄ .history) ≡ s .geometry .blocks
+  pub then-failed : d₄ .port .failed ≡ d₂ .port .failed
+  pub then-fate : d₄ .port .fate ≡ d₂ .port .fate
+  pub then-array : d₄ .array ≡ cond (eqb (d₂ .port .failed) 0) a₂ (d₂ .array)
+  pub then-history : d₄ .history ≡ cond (eqb (d₂ .port .failed) 0) h₂ (d₂ .history)
+
+module _ (s : Setting) (d : Device) (first : List Cycle) (code op : ℕ) (d₂ d₄ : Device) (a₂ h₂ : List ℕ) (e : Effect s d first code op d₂ d₄ a₂ h₂) where
+  whole : ℕ → Line
+  whole n = sendAll s (uncutLine d n) (confirmedCycles s (uncutLine d n) first code)
+
+  expected : ℕ → End
+  expected n = confirmedEnd s (uncutLine d n) op (length first) (d₂ .array) (d₂ .history) a₂ h₂
+
+  ends-early : (n : ℕ) → n ≤ length first → endOf (whole n) ≡ expected n
+  unfolding endOf confirmedEnd outcomeOf whole expected
+  ends-early n h =
+      let t = lt-ltb n (totalFor s d (length first)) (omega arith) in
+      let l = le-leb n (length first) h in
+      let q = e .quiet n in
+      ap endOf (early-cut s d first code d₂ d₄ (e .confirmed) n h)
+      ∙ same-end (rw t) (rw l (q .array)) (rw l (q .history)) (omega arith) (rw l (q .fate))
+
+  ends-late : (n : ℕ) → length first < n → n < totalFor s d (length first) → endOf (whole n) ≡ expected n
+  unfolding endOf confirmedEnd outcomeOf whole expected
+  ends-late n h k =
+      let t = lt-ltb n (totalFor s d (length first)) k in
+      let l = lt-leb n (length first) h in
+      let c = late-cut s d first code d₂ d₄ (e .confirmed) n h (rw (e .busy-is) k) in
+      ap endOf (c .3) ∙ same-end (rw t) (rw (l, t)) (rw (l, t)) (omega arith) (rw l (c .1 ∙ e .fate-is))
+
+  ends-silent : (n : ℕ) → totalFor s d (length first) ≤ n → 256 ≤ busyOf (wordFor s d) → endOf (whole n) ≡ expected n
+  unfolding endOf confirmedEnd outcomeOf whole expected
+  ends-silent n h k =
+      let t = le-ltb n (totalFor s d (length first)) h in
+      let b = le-ltb (busyOf (wordFor s d)) 256 k in
+      let m : length first + 2 + 256 ≤ n = rw b at h in
+      let l = lt-leb n (length first) (omega arith) in
+      let c = e .confirmed in
+      ap endOf (silent s d first code d₂ d₄ c n (rw (e .busy-is) k) m)
+      ∙ same-end (rw (eq-eqb _ _ (c .legal), t, b)) (rw (l, t, b)) (rw (l, t, b)) (rw b) (rw l (e .fate-is))
+
+  ends-ready : (n : ℕ) → totalFor s d (length first) ≤ n → busyOf (wordFor s d) < 256 → endOf (whole n) ≡ expected n
+  unfolding endOf confirmedEnd outcomeOf whole expected
+  ends-ready n h k =
+      let t = le-ltb n (totalFor s d (length first)) h in
+      let b = lt-ltb (busyOf (wordFor s d)) 256 k in
+      let m : length first + 2 + (busyOf (wordFor s d) + 1) ≤ n = rw b at h in
+      let l = lt-leb n (length first) (omega arith) in
+      let c = e .confirmed in
+      ap endOf (through s d first code d₂ d₄ c n (rw (e .busy-is) k) (rw (e .busy-is) m))
+      ∙ same-end
+      (rw (eq-eqb _ _ (c .still-legal), ne-eqb (d₄ .port .phase) 8 (λ x. omega (arith, x, c .settled)), e .then-failed, e .failed-is, t, b))
+      (e .then-array ∙ rw (e .failed-is, l, t, b))
+      (e .then-history ∙ rw (e .failed-is, l, t, b))
+      (rw (e .busy-is, b))
+      (rw l (e .then-fate ∙ e .fate-is))
+
+  -- the closed form
+  pub effect-ends : (n : ℕ) → endOf (sendAll s (uncutLine d n) (confirmedCycles s (uncutLine d n) first code)) ≡ confirmedEnd s (uncutLine d n) op (length first) (d₂ .array) (d₂ .history) a₂ h₂
+  unfolding whole expected
+  effect-ends n =
+      by-test (leb n (length first)) (λ t. ends-early n (leb-true n (length first) t))
+      (λ t. by-test (ltb n (totalFor s d (length first)))
+      (λ u. ends-late n (leb-false n (length first) t) (ltb-true n (totalFor s d (length first)) u))
+      (λ u. by-test (ltb (busyOf (wordFor s d)) 256)
+      (λ v. ends-ready n (ltb-false n (totalFor s d (length first)) u) (ltb-true (busyOf (wordFor s d)) 256 v))
+      (λ v. ends-silent n (ltb-false n (totalFor s d (length first)) u) (ltb-false (busyOf (wordFor s d)) 256 v))))
+
+  -- an operation that was answered leaves the chip ready for the next
+  pub effect-next : (n : ℕ) → Valid (s .geometry) → length (s .mask) ≡ blockSize (s .geometry) → answered (endsAs s (uncutLine d n) op (length first)) ≡ true → Called s (sendAll s (uncutLine d n) (confirmedCycles s (uncutLine d n) first code))
+  unfolding answered
+  effect-next n v m a =
+      let c = e .confirmed in
+      by-test (ltb n (totalFor s d (length first)))
+      (λ t. absurd (false≢true (sym (rw t) ∙ a)))
+      (λ t. by-test (ltb (busyOf (wordFor s d)) 256)
+      (λ u.
+      let k = ltb-true (busyOf (wordFor s d)) 256 u in
+      let h : length first + 2 + (busyOf (wordFor s d) + 1) ≤ n = rw u at (ltb-false n (totalFor s d (length first)) t) in
+      subst (λ (x : Line). Called s x)
+      (sym (through s d first code d₂ d₄ c n (rw (e .busy-is) k) (rw (e .busy-is) h)))
+      (record {
+        is-valid = v;
+        array-long = e .array-long;
+        register-long = e .register-long;
+        history-long = e .history-long;
+        mask-long = m;
+        ready = omega (arith, c .settled);
+        legal = c .still-legal;
+        uncut = refl;
+      }))
+      (λ u. absurd (false≢true (sym (rw (t, u)) ∙ a))))

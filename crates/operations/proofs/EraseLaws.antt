@@ -1,0 +1,235 @@
+-- An erase, from 60h to the last status read.
+use Prim.Native.Nat.{ℕ, _+_, _*_, _/_, _<_, _≤_}
+use mathlib.Core.Bool.{Bool, true, cond}
+use mathlib.Core.List.{List, [], _∷_}
+use mathlib.Core.Path.{_≡_, refl, sym, ap, ap₂, subst, _∙_}
+use native.Mathlib.Nat.{zero-add}
+use native.Mathlib.Omega.{arith}
+use lib.Dec.{eqb, leb}
+use lib.ListN.{length, set, take, replicate, length-set, length-replicate}
+use lib.Seq.{set-set}
+use Rattle.geometry.specs.Sizes.{pageSize, blockSize, chipSize, rowCount, rowOf, rowBytes}
+use Rattle.geometry.proofs.SizeLaws.{row-below, row-count-most, page-size-least, block-within, block-of-row, page-of-row}
+use Rattle.cells.specs.Cells.{raised}
+use Rattle.cells.specs.Part.{part, put}
+use Rattle.cells.proofs.CellLaws.{length-raised}
+use Rattle.cells.proofs.PartLaws.{length-part, put-put, length-put}
+use Rattle.chip.specs.declared.interface.Interface.{Interface}
+use Rattle.chip.specs.Interface.{beginning, fullAddress, inPhase, started, addressFits, failedFor, nextFate}
+use Rattle.chip.specs.Device.{Device, Setting, device, withPort, exec, rowAt, fitting, completed, isConfirm}
+use Rattle.chip.specs.Device.Cycle.{command}
+use Rattle.bus.specs.Line.{Line, run, sendAll, uncutLine, still, AllStill}
+use Rattle.bus.proofs.QuietLaws.{quiet-run, still-take, still-address}
+use Rattle.bus.proofs.StepLaws.{busyWith, begin-erase, three-bytes, confirm-erase}
+use Rattle.operations.specs.Cycles.{eraseAddress, rowCycles, eraseCycles}
+use Rattle.operations.specs.Trace.{eraseStarts}
+use Rattle.operations.specs.Ends.{Called, CanErase, endOf, endsAs, answered, confirmedEnd, eraseEnd, wordFor}
+use Rattle.operations.proofs.CallLaws.{uncut-is, fitting-holds, row-is, address-holds, arms, part-arms}
+use Rattle.operations.proofs.TraceLaws.{effect-starts}
+use Rattle.operations.proofs.ConfirmLaws.{confirmed-legal}
+use Rattle.operations.proofs.EndLaws.{Effect, effect-ends, effect-next}
+
+module _ (s : Setting) (d : Device) (n block : ℕ) (p : CanErase s (uncutLine d n) block) where
+  row : ℕ
+  row = rowOf (s .geometry) block 0
+
+  page-zero : 0 < s .geometry .pages
+  page-zero = omega (arith, p .called .is-valid)
+
+  row-small : row < rowCount (s .geometry)
+  unfolding row
+  row-small = row-below (s .geometry) (p .called .is-valid) block 0 (p .block-below) page-zero
+
+  filled : Interface
+  filled = fullAddress (row * 65536) (beginning 5 2 (d .port))
+
+  after-address : run s d (eraseAddress row) ≡ device filled (d .array) (d .register) (d .history)
+  unfolding run filled
+  after-address =
+      ap (λ (x : Device). run s x (rowCycles row)) (begin-erase s d (p .called .ready))
+      ∙ three-bytes s d row (d .port) (omega (arith, row-small, row-count-most (s .geometry) (p .called .is-valid)))
+      (subst (λ (a : ℕ). addressFits (s .geometry) a ≡ true) (zero-add (row * 65536))
+      (address-holds (s .geometry) 0 row (p .called .is-valid) (omega (arith, page-size-least (s .geometry) (p .called .is-valid))) row-small))
+
+  -- the array and the history as the confirm cycle leaves them, and once the erase passed
+  half : List ℕ
+  half =
+      put (block * blockSize (s .geometry))
+      (raised (part (block * blockSize (s .geometry)) (blockSize (s .geometry)) (d .array)) (s .mask))
+      (d .array)
+
+  full : List ℕ
+  full = put (block * blockSize (s .geometry)) (replicate (blockSize (s .geometry)) 255) (d .array)
+
+  marked : List ℕ
+  marked = set (d .history) block 255
+
+  freed : List ℕ
+  freed = set (d .history) block 0
+
+  confirmed : Device
+  confirmed = device (started 3 (s .fates) filled) half (d .register) marked
+
+  row-at : rowAt filled ≡ row
+  unfolding filled
+  row-at = ap (λ (a : ℕ). a / 65536) (sym (zero-add (row * 65536))) ∙ row-is 0 row (omega arith)
+
+  block-is : rowAt filled / s .geometry .pages ≡ block
+  unfolding row
+  block-is = ap (λ (r : ℕ). r / s .geometry .pages) row-at ∙ block-of-row (s .geometry) (p .called .is-valid) block 0 page-zero
+
+  confirm-is : exec s (run s d (eraseAddress row)) (command 208) ≡ confirmed
+  unfolding confirmed half marked filled
+  confirm-is =
+      ap (λ (x : Device). exec s x (command 208)) after-address
+      ∙ confirm-erase s (device filled (d .array) (d .register) (d .history))
+      (fitting-holds (s .geometry) _ _ _ (p .called .is-valid) (p .called .array-long) (p .called .register-long) (p .called .history-long))
+      (p .called .mask-long) (rw row-at row-small) refl refl
+      ∙ ap (λ (b : ℕ). device (started 3 (s .fates) filled) (put (b * blockSize (s .geometry)) (raised (part (b * blockSize (s .geometry)) (blockSize (s .geometry)) (d .array)) (s .mask)) (d .array)) (d .register) (set (d .history) b 255))
+      block-is
+
+  -- the chip when ready is reported
+  port-ready : Interface
+  port-ready = inPhase 1 (busyWith 0 (inPhase 8 (started 3 (s .fates) filled)))
+
+  done : Device
+  done = completed (s .geometry) (withPort (busyWith 0 (inPhase 8 (confirmed .port))) confirmed)
+
+  failed : ℕ
+  failed = failedFor 3 (wordFor s d)
+
+  block-fits : block * blockSize (s .geometry) + blockSize (s .geometry) ≤ length (d .array)
+  block-fits = rw (p .called .array-long) (block-within (s .geometry) (p .called .is-valid) block (p .block-below))
+
+  old : List ℕ
+  old = part (block * blockSize (s .geometry)) (blockSize (s .geometry)) (d .array)
+
+  length-raise : length (raised old (s .mask)) ≡ blockSize (s .geometry)
+  unfolding old
+  length-raise =
+      length-raised old (s .mask) ∙ length-part (block * blockSize (s .geometry)) (blockSize (s .geometry)) (d .array) block-fits
+
+  again : put (block * blockSize (s .geometry)) (replicate (blockSize (s .geometry)) 255) half ≡ full
+  unfolding half full old
+  again =
+      put-put (block * blockSize (s .geometry)) (replicate (blockSize (s .geometry)) 255) (raised old (s .mask)) (d .array)
+      (length-replicate (blockSize (s .geometry)) 255 ∙ sym length-raise)
+      (rw length-raise block-fits)
+
+  freed-is : set marked block 0 ≡ freed
+  unfolding marked freed
+  freed-is = set-set (d .history) block 255 0
+
+  done-is : done ≡ cond (eqb failed 0) (device port-ready full (d .register) freed) (device port-ready half (d .register) marked)
+  unfolding done completed confirmed started filled port-ready failed
+  done-is =
+      ap (λ (x : Device). cond (eqb failed 0) x (device port-ready half (d .register) marked))
+      (ap (λ (b : ℕ). device port-ready (put (b * blockSize (s .geometry)) (replicate (blockSize (s .geometry)) 255) half) (d .register) (set marked b 0)) block-is
+      ∙ (λ i. device port-ready (again i) (d .register) (freed-is i)))
+
+  both-arms : (f : Device → ℕ) (v : ℕ) → f (device port-ready full (d .register) freed) ≡ v → f (device port-ready half (d .register) marked) ≡ v → f done ≡ v
+  both-arms f v x y = ap f done-is ∙ arms f v (eqb failed 0) _ _ x y
+
+  length-half : length half ≡ chipSize (s .geometry)
+  unfolding half old
+  length-half =
+      length-put (block * blockSize (s .geometry)) (raised old (s .mask)) (d .array) (rw length-raise block-fits)
+      ∙ p .called .array-long
+
+  length-full : length full ≡ chipSize (s .geometry)
+  unfolding full
+  length-full =
+      length-put (block * blockSize (s .geometry)) (replicate (blockSize (s .geometry)) 255) (d .array)
+      (rw length-replicate block-fits)
+      ∙ p .called .array-long
+
+  length-marked : length marked ≡ s .geometry .blocks
+  unfolding marked
+  length-marked = length-set (d .history) block 255 ∙ p .called .history-long
+
+  length-freed : length freed ≡ s .geometry .blocks
+  unfolding freed
+  length-freed = length-set (d .history) block 0 ∙ p .called .history-long
+
+  still-first : AllStill (eraseAddress row)
+  unfolding still isConfirm
+  still-first = (refl, still-address (rowBytes row))
+
+  effect : Effect s d (eraseAddress row) 208 3 confirmed done full freed
+  unfolding confirmed done failed port-ready filled started
+  effect =
+      record {
+        confirmed = record {
+          confirm = confirm-is;
+          busy = refl;
+          legal = p .called .legal;
+          fits = fitting-holds (s .geometry) _ _ _ (p .called .is-valid) length-half (p .called .register-long) length-marked;
+          row = rw row-at row-small;
+          settle = refl;
+          settled = both-arms (λ (x : Device). x .port .phase) 1 refl refl;
+          still-legal = both-arms (λ (x : Device). x .port .illegal) 0 (p .called .legal) (p .called .legal);
+        };
+        quiet = λ k. quiet-run s d (take k (eraseAddress row)) (still-take k (eraseAddress row) still-first);
+        busy-is = refl;
+        failed-is = refl;
+        fate-is = refl;
+        array-long = both-arms (λ (x : Device). length (x .array)) (chipSize (s .geometry)) length-full length-half;
+        register-long = both-arms (λ (x : Device). length (x .register)) (pageSize (s .geometry)) (p .called .register-long) (p .called .register-long);
+        history-long = both-arms (λ (x : Device). length (x .history)) (s .geometry .blocks) length-freed length-marked;
+        then-failed = both-arms (λ (x : Device). x .port .failed) failed refl refl;
+        then-fate = both-arms (λ (x : Device). x .port .fate) (nextFate (s .fates) (d .port .fate)) refl refl;
+        then-array = ap (λ (x : Device). x .array) done-is ∙ part-arms (λ (x : Device). x .array) (eqb failed 0) _ _;
+        then-history = ap (λ (x : Device). x .history) done-is ∙ part-arms (λ (x : Device). x .history) (eqb failed 0) _ _;
+      }
+
+  ends : endOf (sendAll s (uncutLine d n) (eraseCycles s (uncutLine d n) row)) ≡ eraseEnd s (uncutLine d n) block
+  unfolding eraseEnd confirmed half full marked freed row
+  ends = effect-ends s d (eraseAddress row) 208 3 confirmed done full freed effect n
+
+  allowed : sendAll s (uncutLine d n) (eraseCycles s (uncutLine d n) row) .chip .port .illegal ≡ 0
+  allowed = confirmed-legal s d (eraseAddress row) 208 confirmed done (effect .confirmed) n
+
+  next : answered (eraseEnd s (uncutLine d n) block .outcome) ≡ true → Called s (sendAll s (uncutLine d n) (eraseCycles s (uncutLine d n) row))
+  unfolding eraseEnd confirmedEnd
+  next a =
+      effect-next s d (eraseAddress row) 208 3 confirmed done full freed effect n (p .called .is-valid) (p .called .mask-long) a
+
+  starts : eraseStarts s (uncutLine d n) row ≡ cond (leb n 4) [] (record { kind = 3; block = block; page = 0; bytes = []; before = d .array; answer = eraseEnd s (uncutLine d n) block .outcome } ∷ [])
+  unfolding eraseEnd confirmedEnd row
+  starts =
+      effect-starts s d (eraseAddress row) 208 3 confirmed done full freed effect row [] n
+      ∙ ap₂ (λ (b k : ℕ). cond (leb n 4) [] (record { kind = 3; block = b; page = k; bytes = []; before = d .array; answer = endsAs s (uncutLine d n) 3 4 } ∷ []))
+      (block-of-row (s .geometry) (p .called .is-valid) block 0 page-zero)
+      (page-of-row (s .geometry) (p .called .is-valid) block 0 page-zero)
+
+-- how an erase ends
+pub erase-ends : (s : Setting) (l : Line) (block : ℕ) → CanErase s l block → endOf (sendAll s l (eraseCycles s l (rowOf (s .geometry) block 0))) ≡ eraseEnd s l block
+unfolding row
+erase-ends s l block p =
+    subst (λ (x : Line). endOf (sendAll s x (eraseCycles s x (rowOf (s .geometry) block 0))) ≡ eraseEnd s x block)
+    (sym (uncut-is l (p .called .uncut)))
+    (ends s (l .chip) (l .left) block (subst (λ (x : Line). CanErase s x block) (uncut-is l (p .called .uncut)) p))
+
+-- no cycle of it is answered illegal
+pub erase-legal : (s : Setting) (l : Line) (block : ℕ) → CanErase s l block → sendAll s l (eraseCycles s l (rowOf (s .geometry) block 0)) .chip .port .illegal ≡ 0
+unfolding row
+erase-legal s l block p =
+    subst (λ (x : Line). sendAll s x (eraseCycles s x (rowOf (s .geometry) block 0)) .chip .port .illegal ≡ 0)
+    (sym (uncut-is l (p .called .uncut)))
+    (allowed s (l .chip) (l .left) block (subst (λ (x : Line). CanErase s x block) (uncut-is l (p .called .uncut)) p))
+
+-- once it was answered the chip takes the next operation
+pub erase-next : (s : Setting) (l : Line) (block : ℕ) → CanErase s l block → answered (eraseEnd s l block .outcome) ≡ true → Called s (sendAll s l (eraseCycles s l (rowOf (s .geometry) block 0)))
+unfolding row
+erase-next s l block p =
+    subst (λ (x : Line). answered (eraseEnd s x block .outcome) ≡ true → Called s (sendAll s x (eraseCycles s x (rowOf (s .geometry) block 0))))
+    (sym (uncut-is l (p .called .uncut)))
+    (next s (l .chip) (l .left) block (subst (λ (x : Line). CanErase s x block) (uncut-is l (p .called .uncut)) p))
+
+-- it starts one array operation, where the allowance reaches its confirm cycle, and none otherwise
+pub erase-starts : (s : Setting) (l : Line) (block : ℕ) → CanErase s l block → eraseStarts s l (rowOf (s .geometry) block 0) ≡ cond (leb (l .left) 4) [] (record { kind = 3; block = block; page = 0; bytes = []; before = l .chip .array; answer = eraseEnd s l block .outcome } ∷ [])
+unfolding row
+erase-starts s l block p =
+    subst (λ (x : Line). eraseStarts s x (rowOf (s .geometry) block 0) ≡ cond (leb (x .left) 4) [] (record { kind = 3; block = block; page = 0; bytes = []; before = x .chip .array; answer = eraseEnd s x block .outcome } ∷ []))
+    (sym (uncut-is l (p .called .uncut)))
+    (starts s (l .chip) (l .left) block (subst (λ (x : Line). CanErase s x block) (uncut-is l (p .called .uncut)) p))

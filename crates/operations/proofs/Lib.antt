@@ -1,0 +1,9 @@
+pub mod ConfirmLaws
+pub mod EndLaws
+pub mod CallLaws
+pub mod ProgramLaws
+pub mod EraseLaws
+pub mod ReadLaws
+pub mod ResetLaws
+pub mod TraceLaws
+pub mod OperationTests

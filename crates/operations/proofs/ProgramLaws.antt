@@ -1,0 +1,266 @@
+-- A program, from 80h to the last status read.
+use Prim.Native.Nat.{ℕ, _+_, _*_, _/_, _%_, _<_, _≤_}
+use mathlib.Core.Bool.{Bool, true, false, cond}
+use mathlib.Core.List.{List, [], _∷_, _++_, map, append-nil}
+use mathlib.Core.Path.{_≡_, refl, sym, ap, ap₂, subst, _∙_}
+use native.Mathlib.Omega.{arith}
+use borrow.Author.Tests.{eqb-true}
+use lib.Dec.{eqb, leb}
+use lib.ListN.{length, set, take, drop-of-length-le, length-set, length-map}
+use lib.Seq.{sets, sets-eq}
+use Rattle.geometry.specs.Sizes.{pageSize, blockSize, chipSize, rowCount, rowOf, columnBytes, rowBytes}
+use Rattle.geometry.proofs.SizeLaws.{row-below, row-count-most, page-size-least, row-within, block-of-row, page-of-row}
+use Rattle.cells.specs.Cells.{programmed, weakened}
+use Rattle.cells.specs.Part.{part, put}
+use Rattle.cells.proofs.CellLaws.{length-programmed, programmed-again}
+use Rattle.cells.proofs.PartLaws.{length-part, part-put, put-put, length-put}
+use Rattle.chip.specs.declared.interface.Interface.{Interface}
+use Rattle.chip.specs.Interface.{beginning, fullAddress, inPhase, started, columnOfAddress, failedFor, nextFate}
+use Rattle.chip.specs.Device.{Device, Setting, Cycle, device, withPort, exec, rowAt, fitting, completed, isConfirm}
+use Rattle.chip.specs.Device.Cycle.{command, dataIn}
+use Rattle.bus.specs.Line.{Line, run, sendAll, uncutLine, still, AllStill}
+use Rattle.bus.proofs.LineLaws.{by-test, run-append}
+use Rattle.bus.proofs.QuietLaws.{quiet-run, still-take, still-append, still-address, still-data}
+use Rattle.bus.proofs.StepLaws.{atColumn, busyWith, begin-program, five-bytes, data-taken, confirm-program}
+use Rattle.operations.specs.Cycles.{programData, addressCycles, programCycles}
+use Rattle.operations.specs.Trace.{programStarts}
+use Rattle.operations.specs.Ends.{Called, CanProgram, endOf, endsAs, answered, confirmedEnd, programEnd, wordFor}
+use Rattle.operations.proofs.CallLaws.{uncut-is, fitting-holds, column-is, row-is, address-holds, arms, part-arms}
+use Rattle.operations.proofs.EndLaws.{Effect, effect-ends, effect-next}
+use Rattle.operations.proofs.TraceLaws.{effect-starts}
+use Rattle.operations.proofs.ConfirmLaws.{confirmed-legal}
+
+ap₃ : {A : Type 0} (f : ℕ → ℕ → ℕ → A) {a b c x y z : ℕ} → a ≡ x → b ≡ y → c ≡ z → f a b c ≡ f x y z
+ap₃ f p q r = λ i. f (p i) (q i) (r i)
+
+module _ (s : Setting) (d : Device) (n block page : ℕ) (bytes : List ℕ) (p : CanProgram s (uncutLine d n) block page bytes) where
+  row : ℕ
+  row = rowOf (s .geometry) block page
+
+  row-small : row < rowCount (s .geometry)
+  unfolding row
+  row-small = row-below (s .geometry) (p .called .is-valid) block page (p .block-below) (p .page-below)
+
+  -- the interface after the address, and after the data
+  addressed : Interface
+  addressed = fullAddress (0 + row * 65536) (beginning 4 0 (d .port))
+
+  filled : Interface
+  filled = atColumn (pageSize (s .geometry)) addressed
+
+  at-zero : columnOfAddress (0 + row * 65536) ≡ 0
+  at-zero = column-is 0 row (omega arith)
+
+  taken : sets (d .register) (columnOfAddress (0 + row * 65536)) bytes ≡ bytes
+  taken =
+      ap (λ (k : ℕ). sets (d .register) k bytes) at-zero
+      ∙ sets-eq bytes (d .register) 0 (omega (arith, p .bytes-long, p .called .register-long))
+      ∙ ap (λ (zs : List ℕ). bytes ++ zs)
+      (drop-of-length-le (d .register) {i = 0 + length bytes} (omega (arith, p .bytes-long, p .called .register-long)))
+      ∙ append-nil bytes
+
+  after-data : run s d (programData row bytes) ≡ device filled (d .array) bytes (d .history)
+  unfolding run addressed filled
+  after-data =
+      ap (λ (x : Device). run s x (addressCycles 0 row ++ map dataIn bytes)) (begin-program s d (p .called .ready))
+      ∙ run-append s (withPort (beginning 4 0 (d .port)) d) (addressCycles 0 row) (map dataIn bytes)
+      ∙ ap (λ (x : Device). run s x (map dataIn bytes))
+      (five-bytes s d 4 0 row (d .port) refl (omega arith) (omega (arith, row-small, row-count-most (s .geometry) (p .called .is-valid)))
+      (address-holds (s .geometry) 0 row (p .called .is-valid) (omega (arith, page-size-least (s .geometry) (p .called .is-valid))) row-small))
+      ∙ data-taken s bytes addressed (d .array) (d .register) (d .history) refl (omega (arith, at-zero, p .bytes-long, p .called .register-long))
+      ∙ ap₂ (λ (k : ℕ) (r : List ℕ). device (atColumn k addressed) (d .array) r (d .history))
+      (omega (arith, at-zero, p .bytes-long)) taken
+
+  -- the array and the history as the confirm cycle leaves them, and the array once it passed
+  half : List ℕ
+  half =
+      put (row * pageSize (s .geometry))
+      (programmed (part (row * pageSize (s .geometry)) (pageSize (s .geometry)) (d .array)) (weakened bytes (s .mask)))
+      (d .array)
+
+  full : List ℕ
+  full =
+      put (row * pageSize (s .geometry))
+      (programmed (part (row * pageSize (s .geometry)) (pageSize (s .geometry)) (d .array)) bytes)
+      (d .array)
+
+  marked : List ℕ
+  marked = set (d .history) block (page + 1)
+
+  confirmed : Device
+  confirmed = device (started 2 (s .fates) filled) half bytes marked
+
+  row-at : rowAt filled ≡ row
+  unfolding filled addressed
+  row-at = row-is 0 row (omega arith)
+
+  fits-filled : fitting (s .geometry) (length (d .array)) (length bytes) (length (d .history)) ≡ true
+  fits-filled =
+      fitting-holds (s .geometry) _ _ _ (p .called .is-valid) (p .called .array-long) (p .bytes-long) (p .called .history-long)
+
+  block-is : rowAt filled / s .geometry .pages ≡ block
+  unfolding row
+  block-is = ap (λ (r : ℕ). r / s .geometry .pages) row-at ∙ block-of-row (s .geometry) (p .called .is-valid) block page (p .page-below)
+
+  page-is : rowAt filled % s .geometry .pages ≡ page
+  unfolding row
+  page-is = ap (λ (r : ℕ). r % s .geometry .pages) row-at ∙ page-of-row (s .geometry) (p .called .is-valid) block page (p .page-below)
+
+  confirm-is : exec s (run s d (programData row bytes)) (command 16) ≡ confirmed
+  unfolding confirmed half marked filled addressed
+  confirm-is =
+      ap (λ (x : Device). exec s x (command 16)) after-data
+      ∙ confirm-program s (device filled (d .array) bytes (d .history)) fits-filled (p .called .mask-long) (rw row-at row-small) refl at-zero refl
+      (rw (block-is, page-is) (p .in-order))
+      ∙ ap₃ (λ (r b k : ℕ). device (started 2 (s .fates) filled) (put (r * pageSize (s .geometry)) (programmed (part (r * pageSize (s .geometry)) (pageSize (s .geometry)) (d .array)) (weakened bytes (s .mask))) (d .array)) bytes (set (d .history) b (k + 1)))
+      row-at block-is page-is
+
+  -- the chip when ready is reported
+  port-ready : Interface
+  port-ready = inPhase 1 (busyWith 0 (inPhase 8 (started 2 (s .fates) filled)))
+
+  done : Device
+  done = completed (s .geometry) (withPort (busyWith 0 (inPhase 8 (confirmed .port))) confirmed)
+
+  failed : ℕ
+  failed = failedFor 2 (wordFor s d)
+
+  page-fits : row * pageSize (s .geometry) + pageSize (s .geometry) ≤ length (d .array)
+  page-fits = rw (p .called .array-long) (row-within (s .geometry) (p .called .is-valid) row row-small)
+
+  old : List ℕ
+  old = part (row * pageSize (s .geometry)) (pageSize (s .geometry)) (d .array)
+
+  length-old : length old ≡ pageSize (s .geometry)
+  unfolding old
+  length-old = length-part (row * pageSize (s .geometry)) (pageSize (s .geometry)) (d .array) page-fits
+
+  -- the whole effect over the part of it that the mask let through is the whole effect
+  again : put (row * pageSize (s .geometry)) (programmed (part (row * pageSize (s .geometry)) (pageSize (s .geometry)) half) bytes) half ≡ full
+  unfolding half full old
+  again =
+      let ys = programmed old (weakened bytes (s .mask)) in
+      let m : length ys ≡ pageSize (s .geometry) = length-programmed old (weakened bytes (s .mask)) ∙ length-old in
+      let h : row * pageSize (s .geometry) + length ys ≤ length (d .array) = rw m page-fits in
+      ap (λ (zs : List ℕ). put (row * pageSize (s .geometry)) (programmed zs bytes) half)
+      (ap (λ (k : ℕ). part (row * pageSize (s .geometry)) k half) (sym m) ∙ part-put (row * pageSize (s .geometry)) ys (d .array) h)
+      ∙ ap (λ (zs : List ℕ). put (row * pageSize (s .geometry)) zs half) (programmed-again old bytes (s .mask))
+      ∙ put-put (row * pageSize (s .geometry)) (programmed old bytes) ys (d .array) (length-programmed old bytes ∙ length-old ∙ sym m) h
+
+  done-is : done ≡ cond (eqb failed 0) (device port-ready full bytes marked) (device port-ready half bytes marked)
+  unfolding done completed confirmed started filled addressed port-ready failed
+  done-is =
+      ap (λ (a : List ℕ). cond (eqb failed 0) (device port-ready a bytes marked) (device port-ready half bytes marked))
+      (ap (λ (r : ℕ). put (r * pageSize (s .geometry)) (programmed (part (r * pageSize (s .geometry)) (pageSize (s .geometry)) half) bytes) half) row-at
+      ∙ again)
+
+  both-arms : (f : Device → ℕ) (v : ℕ) → f (device port-ready full bytes marked) ≡ v → f (device port-ready half bytes marked) ≡ v → f done ≡ v
+  both-arms f v x y = ap f done-is ∙ arms f v (eqb failed 0) _ _ x y
+
+  length-half : length half ≡ chipSize (s .geometry)
+  unfolding half old
+  length-half =
+      length-put (row * pageSize (s .geometry)) (programmed old (weakened bytes (s .mask))) (d .array)
+      (rw (length-programmed old (weakened bytes (s .mask)) ∙ length-old) page-fits)
+      ∙ p .called .array-long
+
+  length-full : length full ≡ chipSize (s .geometry)
+  unfolding full old
+  length-full =
+      length-put (row * pageSize (s .geometry)) (programmed old bytes) (d .array)
+      (rw (length-programmed old bytes ∙ length-old) page-fits)
+      ∙ p .called .array-long
+
+  length-marked : length marked ≡ s .geometry .blocks
+  unfolding marked
+  length-marked = length-set (d .history) block (page + 1) ∙ p .called .history-long
+
+  still-first : AllStill (programData row bytes)
+  unfolding still isConfirm
+  still-first = (refl, still-append (addressCycles 0 row) (map dataIn bytes) (still-address (columnBytes 0 ++ rowBytes row)) (still-data bytes))
+
+  effect : Effect s d (programData row bytes) 16 2 confirmed done full marked
+  unfolding confirmed done failed port-ready filled addressed started
+  effect =
+      record {
+        confirmed = record {
+          confirm = confirm-is;
+          busy = refl;
+          legal = p .called .legal;
+          fits = fitting-holds (s .geometry) _ _ _ (p .called .is-valid) length-half (p .bytes-long) length-marked;
+          row = rw row-at row-small;
+          settle = refl;
+          settled = both-arms (λ (x : Device). x .port .phase) 1 refl refl;
+          still-legal = both-arms (λ (x : Device). x .port .illegal) 0 (p .called .legal) (p .called .legal);
+        };
+        quiet = λ k. quiet-run s d (take k (programData row bytes)) (still-take k (programData row bytes) still-first);
+        busy-is = refl;
+        failed-is = refl;
+        fate-is = refl;
+        array-long = ap (λ (x : Device). length (x .array)) done-is ∙ arms (λ (x : Device). length (x .array)) (chipSize (s .geometry)) (eqb failed 0) _ _ length-full length-half;
+        register-long = both-arms (λ (x : Device). length (x .register)) (pageSize (s .geometry)) (p .bytes-long) (p .bytes-long);
+        history-long = both-arms (λ (x : Device). length (x .history)) (s .geometry .blocks) length-marked length-marked;
+        then-failed = both-arms (λ (x : Device). x .port .failed) failed refl refl;
+        then-fate = both-arms (λ (x : Device). x .port .fate) (nextFate (s .fates) (d .port .fate)) refl refl;
+        then-array = ap (λ (x : Device). x .array) done-is ∙ part-arms (λ (x : Device). x .array) (eqb failed 0) _ _;
+        then-history = ap (λ (x : Device). x .history) done-is ∙ part-arms (λ (x : Device). x .history) (eqb failed 0) _ _;
+      }
+
+  first-long : length (programData row bytes) ≡ 6 + length bytes
+  first-long = omega (arith, length-map bytes dataIn)
+
+  ends : endOf (sendAll s (uncutLine d n) (programCycles s (uncutLine d n) row bytes)) ≡ programEnd s (uncutLine d n) block page bytes
+  unfolding programEnd confirmed half full marked row
+  ends =
+      effect-ends s d (programData row bytes) 16 2 confirmed done full marked effect n
+      ∙ ap (λ (m : ℕ). confirmedEnd s (uncutLine d n) 2 m half marked full marked) first-long
+
+  allowed : sendAll s (uncutLine d n) (programCycles s (uncutLine d n) row bytes) .chip .port .illegal ≡ 0
+  allowed = confirmed-legal s d (programData row bytes) 16 confirmed done (effect .confirmed) n
+
+  next : answered (programEnd s (uncutLine d n) block page bytes .outcome) ≡ true → Called s (sendAll s (uncutLine d n) (programCycles s (uncutLine d n) row bytes))
+  unfolding programEnd confirmedEnd
+  next a =
+      effect-next s d (programData row bytes) 16 2 confirmed done full marked effect n (p .called .is-valid) (p .called .mask-long)
+      (ap (λ (m : ℕ). answered (endsAs s (uncutLine d n) 2 m)) first-long ∙ a)
+
+  starts : programStarts s (uncutLine d n) row bytes ≡ cond (leb n (6 + length bytes)) [] (record { kind = 2; block = block; page = page; bytes = bytes; before = d .array; answer = programEnd s (uncutLine d n) block page bytes .outcome } ∷ [])
+  unfolding programEnd confirmedEnd row
+  starts =
+      effect-starts s d (programData row bytes) 16 2 confirmed done full marked effect row bytes n
+      ∙ ap (λ (m : ℕ). cond (leb n m) [] (record { kind = 2; block = row / s .geometry .pages; page = row % s .geometry .pages; bytes = bytes; before = d .array; answer = endsAs s (uncutLine d n) 2 m } ∷ [])) first-long
+      ∙ ap₂ (λ (b k : ℕ). cond (leb n (6 + length bytes)) [] (record { kind = 2; block = b; page = k; bytes = bytes; before = d .array; answer = endsAs s (uncutLine d n) 2 (6 + length bytes) } ∷ []))
+      (block-of-row (s .geometry) (p .called .is-valid) block page (p .page-below))
+      (page-of-row (s .geometry) (p .called .is-valid) block page (p .page-below))
+
+-- how a program ends
+pub program-ends : (s : Setting) (l : Line) (block page : ℕ) (bytes : List ℕ) → CanProgram s l block page bytes → endOf (sendAll s l (programCycles s l (rowOf (s .geometry) block page) bytes)) ≡ programEnd s l block page bytes
+unfolding row
+program-ends s l block page bytes p =
+    subst (λ (x : Line). endOf (sendAll s x (programCycles s x (rowOf (s .geometry) block page) bytes)) ≡ programEnd s x block page bytes)
+    (sym (uncut-is l (p .called .uncut)))
+    (ends s (l .chip) (l .left) block page bytes (subst (λ (x : Line). CanProgram s x block page bytes) (uncut-is l (p .called .uncut)) p))
+
+-- no cycle of it is answered illegal
+pub program-legal : (s : Setting) (l : Line) (block page : ℕ) (bytes : List ℕ) → CanProgram s l block page bytes → sendAll s l (programCycles s l (rowOf (s .geometry) block page) bytes) .chip .port .illegal ≡ 0
+unfolding row
+program-legal s l block page bytes p =
+    subst (λ (x : Line). sendAll s x (programCycles s x (rowOf (s .geometry) block page) bytes) .chip .port .illegal ≡ 0)
+    (sym (uncut-is l (p .called .uncut)))
+    (allowed s (l .chip) (l .left) block page bytes (subst (λ (x : Line). CanProgram s x block page bytes) (uncut-is l (p .called .uncut)) p))
+
+-- once it was answered the chip takes the next operation
+pub program-next : (s : Setting) (l : Line) (block page : ℕ) (bytes : List ℕ) → CanProgram s l block page bytes → answered (programEnd s l block page bytes .outcome) ≡ true → Called s (sendAll s l (programCycles s l (rowOf (s .geometry) block page) bytes))
+unfolding row
+program-next s l block page bytes p =
+    subst (λ (x : Line). answered (programEnd s x block page bytes .outcome) ≡ true → Called s (sendAll s x (programCycles s x (rowOf (s .geometry) block page) bytes)))
+    (sym (uncut-is l (p .called .uncut)))
+    (next s (l .chip) (l .left) block page bytes (subst (λ (x : Line). CanProgram s x block page bytes) (uncut-is l (p .called .uncut)) p))
+
+-- it starts one array operation, where the allowance reaches its confirm cycle, and none otherwise
+pub program-starts : (s : Setting) (l : Line) (block page : ℕ) (bytes : List ℕ) → CanProgram s l block page bytes → programStarts s l (rowOf (s .geometry) block page) bytes ≡ cond (leb (l .left) (6 + length bytes)) [] (record { kind = 2; block = block; page = page; bytes = bytes; before = l .chip .array; answer = programEnd s l block page bytes .outcome } ∷ [])
+unfolding row
+program-starts s l block page bytes p =
+    subst (λ (x : Line). programStarts s x (rowOf (s .geometry) block page) bytes ≡ cond (leb (x .left) (6 + length bytes)) [] (record { kind = 2; block = block; page = page; bytes = bytes; before = x .chip .array; answer = programEnd s x block page bytes .outcome } ∷ []))
+    (sym (uncut-is l (p .called .uncut)))
+    (starts s (l .chip) (l .left) block page bytes (subst (λ (x : Line). CanProgram s x block page bytes) (uncut-is l (p .called .uncut)) p))

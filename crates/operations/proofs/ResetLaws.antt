@@ -1,0 +1,94 @@
+-- A reset, from any phase of the interface.
+use Prim.Native.Nat.{ℕ, zero, suc, _-_, _<_, _≤_}
+use mathlib.Core.List.{List, [], _∷_}
+use mathlib.Core.Path.{_≡_, refl, sym, ap, subst, _∙_}
+use native.Mathlib.Omega.{arith}
+use borrow.Author.Tests.{eq-eqb, lt-ltb, le-ltb, ltb-true, ltb-false}
+use lib.Dec.{ltb}
+use lib.ListN.{length, take}
+use Rattle.geometry.specs.Limits.{Valid}
+use Rattle.geometry.specs.Sizes.{pageSize, blockSize, chipSize}
+use Rattle.chip.specs.Interface.{afterReset, inPhase}
+use Rattle.chip.specs.Device.{Device, Setting, Cycle, withPort, exec, statusRead, isConfirm}
+use Rattle.chip.specs.Device.Cycle.{command, status}
+use Rattle.bus.specs.Line.{Line, run, sendAll, uncutLine, cutLine, Legal, Quiet, still, AllStill}
+use Rattle.bus.proofs.LineLaws.{by-test, run-uncut, run-cut}
+use Rattle.bus.proofs.LegalLaws.{legal-run, legal-take}
+use Rattle.bus.proofs.QuietLaws.{quiet-run}
+use Rattle.bus.proofs.StepLaws.{reset-command, status-ready}
+use Rattle.operations.specs.Cycles.{resetCycles, endedAs}
+use Rattle.operations.specs.Ends.{Called, resetEnd, endOfReset}
+use Rattle.operations.proofs.CallLaws.{uncut-is}
+use Rattle.operations.proofs.EndLaws.{same-end}
+
+module _ (s : Setting) (d : Device) (n : ℕ) (g : d .port .illegal ≡ 0) where
+  done : Device
+  done = withPort (inPhase 1 (afterReset (d .port))) d
+
+  reset-is : run s d resetCycles ≡ done
+  unfolding run done exec statusRead
+  reset-is =
+      ap (λ (x : Device). exec s (exec s x (command 112)) status) (reset-command s d)
+      ∙ ap (λ (x : Device). exec s x status) (status-ready s (withPort (afterReset (d .port)) d) (omega arith))
+
+  legal : Legal s d resetCycles
+  unfolding done
+  legal = legal-run s d resetCycles (ap (λ (x : Device). x .port .illegal) reset-is ∙ g)
+
+  quiet : (k : ℕ) → k < 3 → Quiet d (run s d (take k resetCycles))
+  unfolding still isConfirm
+  quiet zero h = quiet-run s d [] tt
+  quiet (suc zero) h = quiet-run s d (command 255 ∷ []) (refl, tt)
+  quiet (suc (suc zero)) h = quiet-run s d (command 255 ∷ command 112 ∷ []) (refl, (refl, tt))
+  quiet (suc (suc (suc k))) h = absurd (omega arith)
+
+  whole : 3 ≤ n → sendAll s (uncutLine d n) resetCycles ≡ uncutLine done (n - 3)
+  whole h = run-uncut s d n resetCycles g legal h ∙ ap (λ (x : Device). uncutLine x (n - 3)) reset-is
+
+  broken : n < 3 → sendAll s (uncutLine d n) resetCycles ≡ cutLine (run s d (take n resetCycles))
+  broken h = run-cut s d n resetCycles g legal h
+
+  ends : endOfReset s (uncutLine d n) ≡ resetEnd (uncutLine d n)
+  unfolding endOfReset resetEnd endedAs done
+  ends =
+      by-test (ltb n 3)
+      (λ t.
+      let h = ltb-true n 3 t in
+      let e = broken h in
+      let q = quiet n h in
+      same-end (ap endedAs e ∙ rw t)
+      (ap (λ (x : Line). x .chip .array) e ∙ q .array)
+      (ap (λ (x : Line). x .chip .history) e ∙ q .history)
+      (ap (λ (x : Line). x .left) e ∙ omega arith)
+      (ap (λ (x : Line). x .chip .port .fate) e ∙ q .fate))
+      (λ t.
+      let e = whole (ltb-false n 3 t) in
+      same-end (ap endedAs e ∙ rw (eq-eqb _ _ g, t))
+      (ap (λ (x : Line). x .chip .array) e)
+      (ap (λ (x : Line). x .chip .history) e)
+      (ap (λ (x : Line). x .left) e)
+      (ap (λ (x : Line). x .chip .port .fate) e))
+
+  allowed : sendAll s (uncutLine d n) resetCycles .chip .port .illegal ≡ 0
+  unfolding done
+  allowed =
+      by-test (ltb n 3)
+      (λ t. ap (λ (x : Line). x .chip .port .illegal) (broken (ltb-true n 3 t)) ∙ legal-take s d n resetCycles g legal)
+      (λ t. ap (λ (x : Line). x .chip .port .illegal) (whole (ltb-false n 3 t)) ∙ g)
+
+-- how a reset ends
+pub reset-ends : (s : Setting) (l : Line) → l .cut ≡ 0 → l .chip .port .illegal ≡ 0 → endOfReset s l ≡ resetEnd l
+reset-ends s l u g =
+    subst (λ (x : Line). endOfReset s x ≡ resetEnd x) (sym (uncut-is l u)) (ends s (l .chip) (l .left) g)
+
+-- no cycle of it is answered illegal
+pub reset-legal : (s : Setting) (l : Line) → l .cut ≡ 0 → l .chip .port .illegal ≡ 0 → sendAll s l resetCycles .chip .port .illegal ≡ 0
+reset-legal s l u g =
+    subst (λ (x : Line). sendAll s x resetCycles .chip .port .illegal ≡ 0) (sym (uncut-is l u)) (allowed s (l .chip) (l .left) g)
+
+-- what a reset leaves does not depend on the phase that it began in, but for the fate words used
+pub reset-leaves : (s : Setting) (l : Line) → l .cut ≡ 0 → l .chip .port .illegal ≡ 0 → 3 ≤ l .left → sendAll s l resetCycles ≡ uncutLine (withPort (inPhase 1 (afterReset (l .chip .port))) (l .chip)) (l .left - 3)
+unfolding done
+reset-leaves s l u g h =
+    subst (λ (x : Line). sendAll s x resetCycles ≡ uncutLine (withPort (inPhase 1 (afterReset (x .chip .port))) (x .chip)) (x .left - 3)) (sym (uncut-is l u))
+    (whole s (l .chip) (l .left) g h)

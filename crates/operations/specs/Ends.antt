@@ -1,0 +1,190 @@
+-- How each operation ends, told without its cycles: the outcome, the array and the history that it leaves, and the cycles it sends.
+use Prim.Native.Nat.{ℕ, _+_, _-_, _*_, _≤_, _<_}
+use mathlib.Core.Bool.{Bool, true, false, cond}
+use mathlib.Core.List.{List}
+use mathlib.Core.Path.{_≡_}
+use lib.Dec.{eqb, leb, ltb}
+use lib.ListN.{length, set, getD, replicate}
+use Rattle.geometry.specs.Limits.{Valid}
+use Rattle.geometry.specs.Sizes.{pageSize, blockSize, chipSize, rowCount, rowOf}
+use Rattle.cells.specs.Cells.{programmed, weakened, raised}
+use Rattle.cells.specs.Part.{part, put}
+use Rattle.chip.specs.Interface.{fateWord, nextFate, busyOf, failedFor}
+use Rattle.chip.specs.Device.{Setting, Device}
+use Rattle.bus.specs.Line.{Line, sendAll}
+use Rattle.operations.specs.Cycles.{outcomeOf, endedAs, resetCycles, readCycles, readOutcome}
+use Rattle.operations.specs.declared.Outcome.{Outcome}
+use Rattle.operations.specs.declared.Outcome.the-variants.{Passed, Failed, Silent, Cut, Illegal}
+
+-- the chip as the store calls it: all lengths fit, no command under way, nothing refused or cut
+pub record Called (s : Setting) (l : Line) : Type 0 where
+  pub is-valid : Valid (s .geometry)
+  pub array-long : length (l .chip .array) ≡ chipSize (s .geometry)
+  pub register-long : length (l .chip .register) ≡ pageSize (s .geometry)
+  pub history-long : length (l .chip .history) ≡ s .geometry .blocks
+  pub mask-long : length (s .mask) ≡ blockSize (s .geometry)
+  pub ready : l .chip .port .phase ≤ 2
+  pub legal : l .chip .port .illegal ≡ 0
+  pub uncut : l .cut ≡ 0
+
+-- what is left of a line for whoever does not look at cycles
+pub record End : Type 0 where
+  pub outcome : Outcome
+  pub array : List ℕ
+  pub history : List ℕ
+  pub left : ℕ
+  pub fate : ℕ
+
+unfoldable pub endOf : Line → End
+endOf l =
+    record {
+      outcome = outcomeOf l;
+      array = l .chip .array;
+      history = l .chip .history;
+      left = l .left;
+      fate = l .chip .port .fate;
+    }
+
+-- status reads of an operation whose fate has k busy ones: one more, and 256 at the most
+abbrev pub pollsFor : ℕ → ℕ
+pollsFor k = cond (ltb k 256) (k + 1) 256
+
+-- the fate word of the next operation
+abbrev pub wordFor : Setting → Device → ℕ
+wordFor s d = fateWord (s .fates) (d .port .fate)
+
+-- cycles of an operation with m cycles before its confirm cycle, up to the last status read
+abbrev pub totalFor : Setting → Device → ℕ → ℕ
+totalFor s d m = m + 2 + pollsFor (busyOf (wordFor s d))
+
+abbrev pub passes : Setting → Line → ℕ → ℕ → Bool
+passes s l op m =
+    cond (ltb (l .left) (totalFor s (l .chip) m)) false
+    (cond (ltb (busyOf (wordFor s (l .chip))) 256) (eqb (failedFor op (wordFor s (l .chip))) 0) false)
+
+abbrev pub endsAs : Setting → Line → ℕ → ℕ → Outcome
+endsAs s l op m =
+    cond (ltb (l .left) (totalFor s (l .chip) m)) Cut
+    (cond (ltb (busyOf (wordFor s (l .chip))) 256)
+    (cond (eqb (failedFor op (wordFor s (l .chip))) 0) Passed Failed)
+    Silent)
+
+-- ready was reported: the chip takes the next command
+unfoldable pub answered : Outcome → Bool
+answered Passed = true
+answered Failed = true
+answered Silent = false
+answered Cut = false
+answered Illegal = false
+
+-- cut before the confirm cycle nothing changes; from then on a₁ and h₁ hold, and a₂ and h₂ if it passes
+unfoldable pub confirmedEnd : Setting → Line → ℕ → ℕ → List ℕ → List ℕ → List ℕ → List ℕ → End
+confirmedEnd s l op m a₁ h₁ a₂ h₂ =
+    record {
+      outcome = endsAs s l op m;
+      array = cond (leb (l .left) m) (l .chip .array) (cond (passes s l op m) a₂ a₁);
+      history = cond (leb (l .left) m) (l .chip .history) (cond (passes s l op m) h₂ h₁);
+      left = l .left - totalFor s (l .chip) m;
+      fate = cond (leb (l .left) m) (l .chip .port .fate) (nextFate (s .fates) (l .chip .port .fate));
+    }
+
+-- the bytes of a row and of a block
+abbrev pub rowBytesOf : Setting → ℕ → List ℕ → List ℕ
+rowBytesOf s row a = part (row * pageSize (s .geometry)) (pageSize (s .geometry)) a
+
+abbrev pub withRow : Setting → ℕ → List ℕ → List ℕ → List ℕ
+withRow s row ys a = put (row * pageSize (s .geometry)) ys a
+
+abbrev pub blockBytesOf : Setting → ℕ → List ℕ → List ℕ
+blockBytesOf s block a = part (block * blockSize (s .geometry)) (blockSize (s .geometry)) a
+
+abbrev pub withBlockBytes : Setting → ℕ → List ℕ → List ℕ → List ℕ
+withBlockBytes s block ys a = put (block * blockSize (s .geometry)) ys a
+
+-- a program clears each bit that the data has clear; one that does not pass, those of them that the mask has set
+unfoldable pub programEnd : Setting → Line → ℕ → ℕ → List ℕ → End
+programEnd s l block page bytes =
+    confirmedEnd s l 2 (6 + length bytes)
+    (withRow s (rowOf (s .geometry) block page)
+    (programmed (rowBytesOf s (rowOf (s .geometry) block page) (l .chip .array)) (weakened bytes (s .mask)))
+    (l .chip .array))
+    (set (l .chip .history) block (page + 1))
+    (withRow s (rowOf (s .geometry) block page)
+    (programmed (rowBytesOf s (rowOf (s .geometry) block page) (l .chip .array)) bytes)
+    (l .chip .array))
+    (set (l .chip .history) block (page + 1))
+
+-- an erase sets every bit of the block; one that does not pass, those that the mask has set
+unfoldable pub eraseEnd : Setting → Line → ℕ → End
+eraseEnd s l block =
+    confirmedEnd s l 3 4
+    (withBlockBytes s block (raised (blockBytesOf s block (l .chip .array)) (s .mask)) (l .chip .array))
+    (set (l .chip .history) block 255)
+    (withBlockBytes s block (replicate (blockSize (s .geometry)) 255) (l .chip .array))
+    (set (l .chip .history) block 0)
+
+-- a program as the store sends it: a page of the chip above all that were programmed since the block's erase, and a whole page of data
+pub record CanProgram (s : Setting) (l : Line) (block page : ℕ) (bytes : List ℕ) : Type 0 where
+  pub called : Called s l
+  pub block-below : block < s .geometry .blocks
+  pub page-below : page < s .geometry .pages
+  pub in-order : getD (l .chip .history) block 0 ≤ page
+  pub bytes-long : length bytes ≡ pageSize (s .geometry)
+
+pub record CanErase (s : Setting) (l : Line) (block : ℕ) : Type 0 where
+  pub called : Called s l
+  pub block-below : block < s .geometry .blocks
+
+-- a read as the store sends it: n bytes of a row from a column on
+pub record CanRead (s : Setting) (l : Line) (row column n : ℕ) : Type 0 where
+  pub called : Called s l
+  pub row-below : row < rowCount (s .geometry)
+  pub column-below : column < pageSize (s .geometry)
+  pub within : column + n ≤ pageSize (s .geometry)
+
+-- cycles of a read of n bytes
+abbrev pub readTotal : Setting → Device → ℕ → ℕ
+readTotal s d n = totalFor s d 6 + cond (ltb (busyOf (wordFor s d)) 256) (1 + n) 0
+
+-- a read changes neither the array nor the history
+unfoldable pub readEnd : Setting → Line → ℕ → End
+readEnd s l n =
+    record {
+      outcome = cond (ltb (l .left) (readTotal s (l .chip) n)) Cut
+          (cond (ltb (busyOf (wordFor s (l .chip))) 256) Passed Silent);
+      array = l .chip .array;
+      history = l .chip .history;
+      left = l .left - readTotal s (l .chip) n;
+      fate = cond (leb (l .left) 6) (l .chip .port .fate) (nextFate (s .fates) (l .chip .port .fate));
+    }
+
+unfoldable pub endOfRead : Setting → Line → ℕ → ℕ → ℕ → End
+endOfRead s l row column n =
+    record {
+      outcome = readOutcome s l row column n;
+      array = sendAll s l (readCycles s l row column n) .chip .array;
+      history = sendAll s l (readCycles s l row column n) .chip .history;
+      left = sendAll s l (readCycles s l row column n) .left;
+      fate = sendAll s l (readCycles s l row column n) .chip .port .fate;
+    }
+
+-- a reset takes three cycles and changes neither the array nor the history
+unfoldable pub resetEnd : Line → End
+resetEnd l =
+    record {
+      outcome = cond (ltb (l .left) 3) Cut Passed;
+      array = l .chip .array;
+      history = l .chip .history;
+      left = l .left - 3;
+      fate = l .chip .port .fate;
+    }
+
+unfoldable pub endOfReset : Setting → Line → End
+endOfReset s l =
+    record {
+      outcome = endedAs (sendAll s l resetCycles);
+      array = sendAll s l resetCycles .chip .array;
+      history = sendAll s l resetCycles .chip .history;
+      left = sendAll s l resetCycles .left;
+      fate = sendAll s l resetCycles .chip .port .fate;
+    }

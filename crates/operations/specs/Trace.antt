@@ -1,0 +1,52 @@
+-- The trace of an operation: the cycles it sent, and the array operation it started.
+use Prim.Native.Nat.{ℕ, _/_, _%_}
+use mathlib.Core.Bool.{cond}
+use mathlib.Core.List.{List, [], _∷_, _++_}
+use Rattle.chip.specs.Device.{Setting, Cycle}
+use Rattle.chip.specs.Device.Cycle.{command}
+use Rattle.bus.specs.Line.{Line, sendAll, sent, goesOn}
+use Rattle.operations.specs.Cycles.{readAddress, programData, eraseAddress, confirmedCycles, readCycles, programCycles, eraseCycles, outcomeOf}
+use Rattle.operations.specs.declared.Outcome.{Outcome}
+
+-- kind: 1 read, 2 program, 3 erase. bytes: the data of a program. before: the array when the confirm cycle came
+pub record ArrayOperation : Type 0 where
+  pub kind : ℕ
+  pub block : ℕ
+  pub page : ℕ
+  pub bytes : List ℕ
+  pub before : List ℕ
+  pub answer : Outcome
+
+-- the array operation is started if its confirm cycle was sent and allowed
+unfoldable pub startedBy : Setting → Line → List Cycle → ℕ → ℕ → ℕ → List ℕ → List ArrayOperation
+startedBy s l first code kind row bytes =
+    cond (goesOn (sendAll s l (first ++ (command code ∷ []))))
+    (record {
+      kind = kind;
+      block = row / s .geometry .pages;
+      page = row % s .geometry .pages;
+      bytes = bytes;
+      before = sendAll s l first .chip .array;
+      answer = outcomeOf (sendAll s l (confirmedCycles s l first code));
+    }
+    ∷ [])
+    []
+
+abbrev pub readStarts : Setting → Line → ℕ → ℕ → List ArrayOperation
+readStarts s l row column = startedBy s l (readAddress row column) 48 1 row []
+
+abbrev pub programStarts : Setting → Line → ℕ → List ℕ → List ArrayOperation
+programStarts s l row bytes = startedBy s l (programData row bytes) 16 2 row bytes
+
+abbrev pub eraseStarts : Setting → Line → ℕ → List ArrayOperation
+eraseStarts s l row = startedBy s l (eraseAddress row) 208 3 row []
+
+-- the cycles that an operation sent
+abbrev pub readSends : Setting → Line → ℕ → ℕ → ℕ → List Cycle
+readSends s l row column n = sent s l (readCycles s l row column n)
+
+abbrev pub programSends : Setting → Line → ℕ → List ℕ → List Cycle
+programSends s l row bytes = sent s l (programCycles s l row bytes)
+
+abbrev pub eraseSends : Setting → Line → ℕ → List Cycle
+eraseSends s l row = sent s l (eraseCycles s l row)
