@@ -1,17 +1,18 @@
--- Laws of lists of cycles on a bus: what is sent, what a stopped bus leaves alone, and where a run is cut.
-use Prim.Native.Nat.{ℕ, zero, suc, _+_, _-_, _≤_, _<_, zero-le}
-use mathlib.Core.Bool.{Bool, true, false, cond, true≢false, false≢true}
+-- Laws of lists of cycles on a bus: what is sent, what a stopped bus leaves alone, and where a run is cut. Assumes nothing.
+use Prim.Native.Nat.{ℕ, zero, suc, _+_, _-_, _≤_, _<_}
+use mathlib.Core.Bool.{Bool, true, false, true≢false}
 use mathlib.Core.List.{List, [], _∷_, _++_}
-use mathlib.Core.Path.{_≡_, refl, sym, ap, _∙_, subst}
+use mathlib.Core.Path.{_≡_, refl, sym, ap, _∙_}
 use native.Mathlib.Nat.{sub-zero}
 use native.Mathlib.Omega.{arith}
-use native.Mathlib.Numerals.{add-one}
-use borrow.Author.Tests.{eq-eqb, ne-eqb, lt-ltb, le-ltb, eqb-true, eqb-false, ltb-true, ltb-false}
-use lib.Dec.{eqb, ltb}
+use borrow.Author.Tests.{eq-eqb, lt-ltb, le-ltb, eqb-true, ltb-true}
+use lib.Dec.{eqb}
 use lib.ListN.{length, take}
 use Rattle.geometry.proofs.LimitLaws.{both}
-use Rattle.chip.specs.Device.{Device, Setting, Cycle, exec}
-use Rattle.bus.specs.Line.{Line, mayGo, admits, cutAfter, blocked, spent, send, sendAll, sent, run, goesOn, Going, Legal, uncutLine, cutLine}
+use Rattle.chip.specs.declared.interface.Interface.{Interface}
+use Rattle.chip.specs.Device.{Device, Setting, Cycle, device, exec}
+use Rattle.bus.specs.declared.Bus.{Bus}
+use Rattle.bus.specs.Line.{Line, line, mayGo, admits, cutAfter, blocked, spent, blockedBus, spentBus, send, sendAll, sent, run, goesOn, Going, Legal, uncutLine, cutLine}
 
 -- a test decides
 pub by-test : {P : Type 0} (b : Bool) → (b ≡ true → P) → (b ≡ false → P) → P
@@ -84,6 +85,14 @@ module _ (s : Setting) where
   pub send-off : (l : Line) (c : Cycle) → admits l ≡ false → send s l c ≡ blocked l
   unfolding send
   send-off l c h = rw h
+
+  -- the bus after a cycle that was sent, and after one that was not
+  pub line-sent : {r : Bus} {i : Interface} {x y z : List ℕ} (b : Bus) (a p h : List ℕ) (c : Cycle) → r ≡ spentBus b i → device i x y z ≡ exec s (device (b .interface) a p h) c → mayGo (b .cut) (b .interface .illegal) (b .left) ≡ true → line r x y z ≡ send s (line b a p h) c
+  line-sent {x = x} {y = y} {z = z} b a p h c e k t =
+      ap (λ (v : Bus). line v x y z) e ∙ ap (spent (line b a p h)) k ∙ sym (send-on (line b a p h) c t)
+
+  pub line-kept : {r : Bus} {a p h : List ℕ} (b : Bus) (c : Cycle) → r ≡ blockedBus b → mayGo (b .cut) (b .interface .illegal) (b .left) ≡ false → line r a p h ≡ send s (line b a p h) c
+  line-kept {a = a} {p = p} {h = h} b c e t = ap (λ (v : Bus). line v a p h) e ∙ sym (send-off (line b a p h) c t)
 
   pub send-stopped : (l : Line) (c : Cycle) → goesOn l ≡ false → send s l c ≡ l
   send-stopped l c h = send-off l c (admits-stopped l h) ∙ blocked-stopped l h

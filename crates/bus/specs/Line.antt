@@ -35,6 +35,18 @@ blocked l = record { chip = l .chip; left = l .left; cut = cutAfter (l .cut) (l 
 abbrev pub spent : Line → Device → Line
 spent l d = record { chip = d; left = l .left - 1; cut = l .cut }
 
+-- a call that may send n cycles
+abbrev pub newBus : Interface → ℕ → Bus
+newBus i n = record { interface = i; left = n; cut = 0 }
+
+-- blocked and spent, of the bus alone
+abbrev pub blockedBus : Bus → Bus
+blockedBus b =
+    record { interface = b .interface; left = b .left; cut = cutAfter (b .cut) (b .interface .illegal) }
+
+abbrev pub spentBus : Bus → Interface → Bus
+spentBus b i = record { interface = i; left = b .left - 1; cut = b .cut }
+
 -- one cycle
 unfoldable pub send : Setting → Line → Cycle → Line
 send s l c = cond (admits l) (spent l (exec s (l .chip) c)) (blocked l)

@@ -4,10 +4,9 @@ use chip::interface::Interface;
 use geometry::Geometry;
 ghost use mathlib.Core.Path.{_≡_};
 ghost use mathlib.Core.List.{List};
-ghost use Prim.Native.Nat.{ℕ, _<_, _-_};
-ghost use Rattle.chip.specs.Device.{Setting, setting};
-ghost use Rattle.chip.specs.Device.{Cycle};
-ghost use Rattle.bus.specs.Line.{line, mayGo, cutAfter, send, byteOut, statusOut};
+ghost use Prim.Native.Nat.{ℕ, _<_};
+ghost use Rattle.chip.specs.Device.{Setting, Cycle, setting};
+ghost use Rattle.bus.specs.Line.{line, mayGo, spentBus, blockedBus, send, byteOut, statusOut, newBus};
 
 pub struct Bus {
     pub interface: Interface,
@@ -26,7 +25,7 @@ pub struct Out {
 impl Bus {
     // A call that may send `allowed` cycles.
     pub fn new(interface: Interface, allowed: u32) -> Self
-        ensures { λ r. ⌜ (r .interface ≡ interface) × (r .left ≡ allowed) × (r .cut ≡ 0) ⌝ }
+        ensures { λ r. ⌜ r ≡ newBus interface allowed ⌝ }
     {
         Self {
             interface,
@@ -55,7 +54,7 @@ impl Bus {
     // After a cycle that was sent.
     fn spend(self, interface: Interface) -> Self
         requires { ⌜ 0 < self .left ⌝ }
-        ensures { λ r. ⌜ (r .interface ≡ interface) × (r .left ≡ self .left - 1) × (r .cut ≡ self .cut) ⌝ }
+        ensures { λ r. ⌜ r ≡ spentBus self interface ⌝ }
     {
         let left = self.left;
         let cut = self.cut;
@@ -68,7 +67,7 @@ impl Bus {
 
     // After a cycle that was due and not sent.
     fn block(mut self) -> Self
-        ensures { λ r. ⌜ (r .interface ≡ self .interface) × (r .left ≡ self .left) × (r .cut ≡ cutAfter (self .cut) (self .interface .illegal)) ⌝ }
+        ensures { λ r. ⌜ r ≡ blockedBus self ⌝ }
     {
         let cut = self.cut;
         if cut != 0 {
@@ -81,5 +80,95 @@ impl Bus {
         }
         self.cut = 1;
         self
+    }
+}
+
+// A command cycle.
+pub fn command(
+    bus: Bus,
+    g: Geometry,
+    array: &mut [u8],
+    register: &mut [u8],
+    history: &mut [u8],
+    mask: &[u8],
+    fates: &[u32],
+    code: u8,
+) -> Bus
+    ensures { λ r. ⌜ line r (now (array .exit)) (now (register .exit)) (now (history .exit)) ≡ send (setting g (now (mask .entry)) (now (fates .entry))) (line bus (now (array .entry)) (now (register .entry)) (now (history .entry))) (Cycle.command code) ⌝ }
+{
+    if bus.admits() {
+        let i = bus.interface;
+        let next = cycles::command(i, g, array, register, history, mask, fates, code);
+        return bus.spend(next);
+    }
+    bus.block()
+}
+
+// An address cycle.
+pub fn address(bus: Bus, g: Geometry, byte: u8) -> Bus
+    ensures { λ r. ⌜ ((m f a p h : List ℕ) → line r a p h ≡ send (setting g m f) (line bus a p h) (Cycle.address byte)) ⌝ }
+{
+    if bus.admits() {
+        let i = bus.interface;
+        let next = i.address(g, byte);
+        return bus.spend(next);
+    }
+    bus.block()
+}
+
+// A data input cycle. The bus is changed in place: data cycles are many.
+pub fn data_in(mut bus: Bus, register: &mut [u8], byte: u8) -> Bus
+    ensures { λ r. ⌜ ((s : Setting) (a h : List ℕ) → line r a (now (register .exit)) h ≡ send s (line bus a (now (register .entry)) h) (Cycle.dataIn byte)) ⌝ }
+{
+    if bus.admits() {
+        let i = bus.interface;
+        let left = bus.left;
+        let next = cycles::data_in(i, register, byte);
+        bus.interface = next;
+        bus.left = left - 1;
+        return bus;
+    }
+    bus.block()
+}
+
+// A data output cycle. The byte counts only where the cycle was sent and allowed.
+pub fn data_out(bus: Bus, register: &[u8]) -> Out
+    ensures { λ r. ⌜ ((s : Setting) (a h : List ℕ) → line (r .bus) a (now (register .entry)) h ≡ send s (line bus a (now (register .entry)) h) Cycle.dataOut) ⌝ }
+    ensures { λ r. ⌜ ((a h : List ℕ) → r .byte ≡ byteOut (line bus a (now (register .entry)) h)) ⌝ }
+{
+    if bus.admits() {
+        let i = bus.interface;
+        let shown = cycles::data_out(i, register);
+        let next = shown.interface;
+        let byte = shown.byte;
+        return Out {
+            bus: bus.spend(next),
+            byte,
+        };
+    }
+    Out {
+        bus: bus.block(),
+        byte: 0,
+    }
+}
+
+// A status read.
+pub fn status(bus: Bus, g: Geometry, array: &mut [u8], register: &[u8], history: &mut [u8]) -> Out
+    ensures { λ r. ⌜ ((m f : List ℕ) → line (r .bus) (now (array .exit)) (now (register .entry)) (now (history .exit)) ≡ send (setting g m f) (line bus (now (array .entry)) (now (register .entry)) (now (history .entry))) Cycle.status) ⌝ }
+    ensures { λ r. ⌜ ((a p h : List ℕ) → r .byte ≡ statusOut (line bus a p h)) ⌝ }
+{
+    if bus.admits() {
+        let i = bus.interface;
+        let shown = cycles::status(i, g, array, register, history);
+        let next = shown.interface;
+        let byte = shown.byte;
+        return Out {
+            bus: bus.spend(next),
+            byte,
+        };
+    }
+    Out {
+        bus: bus.block(),
+        byte: 0,
     }
 }

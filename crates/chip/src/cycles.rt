@@ -254,22 +254,25 @@ pub fn command(
     i.plain_command(code)
 }
 
-// A data input cycle.
-pub fn data_in(i: Interface, register: &mut [u8], byte: u8) -> Interface
+// A data input cycle. The interface is changed in place and at one point: data cycles are many, and early returns keep the
+// compiler from holding it in registers.
+pub fn data_in(mut i: Interface, register: &mut [u8], byte: u8) -> Interface
     ensures { λ r. ⌜ ((a h : List ℕ) → device r a (now (register .exit)) h ≡ dataTaken byte (device i a (now (register .entry)) h)) ⌝ }
 {
     let phase = i.phase;
-    if phase != crate::interface::PROGRAM_DATA {
-        return i.refuse();
-    }
     let column = i.column;
-    if register.len() <= column {
-        return i.refuse();
+    let mut next = column;
+    let mut illegal: usize = 1;
+    if phase == crate::interface::PROGRAM_DATA {
+        if column < register.len() {
+            register[column] = byte;
+            next = column + 1;
+            illegal = i.illegal;
+        }
     }
-    register[column] = byte;
-    let mut next = i;
-    next.column = column + 1;
-    next
+    i.column = next;
+    i.illegal = illegal;
+    i
 }
 
 // A data output cycle.

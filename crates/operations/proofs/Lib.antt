@@ -1,9 +1,11 @@
-pub mod ConfirmLaws
-pub mod EndLaws
 pub mod CallLaws
-pub mod ProgramLaws
+pub mod ConfirmLaws
+pub mod DataLaws
+pub mod EndLaws
 pub mod EraseLaws
+pub mod OperationTests
+pub mod PollLaws
+pub mod ProgramLaws
 pub mod ReadLaws
 pub mod ResetLaws
 pub mod TraceLaws
-pub mod OperationTests

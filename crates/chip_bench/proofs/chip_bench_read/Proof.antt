@@ -1,0 +1,68 @@
+-- `chip_bench::chip_bench_read` meets its contract. Assumes nothing.
+use Rattle.chip_bench.specs.Start.{part, begun}
+use Rattle.operations.specs.Cycles.{readCycles}
+use Rattle.bus.proofs.LineLaws.{sent-counts}
+use Rattle.bus.specs.Line.{Line}
+use Rattle.chip.specs.Device.{setting}
+use lib.ListN.{length}
+use mathlib.Core.Path.{ap}
+use native.Mathlib.Omega.{arith}
+use denote.Ref.{now}
+use borrow.Author.Needs.{needs}
+use Rattle.chip_bench.proofs.chip_bench_read.Statement.{statement}
+use Rattle.chip_bench.proofs.chip_bench_read.Tie as tie
+
+power-on-requires : tie.Need-power-on-requires
+power-on-requires c κs = search needs
+
+new-requires : tie.Need-new-requires
+new-requires c κs = search needs
+
+part-requires : tie.Need-part-requires
+part-requires c κs = search needs
+
+read-requires : tie.Need-read-requires
+read-requires c κs = search needs
+
+sub-result : tie.Need-sub-result
+sub-result c =
+    let a = c .before .before .before .before .before .before .before .before .before .before .before .before .before .before .before .before .before .before .before .before .before .before .before .args in
+    let s = setting part (now (a .mask)) (now (a .fates)) in
+    let l = begun (now (a .array)) (now (a .register)) (now (a .history)) in
+    let e = rw (c .before .before .before .before .before .before .before .before .before .before .before .before .before .before .part .ensures, c .before .before .before .before .before .before .before .before .before .before .before .before .before .before .before .new .ensures, c .before .before .before .before .before .before .before .before .before .before .before .before .before .before .before .before .power-on .ensures) at (c .before .before .before .before .before .before .before .before .before .read .ensures .0) in
+    omega (arith, sent-counts s l (readCycles s l (a .row) 0 (length (now (a .buffer)))), ap (λ (x : Line). x .left) e)
+
+same-length : tie.Need-same-length
+same-length c = search needs
+
+same-length-2 : tie.Need-same-length-2
+same-length-2 c = search needs
+
+same-length-3 : tie.Need-same-length-3
+same-length-3 c = search needs
+
+same-length-4 : tie.Need-same-length-4
+same-length-4 c = search needs
+
+returns : tie.Need-returns
+returns c =
+    let a = c .before .before .before .before .before .before .before .before .before .before .before .before .before .before .before .before .before .before .before .before .before .before .before .args in
+    let s = setting part (now (a .mask)) (now (a .fates)) in
+    let l = begun (now (a .array)) (now (a .register)) (now (a .history)) in
+    let e = rw (c .before .before .before .before .before .before .before .before .before .before .before .before .before .before .part .ensures, c .before .before .before .before .before .before .before .before .before .before .before .before .before .before .before .new .ensures, c .before .before .before .before .before .before .before .before .before .before .before .before .before .before .before .before .power-on .ensures) at (c .before .before .before .before .before .before .before .before .before .read .ensures .0) in
+    (omega (arith, sent-counts s l (readCycles s l (a .row) 0 (length (now (a .buffer)))), ap (λ (x : Line). x .left) e), rw (c .before .before .before .before .before .before .before .before .before .before .before .before .before .before .part .ensures, c .before .before .before .before .before .before .before .before .before .before .before .before .before .before .before .new .ensures, c .before .before .before .before .before .before .before .before .before .before .before .before .before .before .before .before .power-on .ensures) at (c .before .before .before .before .before .before .before .before .before .read .ensures .1 .1))
+
+pub chip-bench-read-spec : {M : Type 1} → statement M
+chip-bench-read-spec =
+    tie.close
+    (tie.spec
+    power-on-requires
+    new-requires
+    part-requires
+    read-requires
+    sub-result
+    same-length
+    same-length-2
+    same-length-3
+    same-length-4
+    returns)

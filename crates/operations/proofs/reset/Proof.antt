@@ -1,0 +1,38 @@
+-- `operations::reset` meets its contract: the two command cycles and a status read. Assumes nothing.
+use borrow.Author.Needs.{needs}
+use Rattle.operations.proofs.DataLaws.{lone, joined}
+use Rattle.operations.proofs.reset.Statement.{statement}
+use Rattle.operations.proofs.reset.Tie as tie
+
+confirm-requires : tie.Need-confirm-requires
+confirm-requires c κs = search needs
+
+status-requires : tie.Need-status-requires
+status-requires c κs = search needs
+
+ended-requires : tie.Need-ended-requires
+ended-requires c κs = search needs
+
+same-length : tie.Need-same-length
+same-length c = search needs
+
+same-length-2 : tie.Need-same-length-2
+same-length-2 c = search needs
+
+same-length-3 : tie.Need-same-length-3
+same-length-3 c = search needs
+
+returns : tie.Need-returns
+returns c = (joined _ _ _ _ (c .before .before .before .before .before .before .before .before .before .before .before .before .before .before .before .before .confirm .ensures) (lone _ _ _ (c .before .before .before .before .before .before .status .ensures .0 _ _)), c .ended .ensures _ _ _)
+
+pub reset-spec : {M : Type 1} → statement M
+reset-spec =
+    tie.close
+    (tie.spec
+    confirm-requires
+    status-requires
+    ended-requires
+    same-length
+    same-length-2
+    same-length-3
+    returns)
