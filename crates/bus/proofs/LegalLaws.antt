@@ -9,10 +9,11 @@ use lib.Dec.{eqb, ltb}
 use lib.ListN.{take}
 use Rattle.geometry.specs.Sizes.{rowCount}
 use Rattle.geometry.specs.declared.Geometry.{Geometry}
-use Rattle.chip.specs.declared.interface.Interface.{Interface}
-use Rattle.chip.specs.Interface.{beginning, begun, statusMode, readMode, plainCommand, latched, addressed, started}
-use Rattle.chip.specs.Device.{Device, Setting, Cycle, device, readStarted, programStarted, eraseStarted, isConfirm, confirmable, confirmed, commanded, lengthsFit, rowAt, dataTaken, dataGiven, completed, finished, statusRead, exec}
-use Rattle.chip.specs.Device.Cycle.{command, address, dataIn, dataOut, status}
+use Rattle.interface.specs.declared.Interface.{Interface}
+use Rattle.interface.specs.Interface.{beginning, begun, statusMode, readMode, plainCommand, latched, addressed, started}
+use Rattle.array.specs.Device.{Device, Setting, device, readStarted, programStarted, eraseStarted, lengthsFit, rowAt, completed}
+use Rattle.chip.specs.Chip.{Cycle, isConfirm, confirmable, confirmed, commanded, dataTaken, dataGiven, finished, statusRead, exec}
+use Rattle.chip.specs.Chip.Cycle.{command, address, dataIn, dataOut, status}
 use Rattle.bus.specs.Line.{Legal, run}
 
 -- the flag is as it was, or set

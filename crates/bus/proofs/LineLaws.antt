@@ -9,8 +9,9 @@ use borrow.Author.Tests.{eq-eqb, lt-ltb, le-ltb, eqb-true, ltb-true}
 use lib.Dec.{eqb}
 use lib.ListN.{length, take}
 use Rattle.geometry.proofs.LimitLaws.{both}
-use Rattle.chip.specs.declared.interface.Interface.{Interface}
-use Rattle.chip.specs.Device.{Device, Setting, Cycle, device, exec}
+use Rattle.interface.specs.declared.Interface.{Interface}
+use Rattle.array.specs.Device.{Device, Setting, device}
+use Rattle.chip.specs.Chip.{Cycle, exec}
 use Rattle.bus.specs.declared.Bus.{Bus}
 use Rattle.bus.specs.Line.{Line, line, mayGo, admits, cutAfter, blocked, spent, blockedBus, spentBus, send, sendAll, sent, run, goesOn, Going, Legal, uncutLine, cutLine}
 

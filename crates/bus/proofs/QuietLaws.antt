@@ -7,10 +7,11 @@ use borrow.Author.Tests.{not-true}
 use lib.Dec.{eqb}
 use lib.ListN.{take, replicate}
 use Rattle.geometry.specs.declared.Geometry.{Geometry}
-use Rattle.chip.specs.declared.interface.Interface.{Interface}
-use Rattle.chip.specs.Interface.{beginning, begun, statusMode, readMode, plainCommand, latched, addressed}
-use Rattle.chip.specs.Device.{Device, Setting, Cycle, isConfirm, commanded, dataTaken, dataGiven, exec}
-use Rattle.chip.specs.Device.Cycle.{command, address, dataIn, dataOut, status}
+use Rattle.interface.specs.declared.Interface.{Interface}
+use Rattle.interface.specs.Interface.{beginning, begun, statusMode, readMode, plainCommand, latched, addressed}
+use Rattle.array.specs.Device.{Device, Setting}
+use Rattle.chip.specs.Chip.{Cycle, isConfirm, commanded, dataTaken, dataGiven, exec}
+use Rattle.chip.specs.Chip.Cycle.{command, address, dataIn, dataOut, status}
 use Rattle.bus.specs.Line.{run, still, AllStill, Quiet}
 
 record Fate (k : ℕ) (i : Interface) : Type 0 where

@@ -15,10 +15,11 @@ use Rattle.geometry.specs.Limits.{Valid, valid}
 use Rattle.geometry.specs.Sizes.{pageSize, blockSize, rowCount, columnBytes, rowBytes}
 use Rattle.geometry.proofs.LimitLaws.{holds}
 use Rattle.cells.specs.Cells.{programmed, weakened, raised}
-use Rattle.chip.specs.declared.interface.Interface.{Interface}
-use Rattle.chip.specs.Interface.{beginning, begun, inPhase, readMode, statusMode, outputResumed, plainCommand, shifted, moreAddress, fullAddress, addressFits, latched, addressed, afterReset, started}
-use Rattle.chip.specs.Device.{Device, Setting, Cycle, device, withPort, exec, commanded, isConfirm, nextColumn, dataTaken, dataGiven, lessBusy, lengthsFit, rowAt, blockAt, pageAt, pageOf, withPage, blockOf, withBlock, finished, completed, statusRead, confirmable, confirmed, readStarted, programStarted, eraseStarted}
-use Rattle.chip.specs.Device.Cycle.{command, address, dataIn, dataOut, status}
+use Rattle.interface.specs.declared.Interface.{Interface}
+use Rattle.interface.specs.Interface.{beginning, begun, inPhase, readMode, statusMode, outputResumed, plainCommand, shifted, moreAddress, fullAddress, addressFits, latched, addressed, afterReset, started}
+use Rattle.array.specs.Device.{Device, Setting, device, withPort, lengthsFit, rowAt, blockAt, pageAt, pageOf, withPage, blockOf, withBlock, completed, readStarted, programStarted, eraseStarted}
+use Rattle.chip.specs.Chip.{Cycle, exec, commanded, isConfirm, nextColumn, dataTaken, dataGiven, lessBusy, finished, statusRead, confirmable, confirmed}
+use Rattle.chip.specs.Chip.Cycle.{command, address, dataIn, dataOut, status}
 use Rattle.bus.specs.Line.{run}
 use Rattle.bus.proofs.LineLaws.{by-test, run-append}
 

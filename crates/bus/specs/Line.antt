@@ -4,10 +4,11 @@ use mathlib.Core.Bool.{Bool, true, false, cond, not}
 use mathlib.Core.List.{List, [], _∷_}
 use mathlib.Core.Path.{_≡_}
 use lib.Dec.{eqb, ltb}
-use Rattle.chip.specs.declared.interface.Interface.{Interface}
+use Rattle.interface.specs.declared.Interface.{Interface}
 use Rattle.bus.specs.declared.Bus.{Bus}
-use Rattle.chip.specs.Device.{Device, Setting, Cycle, device, exec, isConfirm, dataByte, statusShown}
-use Rattle.chip.specs.Device.Cycle.{command, address, dataIn, dataOut, status}
+use Rattle.array.specs.Device.{Device, Setting, device}
+use Rattle.chip.specs.Chip.{Cycle, exec, isConfirm, dataByte, statusShown}
+use Rattle.chip.specs.Chip.Cycle.{command, address, dataIn, dataOut, status}
 
 -- cut is 1 once a cycle was due and none was left
 pub record Line : Type 0 where

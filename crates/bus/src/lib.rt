@@ -1,11 +1,11 @@
 // The bus of one call: the chip's interface, and how many cycles are left before the call is cut.
-use chip::cycles;
-use chip::interface::Interface;
 use geometry::Geometry;
+use interface::Interface;
 ghost use mathlib.Core.Path.{_≡_};
 ghost use mathlib.Core.List.{List};
 ghost use Prim.Native.Nat.{ℕ, _<_};
-ghost use Rattle.chip.specs.Device.{Setting, Cycle, setting};
+ghost use Rattle.array.specs.Device.{Setting, setting};
+ghost use Rattle.chip.specs.Chip.{Cycle};
 ghost use Rattle.bus.specs.Line.{line, mayGo, spentBus, blockedBus, send, byteOut, statusOut, newBus};
 
 pub struct Bus {
@@ -98,7 +98,7 @@ pub fn command(
 {
     if bus.admits() {
         let i = bus.interface;
-        let next = cycles::command(i, g, array, register, history, mask, fates, code);
+        let next = chip::command(i, g, array, register, history, mask, fates, code);
         return bus.spend(next);
     }
     bus.block()
@@ -123,7 +123,7 @@ pub fn data_in(mut bus: Bus, register: &mut [u8], byte: u8) -> Bus
     if bus.admits() {
         let i = bus.interface;
         let left = bus.left;
-        let next = cycles::data_in(i, register, byte);
+        let next = chip::data_in(i, register, byte);
         bus.interface = next;
         bus.left = left - 1;
         return bus;
@@ -138,7 +138,7 @@ pub fn data_out(bus: Bus, register: &[u8]) -> Out
 {
     if bus.admits() {
         let i = bus.interface;
-        let shown = cycles::data_out(i, register);
+        let shown = chip::data_out(i, register);
         let next = shown.interface;
         let byte = shown.byte;
         return Out {
@@ -159,7 +159,7 @@ pub fn status(bus: Bus, g: Geometry, array: &mut [u8], register: &[u8], history:
 {
     if bus.admits() {
         let i = bus.interface;
-        let shown = cycles::status(i, g, array, register, history);
+        let shown = chip::status(i, g, array, register, history);
         let next = shown.interface;
         let byte = shown.byte;
         return Out {

@@ -1,1 +1,1 @@
-pub mod DeviceLaws
+pub mod ConfirmableLaws

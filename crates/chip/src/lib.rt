@@ -1,3 +1,230 @@
-// The NAND chip, one bus cycle at a time: its interface, its array, its page register and its program history.
-pub mod cycles;
-pub mod interface;
+// The chip's bus cycles: command, address, data in, data out and status. A cycle that the data sheet does not allow in the
+// present state is answered illegal and changes nothing else.
+use geometry::Geometry;
+use interface::Interface;
+ghost use mathlib.Core.Path.{_≡_};
+ghost use mathlib.Core.List.{List};
+ghost use Prim.Native.Nat.{ℕ, _<_};
+ghost use lib.ListN.{length};
+ghost use Rattle.geometry.specs.Sizes.{blockSize, rowCount};
+ghost use Rattle.array.specs.Device.{device, setting, fitting, Fitting, rowAt};
+ghost use Rattle.chip.specs.Chip.{isConfirm, confirmable, confirmed, commanded, nextColumn, dataTaken, dataGiven, dataByte, lessBusy, finished, statusRead, statusShown};
+
+// The interface after an output cycle, and the byte put out.
+pub struct Shown {
+    pub interface: Interface,
+    pub byte: u8,
+}
+
+// Whether array, register and history have the lengths that a valid geometry asks.
+fn is_fitting(g: Geometry, array: usize, register: usize, history: usize) -> bool
+    ensures { λ r. ⌜ r ≡ fitting g array register history ⌝ }
+{
+    if geometry::is_valid(g) {
+        if array != geometry::chip_size(g) {
+            return false;
+        }
+        if register != geometry::page_size(g) {
+            return false;
+        }
+        let blocks = g.blocks;
+        return history == blocks;
+    }
+    false
+}
+
+fn is_confirm(code: u8) -> bool
+    ensures { λ r. ⌜ r ≡ isConfirm code ⌝ }
+{
+    if code == 0x30 {
+        return true;
+    }
+    if code == 0x10 {
+        return true;
+    }
+    code == 0xd0
+}
+
+// Whether all lengths fit and the address register names a row of the chip.
+fn is_confirmable(
+    i: Interface,
+    g: Geometry,
+    array: &[u8],
+    register: &[u8],
+    history: &[u8],
+    mask: &[u8],
+) -> bool
+    ensures { λ r. ⌜ ((f : List ℕ) → r ≡ confirmable (setting g (now (mask .entry)) f) (device i (now (array .entry)) (now (register .entry)) (now (history .entry)))) ⌝ }
+{
+    if is_fitting(g, array.len(), register.len(), history.len()) {
+        if mask.len() != geometry::block_size(g) {
+            return false;
+        }
+        let address = i.address;
+        let rows = geometry::row_count(g);
+        return interface::row_of_address(address) < rows;
+    }
+    false
+}
+
+// The confirm cycle of a read, program or erase.
+fn confirm(
+    i: Interface,
+    g: Geometry,
+    array: &mut [u8],
+    register: &mut [u8],
+    history: &mut [u8],
+    mask: &[u8],
+    fates: &[u32],
+    code: u8,
+) -> Interface
+    requires { ⌜ Fitting g (length (now array)) (length (now register)) (length (now history)) ⌝ }
+    requires { ⌜ length (now mask) ≡ blockSize g ⌝ }
+    requires { ⌜ rowAt i < rowCount g ⌝ }
+    ensures { λ r. ⌜ device r (now (array .exit)) (now (register .exit)) (now (history .exit)) ≡ confirmed code (setting g (now (mask .entry)) (now (fates .entry))) (device i (now (array .entry)) (now (register .entry)) (now (history .entry))) ⌝ }
+{
+    if code == 0x30 {
+        return array::confirm_read(i, g, array, register, fates);
+    }
+    if code == 0x10 {
+        return array::confirm_program(i, g, array, register, history, mask, fates);
+    }
+    array::confirm_erase(i, g, array, history, mask, fates)
+}
+
+// A command cycle.
+pub fn command(
+    i: Interface,
+    g: Geometry,
+    array: &mut [u8],
+    register: &mut [u8],
+    history: &mut [u8],
+    mask: &[u8],
+    fates: &[u32],
+    code: u8,
+) -> Interface
+    ensures { λ r. ⌜ device r (now (array .exit)) (now (register .exit)) (now (history .exit)) ≡ commanded code (setting g (now (mask .entry)) (now (fates .entry))) (device i (now (array .entry)) (now (register .entry)) (now (history .entry))) ⌝ }
+{
+    if is_confirm(code) {
+        if is_confirmable(i, g, array, register, history, mask) {
+            return confirm(i, g, array, register, history, mask, fates, code);
+        }
+        return i.refuse();
+    }
+    i.plain_command(code)
+}
+
+// A data input cycle. The interface is changed in place and at one point: data cycles are many, and early returns keep the
+// compiler from holding it in registers.
+pub fn data_in(mut i: Interface, register: &mut [u8], byte: u8) -> Interface
+    ensures { λ r. ⌜ ((a h : List ℕ) → device r a (now (register .exit)) h ≡ dataTaken byte (device i a (now (register .entry)) h)) ⌝ }
+{
+    let phase = i.phase;
+    let column = i.column;
+    let mut next = column;
+    let mut illegal: usize = 1;
+    if phase == interface::PROGRAM_DATA {
+        if column < register.len() {
+            register[column] = byte;
+            next = column + 1;
+            illegal = i.illegal;
+        }
+    }
+    i.column = next;
+    i.illegal = illegal;
+    i
+}
+
+// A data output cycle.
+pub fn data_out(i: Interface, register: &[u8]) -> Shown
+    ensures { λ r. ⌜ ((a h : List ℕ) → device (r .interface) a (now (register .entry)) h ≡ dataGiven (device i a (now (register .entry)) h)) ⌝ }
+    ensures { λ r. ⌜ ((a h : List ℕ) → r .byte ≡ dataByte (device i a (now (register .entry)) h)) ⌝ }
+{
+    let phase = i.phase;
+    if phase != interface::DATA_OUT {
+        return Shown {
+            interface: i.refuse(),
+            byte: 0,
+        };
+    }
+    let column = i.column;
+    if register.len() <= column {
+        return Shown {
+            interface: i.refuse(),
+            byte: 0,
+        };
+    }
+    let mut next = i;
+    next.column = column + 1;
+    Shown {
+        interface: next,
+        byte: register[column],
+    }
+}
+
+fn less_busy(mut i: Interface) -> Interface
+    requires { ⌜ 0 < i .busy ⌝ }
+    ensures { λ r. ⌜ r ≡ lessBusy i ⌝ }
+{
+    let busy = i.busy;
+    i.busy = busy - 1;
+    i
+}
+
+fn finish(
+    i: Interface,
+    g: Geometry,
+    array: &mut [u8],
+    register: &[u8],
+    history: &mut [u8],
+) -> Interface
+    ensures { λ r. ⌜ device r (now (array .exit)) (now (register .entry)) (now (history .exit)) ≡ finished g (device i (now (array .entry)) (now (register .entry)) (now (history .entry))) ⌝ }
+{
+    if is_fitting(g, array.len(), register.len(), history.len()) {
+        let address = i.address;
+        let rows = geometry::row_count(g);
+        if interface::row_of_address(address) < rows {
+            return array::complete(i, g, array, register, history);
+        }
+        return i.refuse();
+    }
+    i.refuse()
+}
+
+// A status read.
+pub fn status(
+    i: Interface,
+    g: Geometry,
+    array: &mut [u8],
+    register: &[u8],
+    history: &mut [u8],
+) -> Shown
+    ensures { λ r. ⌜ device (r .interface) (now (array .exit)) (now (register .entry)) (now (history .exit)) ≡ statusRead g (device i (now (array .entry)) (now (register .entry)) (now (history .entry))) ⌝ }
+    ensures { λ r. ⌜ r .byte ≡ statusShown i ⌝ }
+{
+    let phase = i.phase;
+    let failed = i.failed;
+    if phase == interface::STATUS {
+        return Shown {
+            interface: i,
+            byte: interface::status_byte(1, failed),
+        };
+    }
+    if phase != interface::BUSY_STATUS {
+        return Shown {
+            interface: i.refuse(),
+            byte: 0,
+        };
+    }
+    let busy = i.busy;
+    if busy != 0 {
+        return Shown {
+            interface: less_busy(i),
+            byte: interface::status_byte(0, 0),
+        };
+    }
+    Shown {
+        interface: finish(i, g, array, register, history),
+        byte: interface::status_byte(1, failed),
+    }
+}

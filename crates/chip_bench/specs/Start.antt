@@ -2,8 +2,8 @@
 use Prim.Native.Nat.{ℕ}
 use mathlib.Core.List.{List}
 use Rattle.geometry.specs.declared.Geometry.{Geometry}
-use Rattle.chip.specs.Interface.{poweredOn}
-use Rattle.chip.specs.Device.{device}
+use Rattle.interface.specs.Interface.{poweredOn}
+use Rattle.array.specs.Device.{device}
 use Rattle.bus.specs.Line.{Line, uncutLine}
 
 abbrev pub part : Geometry

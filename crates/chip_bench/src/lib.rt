@@ -1,12 +1,12 @@
 // A page read and a page program through the model, for the benchmark in C. Each answers the cycles sent.
 use bus::Bus;
-use chip::interface::Interface;
 use geometry::Geometry;
+use interface::Interface;
 ghost use mathlib.Core.Path.{_≡_};
 ghost use lib.ListN.{length};
 ghost use Rattle.cells.specs.Cells.{over};
-ghost use Rattle.chip.specs.Device.{setting};
-ghost use Rattle.operations.specs.Cycles.{readOutputs};
+ghost use Rattle.array.specs.Device.{setting};
+ghost use Rattle.sequences.specs.Cycles.{readOutputs};
 ghost use Rattle.operations.specs.Trace.{readSends, programSends};
 ghost use Rattle.chip_bench.specs.Start.{part, begun};
 

@@ -1,10 +1,10 @@
 // Shows the chip at work: address bytes of the largest part, then a reset, an erase, a program and a read of the small chip.
 use bus::Bus;
-use chip::interface::Interface;
 use geometry::Geometry;
+use interface::Interface;
 use libc::STDOUT_FILENO;
-use operations::Done;
-use operations::Outcome;
+use sequences::Done;
+use sequences::Outcome;
 
 fn wide(x: u8) -> u64 {
     x as u64
@@ -76,100 +76,146 @@ fn show_addresses() {
     print_column(2048);
 }
 
-fn show_operations() {
-    let small = Geometry {
+fn small() -> Geometry {
+    Geometry {
         main: 32,
         spare: 16,
         pages: 4,
         blocks: 4,
         logical: 2,
-    };
-    let mut array = [0xffu8; 768];
-    let mut register = [0xffu8; 48];
-    let mut history = [0u8; 4];
+    }
+}
+
+// Prints how an operation ended, and hands the bus on.
+fn shown(label: &[u8], done: Done) -> Bus {
+    io::write_all(STDOUT_FILENO, label);
+    print_done(done);
+    done.bus
+}
+
+fn erase_block_1(
+    label: &[u8],
+    from: Bus,
+    array: &mut [u8],
+    register: &mut [u8],
+    history: &mut [u8],
+    fates: &[u32],
+) -> Bus {
     let mask = [0u8; 192];
-    let fates = [0u32, 0, 65536, 255, 256];
+    shown(
+        label,
+        operations::erase(from, small(), array, register, history, &mask, fates, 4),
+    )
+}
+
+fn program_row(
+    label: &[u8],
+    row: usize,
+    from: Bus,
+    array: &mut [u8],
+    register: &mut [u8],
+    history: &mut [u8],
+    fates: &[u32],
+) -> Bus {
+    let mask = [0u8; 192];
     let data = [0xa5u8; 48];
+    shown(
+        label,
+        operations::program(
+            from,
+            small(),
+            array,
+            register,
+            history,
+            &mask,
+            fates,
+            row,
+            &data,
+        ),
+    )
+}
+
+fn read_row_4(
+    label: &[u8],
+    from: Bus,
+    array: &mut [u8],
+    register: &mut [u8],
+    history: &mut [u8],
+    fates: &[u32],
+) -> Bus {
+    let mask = [0u8; 192];
     let mut buffer = [0u8; 48];
-    let start = Bus::new(Interface::power_on(), 10000);
-    let a = operations::reset(
-        start,
-        small,
-        &mut array,
-        &mut register,
-        &mut history,
-        &mask,
-        &fates,
+    let after = shown(
+        label,
+        operations::read(
+            from,
+            small(),
+            array,
+            register,
+            history,
+            &mask,
+            fates,
+            4,
+            0,
+            &mut buffer,
+        ),
     );
-    io::write_all(STDOUT_FILENO, b"reset");
-    print_done(a);
-    let b = operations::erase(
-        a.bus,
-        small,
-        &mut array,
-        &mut register,
-        &mut history,
-        &mask,
-        &fates,
-        4,
-    );
-    io::write_all(STDOUT_FILENO, b"erase block 1");
-    print_done(b);
-    let c = operations::program(
-        b.bus,
-        small,
-        &mut array,
-        &mut register,
-        &mut history,
-        &mask,
-        &fates,
-        4,
-        &data,
-    );
-    io::write_all(STDOUT_FILENO, b"program page 0 of it");
-    print_done(c);
-    let d = operations::program(
-        c.bus,
-        small,
-        &mut array,
-        &mut register,
-        &mut history,
-        &mask,
-        &fates,
-        5,
-        &data,
-    );
-    io::write_all(STDOUT_FILENO, b"program page 1, fated to fail");
-    print_done(d);
-    let e = operations::read(
-        d.bus,
-        small,
-        &mut array,
-        &mut register,
-        &mut history,
-        &mask,
-        &fates,
-        4,
-        0,
-        &mut buffer,
-    );
-    io::write_all(STDOUT_FILENO, b"read page 0, 255 times busy");
-    print_done(e);
     io::write_all(STDOUT_FILENO, b"its first byte");
     print_byte(buffer[0]);
     io::write_all(STDOUT_FILENO, b"\n");
-    let f = operations::erase(
-        e.bus,
-        small,
-        &mut array,
-        &mut register,
-        &mut history,
-        &mask,
-        &fates,
+    after
+}
+
+fn reset_chip(label: &[u8], a: &mut [u8], r: &mut [u8], h: &mut [u8], fates: &[u32]) -> Bus {
+    let mask = [0u8; 192];
+    let start = Bus::new(Interface::power_on(), 10000);
+    shown(
+        label,
+        operations::reset(start, small(), a, r, h, &mask, fates),
+    )
+}
+
+fn show_operations() {
+    let mut a = [0xffu8; 768];
+    let mut r = [0xffu8; 48];
+    let mut h = [0u8; 4];
+    let fates = [0u32, 0, 65536, 255, 256];
+    let b = reset_chip(b"reset", &mut a, &mut r, &mut h, &fates);
+    let c = erase_block_1(b"erase block 1", b, &mut a, &mut r, &mut h, &fates);
+    let d = program_row(
+        b"program page 0 of it",
         4,
+        c,
+        &mut a,
+        &mut r,
+        &mut h,
+        &fates,
     );
-    io::write_all(STDOUT_FILENO, b"erase block 1, 256 times busy");
-    print_done(f);
+    let e = program_row(
+        b"program page 1, fated to fail",
+        5,
+        d,
+        &mut a,
+        &mut r,
+        &mut h,
+        &fates,
+    );
+    let f = read_row_4(
+        b"read page 0, 255 times busy",
+        e,
+        &mut a,
+        &mut r,
+        &mut h,
+        &fates,
+    );
+    erase_block_1(
+        b"erase block 1, 256 times busy",
+        f,
+        &mut a,
+        &mut r,
+        &mut h,
+        &fates,
+    );
 }
 
 fn main() {

@@ -11,8 +11,8 @@ use Rattle.geometry.specs.Limits.{Valid}
 use Rattle.geometry.specs.Sizes.{pageSize, blockSize, chipSize, rowCount}
 use Rattle.geometry.proofs.LimitLaws.{holds}
 use Rattle.geometry.proofs.SizeLaws.{row-count-most, page-size-most}
-use Rattle.chip.specs.Interface.{addressFits, rowOfAddress, columnOfAddress}
-use Rattle.chip.specs.Device.{Device, Setting, fitting}
+use Rattle.interface.specs.Interface.{addressFits, rowOfAddress, columnOfAddress}
+use Rattle.array.specs.Device.{Device, Setting, fitting}
 use Rattle.bus.specs.Line.{Line, uncutLine}
 use Rattle.operations.specs.Ends.{Called}
 

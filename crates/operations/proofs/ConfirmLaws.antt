@@ -10,15 +10,16 @@ use lib.Dec.{eqb, leb, ltb}
 use lib.ListN.{length, take, replicate, length-append, length-replicate, replicate-append-replicate}
 use lib.Seq.{take-append-le, take-append-add}
 use Rattle.geometry.specs.Sizes.{rowCount}
-use Rattle.chip.specs.declared.interface.Interface.{Interface}
-use Rattle.chip.specs.Interface.{inPhase}
-use Rattle.chip.specs.Device.{Device, Setting, Cycle, device, withPort, exec, lengthsFit, rowAt, completed, lessBusy}
-use Rattle.chip.specs.Device.Cycle.{command, status}
+use Rattle.interface.specs.declared.Interface.{Interface}
+use Rattle.interface.specs.Interface.{inPhase}
+use Rattle.array.specs.Device.{Device, Setting, device, withPort, lengthsFit, rowAt, completed}
+use Rattle.chip.specs.Chip.{Cycle, exec, lessBusy}
+use Rattle.chip.specs.Chip.Cycle.{command, status}
 use Rattle.bus.specs.Line.{Line, sendAll, run, Legal, uncutLine, cutLine}
 use Rattle.bus.proofs.LineLaws.{by-test, sendAll-append, run-append, run-uncut, run-cut, cut-stays}
 use Rattle.bus.proofs.LegalLaws.{legal-run, legal-start, legal-take, legal-first}
 use Rattle.bus.proofs.StepLaws.{busyWith, one-busy, busy-reads, ready-read, status-busy}
-use Rattle.operations.specs.Cycles.{waiting, polls, statusReads, confirmCycles, confirmedCycles}
+use Rattle.sequences.specs.Cycles.{waiting, polls, statusReads, confirmCycles, confirmedCycles}
 use Rattle.operations.specs.Ends.{pollsFor}
 
 eqb-at : {p : ℕ} → p ≡ 1 → eqb p 8 ≡ false

@@ -9,13 +9,14 @@ use lib.Dec.{eqb, leb, ltb}
 use lib.ListN.{length, take}
 use Rattle.geometry.specs.Limits.{Valid}
 use Rattle.geometry.specs.Sizes.{pageSize, blockSize, chipSize}
-use Rattle.chip.specs.Interface.{busyOf, failedFor, nextFate}
-use Rattle.chip.specs.Device.{Device, Setting, Cycle}
+use Rattle.interface.specs.Interface.{busyOf, failedFor, nextFate}
+use Rattle.array.specs.Device.{Device, Setting}
+use Rattle.chip.specs.Chip.{Cycle}
 use Rattle.bus.specs.Line.{Line, run, sendAll, uncutLine, cutLine, Quiet}
 use Rattle.bus.proofs.LineLaws.{by-test}
-use Rattle.operations.specs.Cycles.{confirmedCycles, outcomeOf}
+use Rattle.sequences.specs.Cycles.{confirmedCycles, outcomeOf}
 use Rattle.operations.specs.Ends.{Called, End, endOf, confirmedEnd, endsAs, answered, wordFor, totalFor}
-use Rattle.operations.specs.declared.Outcome.the-variants.{Passed, Failed, Silent, Cut}
+use Rattle.sequences.specs.declared.Outcome.the-variants.{Passed, Failed, Silent, Cut}
 use Rattle.operations.proofs.ConfirmLaws.{Confirmed, through, silent, early-cut, late-cut}
 
 pub same-end : {x y : End} → x .outcome ≡ y .outcome → x .array ≡ y .array → x .history ≡ y .history → x .left ≡ y .left → x .fate ≡ y .fate → x ≡ y

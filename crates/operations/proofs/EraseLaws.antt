@@ -14,14 +14,15 @@ use Rattle.cells.specs.Cells.{raised}
 use Rattle.cells.specs.Part.{part, put}
 use Rattle.cells.proofs.CellLaws.{length-raised}
 use Rattle.cells.proofs.PartLaws.{length-part, put-put, length-put}
-use Rattle.chip.specs.declared.interface.Interface.{Interface}
-use Rattle.chip.specs.Interface.{beginning, fullAddress, inPhase, started, addressFits, failedFor, nextFate}
-use Rattle.chip.specs.Device.{Device, Setting, device, withPort, exec, rowAt, fitting, completed, isConfirm}
-use Rattle.chip.specs.Device.Cycle.{command}
+use Rattle.interface.specs.declared.Interface.{Interface}
+use Rattle.interface.specs.Interface.{beginning, fullAddress, inPhase, started, addressFits, failedFor, nextFate}
+use Rattle.array.specs.Device.{Device, Setting, device, withPort, rowAt, fitting, completed}
+use Rattle.chip.specs.Chip.{exec, isConfirm}
+use Rattle.chip.specs.Chip.Cycle.{command}
 use Rattle.bus.specs.Line.{Line, run, sendAll, uncutLine, still, AllStill}
 use Rattle.bus.proofs.QuietLaws.{quiet-run, still-take, still-address}
 use Rattle.bus.proofs.StepLaws.{busyWith, begin-erase, three-bytes, confirm-erase}
-use Rattle.operations.specs.Cycles.{eraseAddress, rowCycles, eraseCycles}
+use Rattle.sequences.specs.Cycles.{eraseAddress, rowCycles, eraseCycles}
 use Rattle.operations.specs.Trace.{eraseStarts}
 use Rattle.operations.specs.Ends.{Called, CanErase, endOf, endsAs, answered, confirmedEnd, eraseEnd, wordFor}
 use Rattle.operations.proofs.CallLaws.{uncut-is, fitting-holds, row-is, address-holds, arms, part-arms}

@@ -1,10 +1,8 @@
 pub mod CallLaws
 pub mod ConfirmLaws
-pub mod DataLaws
 pub mod EndLaws
 pub mod EraseLaws
 pub mod OperationTests
-pub mod PollLaws
 pub mod ProgramLaws
 pub mod ReadLaws
 pub mod ResetLaws

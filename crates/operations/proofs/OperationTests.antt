@@ -6,13 +6,14 @@ use lib.ListN.{length, replicate}
 use Rattle.geometry.specs.declared.Geometry.{Geometry}
 use Rattle.cells.specs.Cells.{programmed, weakened, raised}
 use Rattle.cells.specs.Part.{put}
-use Rattle.chip.specs.Interface.{poweredOn, begun, statusMode, readMode, plainCommand, addressFits, latched, addressed, fateWord, nextFate, started}
-use Rattle.chip.specs.Device.{Setting, Cycle, device, setting, fitting, readStarted, programStarted, eraseStarted, isConfirm, confirmed, confirmable, commanded, dataTaken, dataGiven, dataByte, completed, finished, statusRead, exec}
-use Rattle.chip.specs.Device.Cycle.{command, address, dataIn, dataOut, status}
+use Rattle.interface.specs.Interface.{poweredOn, begun, statusMode, readMode, plainCommand, addressFits, latched, addressed, fateWord, nextFate, started}
+use Rattle.array.specs.Device.{Setting, device, setting, fitting, readStarted, programStarted, eraseStarted, completed}
+use Rattle.chip.specs.Chip.{Cycle, isConfirm, confirmed, confirmable, commanded, dataTaken, dataGiven, dataByte, finished, statusRead, exec}
+use Rattle.chip.specs.Chip.Cycle.{command, address, dataIn, dataOut, status}
 use Rattle.bus.specs.Line.{Line, mayGo, cutAfter, send, sendAll, sent, goesOn, byteOut, uncutLine}
-use Rattle.operations.specs.Cycles.{waiting, polls, outcomeOf, isPassed, readCycles, readOutputs, outputs, programCycles, eraseCycles}
+use Rattle.sequences.specs.Cycles.{waiting, polls, outcomeOf, isPassed, readCycles, readOutputs, outputs, programCycles, eraseCycles}
 use Rattle.operations.specs.Trace.{eraseSends, programSends, readSends}
-use Rattle.operations.specs.declared.Outcome.the-variants.{Passed, Silent, Cut, Illegal}
+use Rattle.sequences.specs.declared.Outcome.the-variants.{Passed, Silent, Cut, Illegal}
 
 abbrev small : Geometry
 small = record { main = 32; spare = 16; pages = 4; blocks = 4; logical = 2 }

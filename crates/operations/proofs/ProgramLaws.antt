@@ -14,15 +14,16 @@ use Rattle.cells.specs.Cells.{programmed, weakened}
 use Rattle.cells.specs.Part.{part, put}
 use Rattle.cells.proofs.CellLaws.{length-programmed, programmed-again}
 use Rattle.cells.proofs.PartLaws.{length-part, part-put, put-put, length-put}
-use Rattle.chip.specs.declared.interface.Interface.{Interface}
-use Rattle.chip.specs.Interface.{beginning, fullAddress, inPhase, started, columnOfAddress, failedFor, nextFate}
-use Rattle.chip.specs.Device.{Device, Setting, Cycle, device, withPort, exec, rowAt, fitting, completed, isConfirm}
-use Rattle.chip.specs.Device.Cycle.{command, dataIn}
+use Rattle.interface.specs.declared.Interface.{Interface}
+use Rattle.interface.specs.Interface.{beginning, fullAddress, inPhase, started, columnOfAddress, failedFor, nextFate}
+use Rattle.array.specs.Device.{Device, Setting, device, withPort, rowAt, fitting, completed}
+use Rattle.chip.specs.Chip.{Cycle, exec, isConfirm}
+use Rattle.chip.specs.Chip.Cycle.{command, dataIn}
 use Rattle.bus.specs.Line.{Line, run, sendAll, uncutLine, still, AllStill}
 use Rattle.bus.proofs.LineLaws.{by-test, run-append}
 use Rattle.bus.proofs.QuietLaws.{quiet-run, still-take, still-append, still-address, still-data}
 use Rattle.bus.proofs.StepLaws.{atColumn, busyWith, begin-program, five-bytes, data-taken, confirm-program}
-use Rattle.operations.specs.Cycles.{programData, addressCycles, programCycles}
+use Rattle.sequences.specs.Cycles.{programData, addressCycles, programCycles}
 use Rattle.operations.specs.Trace.{programStarts}
 use Rattle.operations.specs.Ends.{Called, CanProgram, endOf, endsAs, answered, confirmedEnd, programEnd, wordFor}
 use Rattle.operations.proofs.CallLaws.{uncut-is, fitting-holds, column-is, row-is, address-holds, arms, part-arms}

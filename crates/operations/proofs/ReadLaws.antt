@@ -14,19 +14,20 @@ use Rattle.geometry.specs.Sizes.{pageSize, blockSize, chipSize, rowCount, colum
 use Rattle.geometry.proofs.SizeLaws.{row-count-most, page-size-most, row-within}
 use Rattle.cells.specs.Part.{part}
 use Rattle.cells.proofs.PartLaws.{length-part}
-use Rattle.chip.specs.declared.interface.Interface.{Interface}
-use Rattle.chip.specs.Interface.{beginning, fullAddress, inPhase, outputResumed, started, latched, addressed, busyOf}
-use Rattle.chip.specs.Device.{Device, Setting, Cycle, device, withPort, exec, rowAt, fitting, completed, isConfirm, pageLoaded, nextColumn, dataByte}
-use Rattle.chip.specs.Device.Cycle.{command, address, dataOut}
+use Rattle.interface.specs.declared.Interface.{Interface}
+use Rattle.interface.specs.Interface.{beginning, fullAddress, inPhase, outputResumed, started, latched, addressed, busyOf}
+use Rattle.array.specs.Device.{Device, Setting, device, withPort, rowAt, fitting, completed, pageLoaded}
+use Rattle.chip.specs.Chip.{Cycle, exec, isConfirm, nextColumn, dataByte}
+use Rattle.chip.specs.Chip.Cycle.{command, address, dataOut}
 use Rattle.bus.specs.Line.{Line, run, send, sendAll, uncutLine, cutLine, still, AllStill, Quiet, Legal, goesOn, byteOut, mayGo}
 use Rattle.bus.proofs.LineLaws.{by-test, sendAll-append, run-uncut, run-cut, send-one, send-on, goes, admits-more}
 use Rattle.bus.proofs.LegalLaws.{legal-run, legal-take}
 use Rattle.bus.proofs.QuietLaws.{quiet-run, still-take, still-address, still-out}
 use Rattle.bus.proofs.StepLaws.{atColumn, busyWith, begin-read, resume-output, five-bytes, confirm-read, one-out, data-given}
-use Rattle.operations.specs.Cycles.{readAddress, addressCycles, rowCycles, pageRead, pageLine, readCycles, readOutcome, readOutputs, outputs, isPassed, outcomeOf, endedAs}
+use Rattle.sequences.specs.Cycles.{readAddress, addressCycles, rowCycles, pageRead, pageLine, readCycles, readOutcome, readOutputs, outputs, isPassed, outcomeOf, endedAs}
 use Rattle.operations.specs.Trace.{readStarts}
 use Rattle.operations.specs.Ends.{Called, CanRead, End, endOf, endsAs, passes, confirmedEnd, readEnd, endOfRead, readTotal, totalFor, wordFor}
-use Rattle.operations.specs.declared.Outcome.the-variants.{Passed, Silent, Cut}
+use Rattle.sequences.specs.declared.Outcome.the-variants.{Passed, Silent, Cut}
 use Rattle.operations.proofs.CallLaws.{uncut-is, fitting-holds, row-is, column-is, address-holds}
 use Rattle.operations.proofs.TraceLaws.{effect-starts}
 use Rattle.operations.proofs.ConfirmLaws.{confirmed-legal, through}

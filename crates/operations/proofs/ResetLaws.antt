@@ -8,15 +8,16 @@ use lib.Dec.{ltb}
 use lib.ListN.{length, take}
 use Rattle.geometry.specs.Limits.{Valid}
 use Rattle.geometry.specs.Sizes.{pageSize, blockSize, chipSize}
-use Rattle.chip.specs.Interface.{afterReset, inPhase}
-use Rattle.chip.specs.Device.{Device, Setting, Cycle, withPort, exec, statusRead, isConfirm}
-use Rattle.chip.specs.Device.Cycle.{command, status}
+use Rattle.interface.specs.Interface.{afterReset, inPhase}
+use Rattle.array.specs.Device.{Device, Setting, withPort}
+use Rattle.chip.specs.Chip.{Cycle, exec, statusRead, isConfirm}
+use Rattle.chip.specs.Chip.Cycle.{command, status}
 use Rattle.bus.specs.Line.{Line, run, sendAll, uncutLine, cutLine, Legal, Quiet, still, AllStill}
 use Rattle.bus.proofs.LineLaws.{by-test, run-uncut, run-cut}
 use Rattle.bus.proofs.LegalLaws.{legal-run, legal-take}
 use Rattle.bus.proofs.QuietLaws.{quiet-run}
 use Rattle.bus.proofs.StepLaws.{reset-command, status-ready}
-use Rattle.operations.specs.Cycles.{resetCycles, endedAs}
+use Rattle.sequences.specs.Cycles.{resetCycles, endedAs}
 use Rattle.operations.specs.Ends.{Called, resetEnd, endOfReset}
 use Rattle.operations.proofs.CallLaws.{uncut-is}
 use Rattle.operations.proofs.EndLaws.{same-end}

@@ -9,8 +9,9 @@ use borrow.Author.Tests.{leb-true, leb-false}
 use lib.Dec.{leb}
 use lib.ListN.{length, take, length-append}
 use lib.Seq.{take-all}
-use Rattle.chip.specs.Device.{Device, Setting, Cycle}
-use Rattle.chip.specs.Device.Cycle.{command}
+use Rattle.array.specs.Device.{Device, Setting}
+use Rattle.chip.specs.Chip.{Cycle}
+use Rattle.chip.specs.Chip.Cycle.{command}
 use Rattle.bus.specs.Line.{Line, run, sendAll, uncutLine, cutLine, goesOn, Going, Legal}
 use Rattle.bus.proofs.LineLaws.{by-test, run-uncut, run-cut, goes}
 use Rattle.bus.proofs.LegalLaws.{legal-run, legal-first, legal-start}

@@ -9,12 +9,12 @@ use Rattle.geometry.specs.Limits.{Valid}
 use Rattle.geometry.specs.Sizes.{pageSize, blockSize, chipSize, rowCount, rowOf}
 use Rattle.cells.specs.Cells.{programmed, weakened, raised}
 use Rattle.cells.specs.Part.{part, put}
-use Rattle.chip.specs.Interface.{fateWord, nextFate, busyOf, failedFor}
-use Rattle.chip.specs.Device.{Setting, Device}
+use Rattle.interface.specs.Interface.{fateWord, nextFate, busyOf, failedFor}
+use Rattle.array.specs.Device.{Setting, Device}
 use Rattle.bus.specs.Line.{Line, sendAll}
-use Rattle.operations.specs.Cycles.{outcomeOf, endedAs, resetCycles, readCycles, readOutcome}
-use Rattle.operations.specs.declared.Outcome.{Outcome}
-use Rattle.operations.specs.declared.Outcome.the-variants.{Passed, Failed, Silent, Cut, Illegal}
+use Rattle.sequences.specs.Cycles.{outcomeOf, endedAs, resetCycles, readCycles, readOutcome}
+use Rattle.sequences.specs.declared.Outcome.{Outcome}
+use Rattle.sequences.specs.declared.Outcome.the-variants.{Passed, Failed, Silent, Cut, Illegal}
 
 -- the chip as the store calls it: all lengths fit, no command under way, nothing refused or cut
 pub record Called (s : Setting) (l : Line) : Type 0 where

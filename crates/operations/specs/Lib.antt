@@ -1,3 +1,2 @@
-pub mod Cycles
 pub mod Ends
 pub mod Trace

@@ -2,11 +2,12 @@
 use Prim.Native.Nat.{ℕ, _/_, _%_}
 use mathlib.Core.Bool.{cond}
 use mathlib.Core.List.{List, [], _∷_, _++_}
-use Rattle.chip.specs.Device.{Setting, Cycle}
-use Rattle.chip.specs.Device.Cycle.{command}
+use Rattle.array.specs.Device.{Setting}
+use Rattle.chip.specs.Chip.{Cycle}
+use Rattle.chip.specs.Chip.Cycle.{command}
 use Rattle.bus.specs.Line.{Line, sendAll, sent, goesOn}
-use Rattle.operations.specs.Cycles.{readAddress, programData, eraseAddress, confirmedCycles, readCycles, programCycles, eraseCycles, outcomeOf}
-use Rattle.operations.specs.declared.Outcome.{Outcome}
+use Rattle.sequences.specs.Cycles.{readAddress, programData, eraseAddress, confirmedCycles, readCycles, programCycles, eraseCycles, outcomeOf}
+use Rattle.sequences.specs.declared.Outcome.{Outcome}
 
 -- kind: 1 read, 2 program, 3 erase. bytes: the data of a program. before: the array when the confirm cycle came
 pub record ArrayOperation : Type 0 where

@@ -1,7 +1,7 @@
 -- `bus::data_in` meets its contract. Assumes nothing.
 use Rattle.bus.proofs.LineLaws.{left-of-admits, line-sent, line-kept}
 use Rattle.bus.specs.Line.{line}
-use Rattle.chip.specs.Device.{exec}
+use Rattle.chip.specs.Chip.{exec}
 use mathlib.Core.List.{[]}
 use mathlib.Core.Path.{refl, sym, _∙_}
 use borrow.Author.Needs.{needs}

@@ -1,7 +1,7 @@
 -- `bus::data_out` meets its contract: a cycle that may go is the chip's, and one that may not leaves the chip alone. Assumes nothing.
 use mathlib.Core.Path.{sym, _∙_}
 use mathlib.Core.List.{[]}
-use Rattle.chip.specs.Device.{exec}
+use Rattle.chip.specs.Chip.{exec}
 use Rattle.bus.specs.Line.{line, byteOut}
 use Rattle.bus.proofs.LineLaws.{left-of-admits, line-sent, line-kept}
 use borrow.Author.Needs.{needs}

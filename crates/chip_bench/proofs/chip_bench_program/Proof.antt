@@ -1,9 +1,9 @@
 -- `chip_bench::chip_bench_program` meets its contract. Assumes nothing.
 use Rattle.chip_bench.specs.Start.{part, begun}
-use Rattle.operations.specs.Cycles.{programCycles}
+use Rattle.sequences.specs.Cycles.{programCycles}
 use Rattle.bus.proofs.LineLaws.{sent-counts}
 use Rattle.bus.specs.Line.{Line}
-use Rattle.chip.specs.Device.{setting}
+use Rattle.array.specs.Device.{setting}
 use mathlib.Core.Path.{ap}
 use native.Mathlib.Omega.{arith}
 use denote.Ref.{now}

@@ -1,9 +1,9 @@
 -- `operations::erase` meets its contract: 60h and the row, the confirm cycle and 70h, and the status reads. Assumes nothing.
 use mathlib.Core.Path.{_∙_}
 use borrow.Author.Needs.{needs}
-use Rattle.operations.specs.Cycles.{eraseAddress}
-use Rattle.operations.proofs.DataLaws.{onward}
-use Rattle.operations.proofs.PollLaws.{confirmed-all}
+use Rattle.sequences.specs.Cycles.{eraseAddress}
+use Rattle.sequences.proofs.DataLaws.{onward}
+use Rattle.sequences.proofs.PollLaws.{confirmed-all}
 use Rattle.operations.proofs.erase.Statement.{statement}
 use Rattle.operations.proofs.erase.Tie as tie
 

@@ -1,9 +1,9 @@
 -- `operations::program` meets its contract: 80h, the address and the data, the confirm cycle and 70h, and the status reads. Assumes nothing.
 use mathlib.Core.Path.{_∙_}
 use borrow.Author.Needs.{needs}
-use Rattle.operations.specs.Cycles.{addressCycles, programData}
-use Rattle.operations.proofs.DataLaws.{onward, joined}
-use Rattle.operations.proofs.PollLaws.{confirmed-all}
+use Rattle.sequences.specs.Cycles.{addressCycles, programData}
+use Rattle.sequences.proofs.DataLaws.{onward, joined}
+use Rattle.sequences.proofs.PollLaws.{confirmed-all}
 use Rattle.operations.proofs.program.Statement.{statement}
 use Rattle.operations.proofs.program.Tie as tie
 

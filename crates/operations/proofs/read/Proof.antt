@@ -5,9 +5,9 @@ use mathlib.Core.Path.{sym, ap, _∙_}
 use borrow.Author.Needs.{needs}
 use lib.ListN.{length}
 use Rattle.cells.specs.Cells.{over}
-use Rattle.operations.specs.Cycles.{isPassed, readAddress}
-use Rattle.operations.proofs.DataLaws.{onward, passed-by-tag, other-by-tag, read-stops, read-goes}
-use Rattle.operations.proofs.PollLaws.{confirmed-all}
+use Rattle.sequences.specs.Cycles.{isPassed, readAddress}
+use Rattle.sequences.proofs.DataLaws.{onward, passed-by-tag, other-by-tag, read-stops, read-goes}
+use Rattle.sequences.proofs.PollLaws.{confirmed-all}
 use Rattle.operations.proofs.read.Statement.{statement}
 use Rattle.operations.proofs.read.Tie as tie
 

@@ -1,6 +1,6 @@
 -- `operations::reset` meets its contract: the two command cycles and a status read. Assumes nothing.
 use borrow.Author.Needs.{needs}
-use Rattle.operations.proofs.DataLaws.{lone, joined}
+use Rattle.sequences.proofs.DataLaws.{lone, joined}
 use Rattle.operations.proofs.reset.Statement.{statement}
 use Rattle.operations.proofs.reset.Tie as tie
 

@@ -1,0 +1,95 @@
+-- `array::complete` meets its contract: the row and its block lie on the chip. Assumes nothing.
+use borrow.Author.Needs.{needs}
+use borrow.Author.Tests.{eq-eqb, ne-eqb}
+use Rattle.array.specs.Device.{completed}
+use Rattle.array.proofs.DeviceLaws.{block-below}
+use Rattle.array.proofs.complete.Statement.{statement}
+use Rattle.array.proofs.complete.Tie as tie
+
+page-loaded-requires : tie.Need-page-loaded-requires
+page-loaded-requires c κs = search needs
+
+returns : tie.Need-returns
+unfolding completed
+returns c = rw (c .page-loaded .ensures) (search eq-eqb)
+
+shows-status-requires : tie.Need-shows-status-requires
+shows-status-requires c κs = search needs
+
+returns-2 : tie.Need-returns-2
+unfolding completed
+returns-2 c = rw (c .shows-status .ensures) (search ne-eqb)
+
+row-of-address-requires : tie.Need-row-of-address-requires
+row-of-address-requires c κs = search needs
+
+program-rest-requires : tie.Need-program-rest-requires
+program-rest-requires c κs =
+    let start = c .before .before .before .before .before .before .before .before in
+    (start .pre .0 .is-valid, (start .pre .0 .array-long, (start .pre .0 .register-long, rw (c .before .before .row-of-address .ensures) (start .pre .1))))
+
+shows-status-requires-2 : tie.Need-shows-status-requires-2
+shows-status-requires-2 c κs = search needs
+
+same-length : tie.Need-same-length
+same-length c = search needs
+
+returns-3 : tie.Need-returns-3
+unfolding completed
+returns-3 c = rw (c .shows-status2 .ensures, c .before .before .before .program-rest .ensures, c .before .before .before .before .before .before .row-of-address .ensures) (search (eq-eqb, ne-eqb))
+
+block-of-row-requires : tie.Need-block-of-row-requires
+block-of-row-requires c κs = search needs
+
+erase-rest-requires : tie.Need-erase-rest-requires
+erase-rest-requires c κs =
+    let start = c .before .before .before .before .before .before .before .before .before .before in
+    (start .pre .0 .is-valid, (start .pre .0 .array-long, block-below (start .args .g) (start .pre .0 .is-valid) _ _ (c .before .before .before .before .row-of-address .ensures) (c .before .block-of-row .ensures) (start .pre .1)))
+
+slice-write-history : tie.Need-slice-write-history
+slice-write-history c =
+    let start = c .before .before .before .before .before .before .before .before .before .before .before .before .before in
+    rw (start .pre .0 .history-long) (block-below (start .args .g) (start .pre .0 .is-valid) _ _ (c .before .before .before .before .before .before .before .row-of-address .ensures) (c .before .before .before .before .block-of-row .ensures) (start .pre .1))
+
+shows-status-requires-3 : tie.Need-shows-status-requires-3
+shows-status-requires-3 c κs = search needs
+
+same-length-2 : tie.Need-same-length-2
+same-length-2 c = search needs
+
+same-length-3 : tie.Need-same-length-3
+same-length-3 c = search needs
+
+returns-4 : tie.Need-returns-4
+unfolding completed
+returns-4 c = rw (c .shows-status3 .ensures, c .before .before .before .erase-rest .ensures, c .before .before .before .before .before .block-of-row .ensures, c .before .before .before .before .before .before .before .before .row-of-address .ensures) (search (eq-eqb, ne-eqb))
+
+refuse-requires : tie.Need-refuse-requires
+refuse-requires c κs = search needs
+
+returns-5 : tie.Need-returns-5
+unfolding completed
+returns-5 c = rw (c .refuse .ensures) (search (eq-eqb, ne-eqb))
+
+pub complete-spec : {M : Type 1} → statement M
+complete-spec =
+    tie.close
+    (tie.spec
+    page-loaded-requires
+    returns
+    shows-status-requires
+    returns-2
+    row-of-address-requires
+    program-rest-requires
+    shows-status-requires-2
+    same-length
+    returns-3
+    block-of-row-requires
+    erase-rest-requires
+    slice-write-history
+    shows-status-requires-3
+    same-length-2
+    same-length-3
+    returns-4
+    refuse-requires
+    returns-5)

@@ -1,0 +1,67 @@
+-- `array::confirm_erase` meets its contract: the row's block lies on the chip. Assumes nothing.
+use borrow.Author.Needs.{needs}
+use borrow.Author.Tests.{eq-eqb, ne-eqb}
+use Rattle.array.specs.Device.{eraseStarted}
+use Rattle.array.proofs.DeviceLaws.{block-below}
+use Rattle.array.proofs.confirm_erase.Statement.{statement}
+use Rattle.array.proofs.confirm_erase.Tie as tie
+
+refuse-requires : tie.Need-refuse-requires
+refuse-requires c κs = search needs
+
+returns : tie.Need-returns
+unfolding eraseStarted
+returns c = λ p. rw (c .refuse .ensures) (search ne-eqb)
+
+refuse-requires-2 : tie.Need-refuse-requires-2
+refuse-requires-2 c κs = search needs
+
+returns-2 : tie.Need-returns-2
+unfolding eraseStarted
+returns-2 c = λ p. rw (c .refuse2 .ensures) (search (eq-eqb, ne-eqb))
+
+row-of-address-requires : tie.Need-row-of-address-requires
+row-of-address-requires c κs = search needs
+
+block-of-row-requires : tie.Need-block-of-row-requires
+block-of-row-requires c κs = search needs
+
+erase-part-requires : tie.Need-erase-part-requires
+erase-part-requires c κs =
+    let start = c .before .before .before .before .before .before .before .before .before in
+    (start .pre .0, (start .pre .1 .0, (start .pre .1 .1 .1 .0, block-below (start .args .g) (start .pre .0) _ _ (c .before .before .row-of-address .ensures) (c .before .block-of-row .ensures) (start .pre .1 .1 .1 .1))))
+
+slice-write-history : tie.Need-slice-write-history
+slice-write-history c =
+    let start = c .before .before .before .before .before .before .before .before .before .before .before .before in
+    rw (start .pre .1 .1 .0) (block-below (start .args .g) (start .pre .0) _ _ (c .before .before .before .before .before .row-of-address .ensures) (c .before .before .before .before .block-of-row .ensures) (start .pre .1 .1 .1 .1))
+
+start-requires : tie.Need-start-requires
+start-requires c κs = search needs
+
+same-length : tie.Need-same-length
+same-length c = search needs
+
+same-length-2 : tie.Need-same-length-2
+same-length-2 c = search needs
+
+returns-3 : tie.Need-returns-3
+unfolding eraseStarted
+returns-3 c = λ p. rw (c .start .ensures, c .before .before .before .erase-part .ensures, c .before .before .before .before .before .block-of-row .ensures, c .before .before .before .before .before .before .row-of-address .ensures) (search eq-eqb)
+
+pub confirm-erase-spec : {M : Type 1} → statement M
+confirm-erase-spec =
+    tie.close
+    (tie.spec
+    refuse-requires
+    returns
+    refuse-requires-2
+    returns-2
+    row-of-address-requires
+    block-of-row-requires
+    erase-part-requires
+    slice-write-history
+    start-requires
+    same-length
+    same-length-2
+    returns-3)

@@ -1,0 +1,118 @@
+-- `array::confirm_program` meets its contract: the row and its block lie on the chip, and the page's number fits a byte of the history.
+-- Assumes nothing.
+use native.Mathlib.Omega.{arith}
+use borrow.Author.Needs.{needs}
+use borrow.Author.Tests.{eq-eqb, ne-eqb, le-leb, lt-leb}
+use Rattle.geometry.proofs.SizeLaws.{row-page-below}
+use Rattle.array.specs.Device.{programStarted}
+use Rattle.array.proofs.DeviceLaws.{block-below}
+use Rattle.array.proofs.confirm_program.Statement.{statement}
+use Rattle.array.proofs.confirm_program.Tie as tie
+
+refuse-requires : tie.Need-refuse-requires
+refuse-requires c κs = search needs
+
+returns : tie.Need-returns
+unfolding programStarted
+returns c = rw (c .refuse .ensures) (search ne-eqb)
+
+refuse-requires-2 : tie.Need-refuse-requires-2
+refuse-requires-2 c κs = search needs
+
+returns-2 : tie.Need-returns-2
+unfolding programStarted
+returns-2 c = rw (c .refuse2 .ensures) (search (eq-eqb, ne-eqb))
+
+page-size-requires : tie.Need-page-size-requires
+page-size-requires c κs = search needs
+
+refuse-requires-3 : tie.Need-refuse-requires-3
+refuse-requires-3 c κs = search needs
+
+returns-3 : tie.Need-returns-3
+unfolding programStarted
+returns-3 c = rw (c .refuse3 .ensures, ← c .before .before .page-size .ensures) (search (eq-eqb, ne-eqb))
+
+row-of-address-requires : tie.Need-row-of-address-requires
+row-of-address-requires c κs = search needs
+
+block-of-row-requires : tie.Need-block-of-row-requires
+block-of-row-requires c κs = search needs
+
+page-of-row-requires : tie.Need-page-of-row-requires
+page-of-row-requires c κs = search needs
+
+slice-read-wide : tie.Need-slice-read-wide
+slice-read-wide c =
+    let start = c .before .before .before .before .before .before .before .before .before .before .before .before .before in
+    rw (start .pre .0 .history-long) (block-below (start .args .g) (start .pre .0 .is-valid) _ _ (c .before .before .before .row-of-address .ensures) (c .before .before .block-of-row .ensures) (start .pre .1 .1))
+
+wide-requires : tie.Need-wide-requires
+wide-requires c κs = search needs
+
+refuse-requires-4 : tie.Need-refuse-requires-4
+refuse-requires-4 c κs = search needs
+
+returns-4 : tie.Need-returns-4
+unfolding programStarted
+returns-4 c = rw (c .refuse4 .ensures, ← c .before .before .before .before .before .before .row-of-address .ensures, ← c .before .before .before .before .before .block-of-row .ensures, ← c .before .before .before .before .page-of-row .ensures, ← c .before .before .wide .ensures, ← c .before .before .before .before .before .before .before .before .page-size .ensures) (search (eq-eqb, lt-leb))
+
+program-part-requires : tie.Need-program-part-requires
+program-part-requires c κs =
+    let start = c .before .before .before .before .before .before .before .before .before .before .before .before .before .before .before .before in
+    (start .pre .0 .is-valid, (start .pre .0 .array-long, (start .pre .0 .register-long, (start .pre .1 .0, rw (c .before .before .before .before .before .before .row-of-address .ensures) (start .pre .1 .1)))))
+
+add-history : tie.Need-add-history
+add-history c =
+    let start = c .before .before .before .before .before .before .before .before .before .before .before .before .before .before .before .before .before .before .before in
+    rw (c .before .before .before .before .before .before .before .page-of-row .ensures) (omega (arith, start .pre .0 .is-valid, row-page-below (start .args .g) (start .pre .0 .is-valid) (c .before .before .before .before .before .before .before .before .before .row-of-address .result)))
+
+cast-history : tie.Need-cast-history
+cast-history c =
+    let start = c .before .before .before .before .before .before .before .before .before .before .before .before .before .before .before .before .before .before .before in
+    rw (c .before .before .before .before .before .before .before .page-of-row .ensures) (omega (arith, start .pre .0 .is-valid, row-page-below (start .args .g) (start .pre .0 .is-valid) (c .before .before .before .before .before .before .before .before .before .row-of-address .result)))
+
+slice-write-history : tie.Need-slice-write-history
+slice-write-history c =
+    let start = c .before .before .before .before .before .before .before .before .before .before .before .before .before .before .before .before .before .before .before in
+    rw (start .pre .0 .history-long) (block-below (start .args .g) (start .pre .0 .is-valid) _ _ (c .before .before .before .before .before .before .before .before .before .row-of-address .ensures) (c .before .before .before .before .before .before .before .before .block-of-row .ensures) (start .pre .1 .1))
+
+start-requires : tie.Need-start-requires
+start-requires c κs = search needs
+
+same-length : tie.Need-same-length
+same-length c = search needs
+
+same-length-2 : tie.Need-same-length-2
+same-length-2 c = search needs
+
+returns-5 : tie.Need-returns-5
+unfolding programStarted
+returns-5 c = rw (c .start .ensures, c .before .before .before .program-part .ensures, ← c .before .before .before .before .before .before .before .before .before .before .row-of-address .ensures, ← c .before .before .before .before .before .before .before .before .before .block-of-row .ensures, ← c .before .before .before .before .before .before .before .before .page-of-row .ensures, ← c .before .before .before .before .before .before .wide .ensures, ← c .before .before .before .before .before .before .before .before .before .before .before .before .page-size .ensures) (search (eq-eqb, le-leb))
+
+pub confirm-program-spec : {M : Type 1} → statement M
+confirm-program-spec =
+    tie.close
+    (tie.spec
+    refuse-requires
+    returns
+    refuse-requires-2
+    returns-2
+    page-size-requires
+    refuse-requires-3
+    returns-3
+    row-of-address-requires
+    block-of-row-requires
+    page-of-row-requires
+    slice-read-wide
+    wide-requires
+    refuse-requires-4
+    returns-4
+    program-part-requires
+    add-history
+    cast-history
+    slice-write-history
+    start-requires
+    same-length
+    same-length-2
+    returns-5)

@@ -1,0 +1,222 @@
+// The array under way of a read, program or erase: what the confirm cycle starts, and what a ready status completes.
+use geometry::Geometry;
+use interface::Interface;
+ghost use mathlib.Core.Path.{_≡_};
+ghost use mathlib.Core.List.{List};
+ghost use Prim.Native.Nat.{ℕ, _*_, _<_};
+ghost use lib.ListN.{length, replicate};
+ghost use Rattle.geometry.specs.Limits.{Valid};
+ghost use Rattle.geometry.specs.Sizes.{pageSize, blockSize, chipSize, rowCount};
+ghost use Rattle.cells.specs.Cells.{programmed, weakened, raised};
+ghost use Rattle.cells.specs.Part.{part, put};
+ghost use Rattle.interface.specs.Interface.{inPhase};
+ghost use Rattle.array.specs.Device.{device, setting, Fitting, rowAt, readStarted, programStarted, eraseStarted, pageLoaded, completed};
+
+fn wide(x: u8) -> usize
+    ensures { λ r. ⌜ r ≡ x ⌝ }
+{
+    x as usize
+}
+
+// 30h: the page at the address goes to the register.
+pub fn confirm_read(
+    i: Interface,
+    g: Geometry,
+    array: &[u8],
+    register: &mut [u8],
+    fates: &[u32],
+) -> Interface
+    requires { ⌜ Valid g ⌝ }
+    requires { ⌜ length (now array) ≡ chipSize g ⌝ }
+    requires { ⌜ length (now register) ≡ pageSize g ⌝ }
+    requires { ⌜ rowAt i < rowCount g ⌝ }
+    ensures { λ r. ⌜ ((m h : List ℕ) → device r (now (array .entry)) (now (register .exit)) h ≡ readStarted (setting g m (now (fates .entry))) (device i (now (array .entry)) (now (register .entry)) h)) ⌝ }
+{
+    let phase = i.phase;
+    if phase != interface::READ_ADDRESS {
+        return i.refuse();
+    }
+    let count = i.count;
+    if count != 5 {
+        return i.refuse();
+    }
+    let address = i.address;
+    let row = interface::row_of_address(address);
+    let at = geometry::row_start(g, row);
+    let end = at + geometry::page_size(g);
+    cells::copy(&array[at..end], register);
+    i.start(interface::READ, fates)
+}
+
+// The program's effect on the array as far as the mask goes.
+fn program_part(row: usize, g: Geometry, array: &mut [u8], data: &[u8], mask: &[u8])
+    requires { ⌜ Valid g ⌝ }
+    requires { ⌜ length (now array) ≡ chipSize g ⌝ }
+    requires { ⌜ length (now «data») ≡ pageSize g ⌝ }
+    requires { ⌜ length (now mask) ≡ blockSize g ⌝ }
+    requires { ⌜ row < rowCount g ⌝ }
+    ensures { λ _. ⌜ now (array .exit) ≡ put (row * pageSize g) (programmed (part (row * pageSize g) (pageSize g) (now (array .entry))) (weakened (now («data» .entry)) (now (mask .entry)))) (now (array .entry)) ⌝ }
+{
+    let at = geometry::row_start(g, row);
+    let end = at + geometry::page_size(g);
+    cells::program_masked(&mut array[at..end], data, mask);
+}
+
+// 10h: a page above all that were programmed since the block's erase.
+pub fn confirm_program(
+    i: Interface,
+    g: Geometry,
+    array: &mut [u8],
+    register: &[u8],
+    history: &mut [u8],
+    mask: &[u8],
+    fates: &[u32],
+) -> Interface
+    requires { ⌜ Fitting g (length (now array)) (length (now register)) (length (now history)) ⌝ }
+    requires { ⌜ length (now mask) ≡ blockSize g ⌝ }
+    requires { ⌜ rowAt i < rowCount g ⌝ }
+    ensures { λ r. ⌜ device r (now (array .exit)) (now (register .entry)) (now (history .exit)) ≡ programStarted (setting g (now (mask .entry)) (now (fates .entry))) (device i (now (array .entry)) (now (register .entry)) (now (history .entry))) ⌝ }
+{
+    let phase = i.phase;
+    if phase != interface::PROGRAM_DATA {
+        return i.refuse();
+    }
+    let first = i.first;
+    if first != 0 {
+        return i.refuse();
+    }
+    let column = i.column;
+    if column != geometry::page_size(g) {
+        return i.refuse();
+    }
+    let address = i.address;
+    let row = interface::row_of_address(address);
+    let block = geometry::block_of_row(g, row);
+    let page = geometry::page_of_row(g, row);
+    if page < wide(history[block]) {
+        return i.refuse();
+    }
+    program_part(row, g, array, register, mask);
+    history[block] = (page + 1) as u8;
+    i.start(interface::PROGRAM, fates)
+}
+
+// The erase's effect on the array as far as the mask goes. The block's part is lent on, the rest stays.
+fn erase_part(block: usize, g: Geometry, array: &mut [u8], mask: &[u8])
+    requires { ⌜ Valid g ⌝ }
+    requires { ⌜ length (now array) ≡ chipSize g ⌝ }
+    requires { ⌜ length (now mask) ≡ blockSize g ⌝ }
+    requires { ⌜ block < g .blocks ⌝ }
+    ensures { λ _. ⌜ now (array .exit) ≡ put (block * blockSize g) (raised (part (block * blockSize g) (blockSize g) (now (array .entry))) (now (mask .entry))) (now (array .entry)) ⌝ }
+{
+    let at = geometry::block_start(g, block);
+    let end = at + geometry::block_size(g);
+    cells::erase_masked(&mut array[at..end], mask);
+}
+
+// D0h: the block of the row; the row's page bits are ignored.
+pub fn confirm_erase(
+    i: Interface,
+    g: Geometry,
+    array: &mut [u8],
+    history: &mut [u8],
+    mask: &[u8],
+    fates: &[u32],
+) -> Interface
+    requires { ⌜ Valid g ⌝ }
+    requires { ⌜ length (now array) ≡ chipSize g ⌝ }
+    requires { ⌜ length (now history) ≡ g .blocks ⌝ }
+    requires { ⌜ length (now mask) ≡ blockSize g ⌝ }
+    requires { ⌜ rowAt i < rowCount g ⌝ }
+    ensures { λ r. ⌜ ((p : List ℕ) → device r (now (array .exit)) p (now (history .exit)) ≡ eraseStarted (setting g (now (mask .entry)) (now (fates .entry))) (device i (now (array .entry)) p (now (history .entry)))) ⌝ }
+{
+    let phase = i.phase;
+    if phase != interface::ERASE_ADDRESS {
+        return i.refuse();
+    }
+    let count = i.count;
+    if count != 5 {
+        return i.refuse();
+    }
+    let address = i.address;
+    let row = interface::row_of_address(address);
+    let block = geometry::block_of_row(g, row);
+    erase_part(block, g, array, mask);
+    history[block] = 255;
+    i.start(interface::ERASE, fates)
+}
+
+// A passed program: every bit that the data has clear is cleared.
+fn program_rest(row: usize, g: Geometry, array: &mut [u8], data: &[u8])
+    requires { ⌜ Valid g ⌝ }
+    requires { ⌜ length (now array) ≡ chipSize g ⌝ }
+    requires { ⌜ length (now «data») ≡ pageSize g ⌝ }
+    requires { ⌜ row < rowCount g ⌝ }
+    ensures { λ _. ⌜ now (array .exit) ≡ put (row * pageSize g) (programmed (part (row * pageSize g) (pageSize g) (now (array .entry))) (now («data» .entry))) (now (array .entry)) ⌝ }
+{
+    let at = geometry::row_start(g, row);
+    let end = at + geometry::page_size(g);
+    cells::program_whole(&mut array[at..end], data);
+}
+
+// A passed erase: every bit of the block is set.
+fn erase_rest(block: usize, g: Geometry, array: &mut [u8])
+    requires { ⌜ Valid g ⌝ }
+    requires { ⌜ length (now array) ≡ chipSize g ⌝ }
+    requires { ⌜ block < g .blocks ⌝ }
+    ensures { λ _. ⌜ now (array .exit) ≡ put (block * blockSize g) (replicate (blockSize g) 255) (now (array .entry)) ⌝ }
+{
+    let at = geometry::block_start(g, block);
+    let end = at + geometry::block_size(g);
+    cells::erase_whole(&mut array[at..end]);
+}
+
+fn page_loaded(mut i: Interface) -> Interface
+    ensures { λ r. ⌜ r ≡ pageLoaded i ⌝ }
+{
+    i.phase = interface::STATUS;
+    i.loaded = 1;
+    i
+}
+
+fn shows_status(mut i: Interface) -> Interface
+    ensures { λ r. ⌜ r ≡ inPhase 1 i ⌝ }
+{
+    i.phase = interface::STATUS;
+    i
+}
+
+// Ready is reported: the rest of the effect of an operation that passed.
+pub fn complete(
+    i: Interface,
+    g: Geometry,
+    array: &mut [u8],
+    register: &[u8],
+    history: &mut [u8],
+) -> Interface
+    requires { ⌜ Fitting g (length (now array)) (length (now register)) (length (now history)) ⌝ }
+    requires { ⌜ rowAt i < rowCount g ⌝ }
+    ensures { λ r. ⌜ device r (now (array .exit)) (now (register .entry)) (now (history .exit)) ≡ completed g (device i (now (array .entry)) (now (register .entry)) (now (history .entry))) ⌝ }
+{
+    let operation = i.operation;
+    if operation == interface::READ {
+        return page_loaded(i);
+    }
+    let failed = i.failed;
+    if failed != 0 {
+        return shows_status(i);
+    }
+    let address = i.address;
+    let row = interface::row_of_address(address);
+    if operation == interface::PROGRAM {
+        program_rest(row, g, array, register);
+        return shows_status(i);
+    }
+    if operation == interface::ERASE {
+        let block = geometry::block_of_row(g, row);
+        erase_rest(block, g, array);
+        history[block] = 0;
+        return shows_status(i);
+    }
+    i.refuse()
+}

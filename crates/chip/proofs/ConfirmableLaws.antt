@@ -1,0 +1,30 @@
+-- What the test before a confirm cycle tells. Assumes nothing.
+use Prim.Native.Nat.{ℕ, _+_, _-_, _/_, _≤_, _<_}
+use mathlib.Core.Bool.{true}
+use mathlib.Core.Path.{_≡_, _∙_}
+use mathlib.Core.List.{List, _++_, append-nil}
+use native.Mathlib.Nat.{mul-le-mul-right}
+use native.Mathlib.Omega.{arith}
+use borrow.Author.Tests.{eqb-true, ltb-true}
+use lib.ListN.{length, take, drop, drop-of-length-le}
+use Rattle.geometry.specs.declared.Geometry.{Geometry}
+use Rattle.geometry.specs.Limits.{Valid}
+use Rattle.geometry.specs.Sizes.{pageSize, blockSize, rowCount}
+use Rattle.geometry.proofs.LimitLaws.{both, limits}
+use Rattle.geometry.proofs.SizeLaws.{row-block-below}
+use Rattle.cells.specs.Cells.{over}
+use Rattle.cells.specs.Part.{part, put}
+use Rattle.cells.proofs.PartLaws.{put-lent, length-part}
+use Rattle.array.specs.Device.{Device, Setting, fitting, Fitting, rowAt}
+use Rattle.chip.specs.Chip.{confirmable}
+use Rattle.array.proofs.DeviceLaws.{fits}
+
+-- the test of a confirm cycle and the facts it stands for
+pub confirms : (s : Setting) (d : Device) → confirmable s d ≡ true
+    → Fitting (s .geometry) (length (d .array)) (length (d .register)) (length (d .history))
+    × ((length (s .mask) ≡ blockSize (s .geometry)) × (rowAt (d .port) < rowCount (s .geometry)))
+unfolding confirmable
+confirms s d t₀ =
+    let t₁ = both _ _ t₀ in
+    let t₂ = both _ _ (t₁ .1) in
+    (fits _ _ _ _ (t₁ .0), (eqb-true _ _ (t₂ .0), ltb-true _ _ (t₂ .1)))

@@ -1,0 +1,61 @@
+-- `chip::finish` meets its contract: the tests of the lengths and of the row give what the rest of the operation requires.
+-- Assumes nothing.
+use mathlib.Core.Path.{sym, _∙_}
+use borrow.Author.Needs.{needs}
+use borrow.Author.Tests.{lt-ltb, le-ltb}
+use Rattle.chip.specs.Chip.{finished}
+use Rattle.array.proofs.DeviceLaws.{fits}
+use Rattle.chip.proofs.finish.Statement.{statement}
+use Rattle.chip.proofs.finish.Tie as tie
+
+is-fitting-requires : tie.Need-is-fitting-requires
+is-fitting-requires c κs = search needs
+
+row-count-requires : tie.Need-row-count-requires
+row-count-requires c κs = fits _ _ _ _ (sym (c .before .is-fitting .ensures) ∙ c .if1 .taken) .is-valid
+
+row-of-address-requires : tie.Need-row-of-address-requires
+row-of-address-requires c κs = search needs
+
+complete-requires : tie.Need-complete-requires
+complete-requires c κs = (fits _ _ _ _ (sym (c .before .before .before .before .before .before .is-fitting .ensures) ∙ c .before .before .before .before .before .if1 .taken), rw (← c .before .before .before .row-of-address .ensures, ← c .before .before .before .before .row-count .ensures) (c .before .before .if2 .taken))
+
+same-length : tie.Need-same-length
+same-length c = search needs
+
+same-length-2 : tie.Need-same-length-2
+same-length-2 c = search needs
+
+returns : tie.Need-returns
+unfolding finished
+returns c = c .before .before .before .before .complete .ensures ∙ rw (sym (c .before .before .before .before .before .before .before .before .before .before .before .is-fitting .ensures) ∙ c .before .before .before .before .before .before .before .before .before .before .if1 .taken, ← c .before .before .before .before .before .before .before .before .row-of-address .ensures, ← c .before .before .before .before .before .before .before .before .before .row-count .ensures) (search lt-ltb)
+
+refuse-requires : tie.Need-refuse-requires
+refuse-requires c κs = search needs
+
+returns-2 : tie.Need-returns-2
+unfolding finished
+returns-2 c = rw (c .refuse .ensures, sym (c .before .before .before .before .before .is-fitting .ensures) ∙ c .before .before .before .before .if1 .taken, ← c .before .before .row-of-address .ensures, ← c .before .before .before .row-count .ensures) (search le-ltb)
+
+refuse-requires-2 : tie.Need-refuse-requires-2
+refuse-requires-2 c κs = search needs
+
+returns-3 : tie.Need-returns-3
+unfolding finished
+returns-3 c = rw (c .refuse2 .ensures, sym (c .before .before .is-fitting .ensures) ∙ c .before .if1 .left)
+
+pub finish-spec : {M : Type 1} → statement M
+finish-spec =
+    tie.close
+    (tie.spec
+    is-fitting-requires
+    row-count-requires
+    row-of-address-requires
+    complete-requires
+    same-length
+    same-length-2
+    returns
+    refuse-requires
+    returns-2
+    refuse-requires-2
+    returns-3)

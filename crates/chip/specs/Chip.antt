@@ -1,0 +1,90 @@
+-- What each bus cycle makes of the chip.
+use Prim.Native.Nat.{ℕ, _+_, _-_}
+use mathlib.Core.Bool.{Bool, true, false, cond}
+use lib.Dec.{eqb, ltb}
+use lib.ListN.{length, getD, set}
+use Rattle.geometry.specs.declared.Geometry.{Geometry}
+use Rattle.geometry.specs.Sizes.{blockSize, rowCount}
+use Rattle.interface.specs.declared.Interface.{Interface}
+use Rattle.interface.specs.Interface.{plainCommand, addressed, statusByte}
+use Rattle.array.specs.Device.{Device, Setting, device, withPort, illegalCycle, rowAt, lengthsFit, readStarted, programStarted, eraseStarted, completed}
+
+-- one bus cycle
+pub data Cycle : Type 0 where
+  command : ℕ → Cycle
+  address : ℕ → Cycle
+  dataIn : ℕ → Cycle
+  dataOut : Cycle
+  status : Cycle
+
+-- 30h, 10h, D0h
+unfoldable pub isConfirm : ℕ → Bool
+isConfirm code = cond (eqb code 48) true (cond (eqb code 16) true (eqb code 208))
+
+unfoldable pub confirmed : ℕ → Setting → Device → Device
+confirmed code s d = cond (eqb code 48) (readStarted s d) (cond (eqb code 16) (programStarted s d) (eraseStarted s d))
+
+unfoldable pub confirmable : Setting → Device → Bool
+confirmable s d =
+    cond (lengthsFit (s .geometry) d)
+    (cond (eqb (length (s .mask)) (blockSize (s .geometry))) (ltb (rowAt (d .port)) (rowCount (s .geometry))) false)
+    false
+
+-- a command cycle
+unfoldable pub commanded : ℕ → Setting → Device → Device
+commanded code s d =
+    cond (isConfirm code)
+    (cond (confirmable s d) (confirmed code s d) (illegalCycle d))
+    (withPort (plainCommand code (d .port)) d)
+
+abbrev pub nextColumn : Interface → Interface
+nextColumn i =
+    record { phase = i .phase; count = i .count; address = i .address; first = i .first; column = i .column + 1; operation = i .operation; busy = i .busy; failed = i .failed; loaded = i .loaded; fate = i .fate; illegal = i .illegal }
+
+-- a data input cycle: after 80h and its address, up to the last column
+unfoldable pub dataTaken : ℕ → Device → Device
+dataTaken byte d =
+    cond (eqb (d .port .phase) 6)
+    (cond (ltb (d .port .column) (length (d .register)))
+    (device (nextColumn (d .port)) (d .array) (set (d .register) (d .port .column) byte) (d .history))
+    (illegalCycle d))
+    (illegalCycle d)
+
+-- a data output cycle: after 00h with a page in the register, up to the last column
+unfoldable pub dataGiven : Device → Device
+dataGiven d =
+    cond (eqb (d .port .phase) 2)
+    (cond (ltb (d .port .column) (length (d .register))) (withPort (nextColumn (d .port)) d) (illegalCycle d))
+    (illegalCycle d)
+
+unfoldable pub dataByte : Device → ℕ
+dataByte d = cond (eqb (d .port .phase) 2) (getD (d .register) (d .port .column) 0) 0
+
+abbrev pub lessBusy : Interface → Interface
+lessBusy i =
+    record { phase = i .phase; count = i .count; address = i .address; first = i .first; column = i .column; operation = i .operation; busy = i .busy - 1; failed = i .failed; loaded = i .loaded; fate = i .fate; illegal = i .illegal }
+
+unfoldable pub finished : Geometry → Device → Device
+finished g d =
+    cond (lengthsFit g d) (cond (ltb (rowAt (d .port)) (rowCount g)) (completed g d) (illegalCycle d)) (illegalCycle d)
+
+-- a status read: after 70h
+unfoldable pub statusRead : Geometry → Device → Device
+statusRead g d =
+    cond (eqb (d .port .phase) 1) d
+    (cond (eqb (d .port .phase) 8)
+    (cond (eqb (d .port .busy) 0) (finished g d) (withPort (lessBusy (d .port)) d))
+    (illegalCycle d))
+
+unfoldable pub statusShown : Interface → ℕ
+statusShown i =
+    cond (eqb (i .phase) 1) (statusByte 1 (i .failed))
+    (cond (eqb (i .phase) 8) (cond (eqb (i .busy) 0) (statusByte 1 (i .failed)) (statusByte 0 0)) 0)
+
+-- the chip after one more cycle
+unfoldable pub exec : Setting → Device → Cycle → Device
+exec s d (command code) = commanded code s d
+exec s d (address byte) = withPort (addressed (s .geometry) byte (d .port)) d
+exec s d (dataIn byte) = dataTaken byte d
+exec s d dataOut = dataGiven d
+exec s d status = statusRead (s .geometry) d
