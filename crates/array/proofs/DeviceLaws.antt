@@ -5,7 +5,7 @@ use mathlib.Core.Path.{_≡_, _∙_}
 use mathlib.Core.List.{List, _++_, append-nil}
 use native.Mathlib.Nat.{mul-le-mul-right}
 use native.Mathlib.Omega.{arith}
-use borrow.Author.Tests.{eqb-true, ltb-true}
+use borrow.Author.Tests.{eqb-true}
 use lib.ListN.{length, take, drop, drop-of-length-le}
 use Rattle.geometry.specs.declared.Geometry.{Geometry}
 use Rattle.geometry.specs.Limits.{Valid}
@@ -15,7 +15,7 @@ use Rattle.geometry.proofs.SizeLaws.{row-block-below}
 use Rattle.cells.specs.Cells.{over}
 use Rattle.cells.specs.Part.{part, put}
 use Rattle.cells.proofs.PartLaws.{put-lent, length-part}
-use Rattle.array.specs.Device.{Device, Setting, fitting, Fitting, rowAt}
+use Rattle.array.specs.Device.{fitting, Fitting}
 
 -- the test of the lengths and the facts it stands for
 pub fits : (g : Geometry) (a r h : ℕ) → fitting g a r h ≡ true → Fitting g a r h

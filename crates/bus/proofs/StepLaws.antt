@@ -6,22 +6,20 @@ use mathlib.Core.Path.{_≡_, refl, sym, ap, ap₂, _∙_}
 use native.Mathlib.Nat.{zero-add, add-zero, sub-zero}
 use native.Mathlib.Omega.{arith}
 use native.Mathlib.Numerals.{add-one}
-use borrow.Author.Tests.{eq-eqb, ne-eqb, le-leb, lt-leb, lt-ltb, le-ltb, eqb-true, eqb-false}
-use lib.Dec.{eqb, leb, ltb}
+use borrow.Author.Tests.{eq-eqb, ne-eqb, le-leb, lt-leb, lt-ltb, le-ltb}
+use lib.Dec.{eqb}
 use lib.ListN.{length, set, getD, replicate, length-set}
 use lib.Seq.{sets}
 use Rattle.geometry.specs.declared.Geometry.{Geometry}
-use Rattle.geometry.specs.Limits.{Valid, valid}
 use Rattle.geometry.specs.Sizes.{pageSize, blockSize, rowCount, columnBytes, rowBytes}
-use Rattle.geometry.proofs.LimitLaws.{holds}
 use Rattle.cells.specs.Cells.{programmed, weakened, raised}
 use Rattle.interface.specs.declared.Interface.{Interface}
 use Rattle.interface.specs.Interface.{beginning, begun, inPhase, readMode, statusMode, outputResumed, plainCommand, shifted, moreAddress, fullAddress, addressFits, latched, addressed, afterReset, started}
 use Rattle.array.specs.Device.{Device, Setting, device, withPort, lengthsFit, rowAt, blockAt, pageAt, pageOf, withPage, blockOf, withBlock, completed, readStarted, programStarted, eraseStarted}
-use Rattle.chip.specs.Chip.{Cycle, exec, commanded, isConfirm, nextColumn, dataTaken, dataGiven, lessBusy, finished, statusRead, confirmable, confirmed}
+use Rattle.chip.specs.Chip.{exec, commanded, isConfirm, nextColumn, dataTaken, dataGiven, lessBusy, finished, statusRead, confirmable, confirmed}
 use Rattle.chip.specs.Chip.Cycle.{command, address, dataIn, dataOut, status}
 use Rattle.bus.specs.Line.{run}
-use Rattle.bus.proofs.LineLaws.{by-test, run-append}
+use Rattle.bus.proofs.LineLaws.{by-test}
 
 -- a phase in which address bytes are taken
 abbrev pub taking : ℕ → Bool

@@ -1,21 +1,12 @@
 -- What the test before a confirm cycle tells. Assumes nothing.
-use Prim.Native.Nat.{ℕ, _+_, _-_, _/_, _≤_, _<_}
+use Prim.Native.Nat.{_<_}
 use mathlib.Core.Bool.{true}
-use mathlib.Core.Path.{_≡_, _∙_}
-use mathlib.Core.List.{List, _++_, append-nil}
-use native.Mathlib.Nat.{mul-le-mul-right}
-use native.Mathlib.Omega.{arith}
+use mathlib.Core.Path.{_≡_}
 use borrow.Author.Tests.{eqb-true, ltb-true}
-use lib.ListN.{length, take, drop, drop-of-length-le}
-use Rattle.geometry.specs.declared.Geometry.{Geometry}
-use Rattle.geometry.specs.Limits.{Valid}
-use Rattle.geometry.specs.Sizes.{pageSize, blockSize, rowCount}
-use Rattle.geometry.proofs.LimitLaws.{both, limits}
-use Rattle.geometry.proofs.SizeLaws.{row-block-below}
-use Rattle.cells.specs.Cells.{over}
-use Rattle.cells.specs.Part.{part, put}
-use Rattle.cells.proofs.PartLaws.{put-lent, length-part}
-use Rattle.array.specs.Device.{Device, Setting, fitting, Fitting, rowAt}
+use lib.ListN.{length}
+use Rattle.geometry.specs.Sizes.{blockSize, rowCount}
+use Rattle.geometry.proofs.LimitLaws.{both}
+use Rattle.array.specs.Device.{Device, Setting, Fitting, rowAt}
 use Rattle.chip.specs.Chip.{confirmable}
 use Rattle.array.proofs.DeviceLaws.{fits}
 

@@ -1,20 +1,18 @@
 -- What every call on a ready chip has: lengths that fit, and an address that the chip takes.
-use Prim.Native.Nat.{ℕ, _+_, _*_, _/_, _%_, _<_}
+use Prim.Native.Nat.{ℕ, _+_, _*_, _<_}
 use mathlib.Core.Bool.{Bool, true, false, cond}
 use mathlib.Core.List.{List}
-use mathlib.Core.Path.{_≡_, refl, ap, _∙_}
+use mathlib.Core.Path.{_≡_, refl}
 use native.Mathlib.Omega.{arith}
 use borrow.Author.Tests.{eq-eqb, lt-ltb}
-use lib.ListN.{length}
 use Rattle.geometry.specs.declared.Geometry.{Geometry}
 use Rattle.geometry.specs.Limits.{Valid}
-use Rattle.geometry.specs.Sizes.{pageSize, blockSize, chipSize, rowCount}
+use Rattle.geometry.specs.Sizes.{pageSize, chipSize, rowCount}
 use Rattle.geometry.proofs.LimitLaws.{holds}
-use Rattle.geometry.proofs.SizeLaws.{row-count-most, page-size-most}
+use Rattle.geometry.proofs.SizeLaws.{page-size-most}
 use Rattle.interface.specs.Interface.{addressFits, rowOfAddress, columnOfAddress}
-use Rattle.array.specs.Device.{Device, Setting, fitting}
+use Rattle.array.specs.Device.{Device, fitting}
 use Rattle.bus.specs.Line.{Line, uncutLine}
-use Rattle.operations.specs.Ends.{Called}
 
 pub fitting-holds : (g : Geometry) (a r h : ℕ) → Valid g → a ≡ chipSize g → r ≡ pageSize g → h ≡ g .blocks → fitting g a r h ≡ true
 unfolding fitting

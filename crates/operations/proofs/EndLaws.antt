@@ -1,10 +1,10 @@
 -- How an operation with a confirm cycle ends, for every allowance, fate and mask.
-use Prim.Native.Nat.{ℕ, _+_, _-_, _≤_, _<_}
-use mathlib.Core.Bool.{Bool, true, false, cond, false≢true}
+use Prim.Native.Nat.{ℕ, _+_, _≤_, _<_}
+use mathlib.Core.Bool.{true, cond, false≢true}
 use mathlib.Core.List.{List}
 use mathlib.Core.Path.{_≡_, refl, sym, ap, subst, _∙_}
 use native.Mathlib.Omega.{arith}
-use borrow.Author.Tests.{eq-eqb, ne-eqb, le-leb, lt-leb, lt-ltb, le-ltb, leb-true, leb-false, ltb-true, ltb-false, eqb-true, eqb-false}
+use borrow.Author.Tests.{eq-eqb, ne-eqb, le-leb, lt-leb, lt-ltb, le-ltb, leb-true, leb-false, ltb-true, ltb-false}
 use lib.Dec.{eqb, leb, ltb}
 use lib.ListN.{length, take}
 use Rattle.geometry.specs.Limits.{Valid}
@@ -12,11 +12,10 @@ use Rattle.geometry.specs.Sizes.{pageSize, blockSize, chipSize}
 use Rattle.interface.specs.Interface.{busyOf, failedFor, nextFate}
 use Rattle.array.specs.Device.{Device, Setting}
 use Rattle.chip.specs.Chip.{Cycle}
-use Rattle.bus.specs.Line.{Line, run, sendAll, uncutLine, cutLine, Quiet}
+use Rattle.bus.specs.Line.{Line, run, sendAll, uncutLine, Quiet}
 use Rattle.bus.proofs.LineLaws.{by-test}
 use Rattle.sequences.specs.Cycles.{confirmedCycles, outcomeOf}
 use Rattle.operations.specs.Ends.{Called, End, endOf, confirmedEnd, endsAs, answered, wordFor, totalFor}
-use Rattle.sequences.specs.declared.Outcome.the-variants.{Passed, Failed, Silent, Cut}
 use Rattle.operations.proofs.ConfirmLaws.{Confirmed, through, silent, early-cut, late-cut}
 
 pub same-end : {x y : End} → x .outcome ≡ y .outcome → x .array ≡ y .array → x .history ≡ y .history → x .left ≡ y .left → x .fate ≡ y .fate → x ≡ y

@@ -1,6 +1,6 @@
 -- An erase, from 60h to the last status read.
 use Prim.Native.Nat.{ℕ, _+_, _*_, _/_, _<_, _≤_}
-use mathlib.Core.Bool.{Bool, true, cond}
+use mathlib.Core.Bool.{true, cond}
 use mathlib.Core.List.{List, [], _∷_}
 use mathlib.Core.Path.{_≡_, refl, sym, ap, ap₂, subst, _∙_}
 use native.Mathlib.Nat.{zero-add}
@@ -16,7 +16,7 @@ use Rattle.cells.proofs.CellLaws.{length-raised}
 use Rattle.cells.proofs.PartLaws.{length-part, put-put, length-put}
 use Rattle.interface.specs.declared.Interface.{Interface}
 use Rattle.interface.specs.Interface.{beginning, fullAddress, inPhase, started, addressFits, failedFor, nextFate}
-use Rattle.array.specs.Device.{Device, Setting, device, withPort, rowAt, fitting, completed}
+use Rattle.array.specs.Device.{Device, Setting, device, withPort, rowAt, completed}
 use Rattle.chip.specs.Chip.{exec, isConfirm}
 use Rattle.chip.specs.Chip.Cycle.{command}
 use Rattle.bus.specs.Line.{Line, run, sendAll, uncutLine, still, AllStill}

@@ -8,8 +8,8 @@ use Rattle.cells.specs.Cells.{programmed, weakened, raised}
 use Rattle.cells.specs.Part.{put}
 use Rattle.interface.specs.Interface.{poweredOn, begun, statusMode, readMode, plainCommand, addressFits, latched, addressed, fateWord, nextFate, started}
 use Rattle.array.specs.Device.{Setting, device, setting, fitting, readStarted, programStarted, eraseStarted, completed}
-use Rattle.chip.specs.Chip.{Cycle, isConfirm, confirmed, confirmable, commanded, dataTaken, dataGiven, dataByte, finished, statusRead, exec}
-use Rattle.chip.specs.Chip.Cycle.{command, address, dataIn, dataOut, status}
+use Rattle.chip.specs.Chip.{isConfirm, confirmed, confirmable, commanded, dataTaken, dataGiven, dataByte, finished, statusRead, exec}
+use Rattle.chip.specs.Chip.Cycle.{command, address, status}
 use Rattle.bus.specs.Line.{Line, mayGo, cutAfter, send, sendAll, sent, goesOn, byteOut, uncutLine}
 use Rattle.sequences.specs.Cycles.{waiting, polls, outcomeOf, isPassed, readCycles, readOutputs, outputs, programCycles, eraseCycles}
 use Rattle.operations.specs.Trace.{eraseSends, programSends, readSends}

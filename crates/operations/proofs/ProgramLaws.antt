@@ -1,14 +1,13 @@
 -- A program, from 80h to the last status read.
 use Prim.Native.Nat.{ℕ, _+_, _*_, _/_, _%_, _<_, _≤_}
-use mathlib.Core.Bool.{Bool, true, false, cond}
+use mathlib.Core.Bool.{true, cond}
 use mathlib.Core.List.{List, [], _∷_, _++_, map, append-nil}
 use mathlib.Core.Path.{_≡_, refl, sym, ap, ap₂, subst, _∙_}
 use native.Mathlib.Omega.{arith}
-use borrow.Author.Tests.{eqb-true}
 use lib.Dec.{eqb, leb}
 use lib.ListN.{length, set, take, drop-of-length-le, length-set, length-map}
 use lib.Seq.{sets, sets-eq}
-use Rattle.geometry.specs.Sizes.{pageSize, blockSize, chipSize, rowCount, rowOf, columnBytes, rowBytes}
+use Rattle.geometry.specs.Sizes.{pageSize, chipSize, rowCount, rowOf, columnBytes, rowBytes}
 use Rattle.geometry.proofs.SizeLaws.{row-below, row-count-most, page-size-least, row-within, block-of-row, page-of-row}
 use Rattle.cells.specs.Cells.{programmed, weakened}
 use Rattle.cells.specs.Part.{part, put}
@@ -17,10 +16,10 @@ use Rattle.cells.proofs.PartLaws.{length-part, part-put, put-put, length-put}
 use Rattle.interface.specs.declared.Interface.{Interface}
 use Rattle.interface.specs.Interface.{beginning, fullAddress, inPhase, started, columnOfAddress, failedFor, nextFate}
 use Rattle.array.specs.Device.{Device, Setting, device, withPort, rowAt, fitting, completed}
-use Rattle.chip.specs.Chip.{Cycle, exec, isConfirm}
+use Rattle.chip.specs.Chip.{exec, isConfirm}
 use Rattle.chip.specs.Chip.Cycle.{command, dataIn}
 use Rattle.bus.specs.Line.{Line, run, sendAll, uncutLine, still, AllStill}
-use Rattle.bus.proofs.LineLaws.{by-test, run-append}
+use Rattle.bus.proofs.LineLaws.{run-append}
 use Rattle.bus.proofs.QuietLaws.{quiet-run, still-take, still-append, still-address, still-data}
 use Rattle.bus.proofs.StepLaws.{atColumn, busyWith, begin-program, five-bytes, data-taken, confirm-program}
 use Rattle.sequences.specs.Cycles.{programData, addressCycles, programCycles}

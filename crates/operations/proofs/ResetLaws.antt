@@ -1,18 +1,18 @@
 -- A reset, from any phase of the interface.
 use Prim.Native.Nat.{ℕ, zero, suc, _-_, _<_, _≤_}
-use mathlib.Core.List.{List, [], _∷_}
+use mathlib.Core.List.{[], _∷_}
 use mathlib.Core.Path.{_≡_, refl, sym, ap, subst, _∙_}
 use native.Mathlib.Omega.{arith}
-use borrow.Author.Tests.{eq-eqb, lt-ltb, le-ltb, ltb-true, ltb-false}
+use borrow.Author.Tests.{eq-eqb, ltb-true, ltb-false}
 use lib.Dec.{ltb}
 use lib.ListN.{length, take}
 use Rattle.geometry.specs.Limits.{Valid}
 use Rattle.geometry.specs.Sizes.{pageSize, blockSize, chipSize}
 use Rattle.interface.specs.Interface.{afterReset, inPhase}
 use Rattle.array.specs.Device.{Device, Setting, withPort}
-use Rattle.chip.specs.Chip.{Cycle, exec, statusRead, isConfirm}
+use Rattle.chip.specs.Chip.{exec, statusRead, isConfirm}
 use Rattle.chip.specs.Chip.Cycle.{command, status}
-use Rattle.bus.specs.Line.{Line, run, sendAll, uncutLine, cutLine, Legal, Quiet, still, AllStill}
+use Rattle.bus.specs.Line.{Line, run, sendAll, uncutLine, cutLine, Legal, Quiet, still}
 use Rattle.bus.proofs.LineLaws.{by-test, run-uncut, run-cut}
 use Rattle.bus.proofs.LegalLaws.{legal-run, legal-take}
 use Rattle.bus.proofs.QuietLaws.{quiet-run}
@@ -93,3 +93,18 @@ unfolding done
 reset-leaves s l u g h =
     subst (λ (x : Line). sendAll s x resetCycles ≡ uncutLine (withPort (inPhase 1 (afterReset (x .chip .port))) (x .chip)) (x .left - 3)) (sym (uncut-is l u))
     (whole s (l .chip) (l .left) g h)
+
+-- once it passed the chip takes the next operation
+pub reset-next : (s : Setting) (l : Line) → l .cut ≡ 0 → l .chip .port .illegal ≡ 0 → 3 ≤ l .left → Valid (s .geometry) → length (l .chip .array) ≡ chipSize (s .geometry) → length (l .chip .register) ≡ pageSize (s .geometry) → length (l .chip .history) ≡ s .geometry .blocks → length (s .mask) ≡ blockSize (s .geometry) → Called s (sendAll s l resetCycles)
+reset-next s l u g h v a r k m =
+    subst (λ (x : Line). Called s x) (sym (reset-leaves s l u g h))
+    (record {
+      is-valid = v;
+      array-long = a;
+      register-long = r;
+      history-long = k;
+      mask-long = m;
+      ready = omega arith;
+      legal = g;
+      uncut = refl;
+    })

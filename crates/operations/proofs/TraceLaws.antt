@@ -1,23 +1,23 @@
 -- The array operation in a trace: there exactly where the allowance reaches the confirm cycle, with the array it found.
 use Prim.Native.Nat.{ℕ, _+_, _-_, _/_, _%_}
-use mathlib.Core.Bool.{Bool, true, false, cond}
+use mathlib.Core.Bool.{true, cond}
 use mathlib.Core.List.{List, [], _∷_, _++_}
 use mathlib.Core.Path.{_≡_, refl, sym, ap, _∙_}
 use native.Mathlib.Nat.{le-refl}
 use native.Mathlib.Omega.{arith}
 use borrow.Author.Tests.{leb-true, leb-false}
 use lib.Dec.{leb}
-use lib.ListN.{length, take, length-append}
+use lib.ListN.{length, length-append}
 use lib.Seq.{take-all}
 use Rattle.array.specs.Device.{Device, Setting}
 use Rattle.chip.specs.Chip.{Cycle}
 use Rattle.chip.specs.Chip.Cycle.{command}
-use Rattle.bus.specs.Line.{Line, run, sendAll, uncutLine, cutLine, goesOn, Going, Legal}
+use Rattle.bus.specs.Line.{Line, run, sendAll, uncutLine, goesOn, Legal}
 use Rattle.bus.proofs.LineLaws.{by-test, run-uncut, run-cut, goes}
 use Rattle.bus.proofs.LegalLaws.{legal-run, legal-first, legal-start}
 use Rattle.operations.specs.Ends.{endsAs, endOf, confirmedEnd}
-use Rattle.operations.specs.Trace.{ArrayOperation, startedBy}
-use Rattle.operations.proofs.ConfirmLaws.{Confirmed, run-confirm}
+use Rattle.operations.specs.Trace.{startedBy}
+use Rattle.operations.proofs.ConfirmLaws.{run-confirm}
 use Rattle.operations.proofs.EndLaws.{Effect, effect-ends}
 
 module _ (s : Setting) (d : Device) (first : List Cycle) (code op : ℕ) (d₂ d₄ : Device) (a₂ h₂ : List ℕ) (e : Effect s d first code op d₂ d₄ a₂ h₂) (row : ℕ) (bytes : List ℕ) where

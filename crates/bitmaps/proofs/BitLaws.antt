@@ -1,0 +1,100 @@
+-- Single bits of bytes and of bitmaps. Assumes nothing.
+use Prim.Native.Nat.{ℕ, zero, suc, _+_, _-_, _*_, _/_, _%_, _^_, _<_}
+use mathlib.Core.Bool.{Bool, true, false, not}
+use mathlib.Core.List.{List}
+use mathlib.Core.Path.{_≡_, refl, ap, _∙_}
+use native.Mathlib.Nat.{one-mul, zero-mul, pow-le-pow-right, lt-of-le-of-lt, add-comm, add-zero, mul-comm, mul-div-cancel, div-eq-of-lt, div-self, pow-suc}
+use native.Mathlib.Numerals.{add-one}
+use lib.Pow.{pow-pos, pow-lt, pow-add}
+use native.Mathlib.Omega.{arith}
+use borrow.Author.Tests.{eq-eqb, ne-eqb, eqb-true, eqb-false, ltb-true, ltb-false}
+use lib.Dec.{eqb, ltb}
+use lib.ListN.{length, getD}
+use lib.Seq.{getD-set-same, getD-set-other, set-out}
+use lib.Bits.{bitAnd, bitOr, and-mask, and-high, or-shr, or-mod, or-zero-r}
+use Rattle.bitmaps.specs.Bitmap.{byteOf, placeOf, bitIn, bitAt, withBit, countBits}
+
+by-test : {P : Type 0} (b : Bool) → (b ≡ true → P) → (b ≡ false → P) → P
+by-test true f g = f refl
+by-test false f g = g refl
+
+-- a power below 2 ^ 8
+pub power-small : (p : ℕ) → p < 8 → 2 ^ p < 256
+power-small p h = lt-of-le-of-lt (pow-le-pow-right {n = 2} (omega arith) {i = p} {j = 7} (omega arith)) (omega arith)
+
+pub place-is : (b : ℕ) → bitAnd b 7 ≡ b % 8
+place-is b = and-mask b 3
+
+pub place-small : (b : ℕ) → b % 8 < 8
+place-small b = omega arith
+
+digit : (b q : ℕ) → b < 2 → 0 < q → not (eqb (b * q) 0) ≡ eqb b 1
+digit zero q h k = rw (zero-mul q)
+digit (suc zero) q h k = rw (one-mul q, ne-eqb q 0 (λ e. omega (arith, e)))
+digit (suc (suc b)) q h k = absurd (omega arith)
+
+-- one bit by a mask
+pub masked-bit : (x p : ℕ) → bitAnd x (2 ^ p) ≡ bitIn x p * 2 ^ p
+masked-bit x p = ap (bitAnd x) (rw (add-comm 1 p, add-one, pow-suc) (omega arith)) ∙ and-high x 1 p
+
+pub bit-tested : (x p : ℕ) → not (eqb (bitAnd x (2 ^ p)) 0) ≡ eqb (bitIn x p) 1
+bit-tested x p = rw (masked-bit x p) (digit (bitIn x p) (2 ^ p) (omega arith) (pow-pos p))
+
+-- one block more is counted
+pub count-set : (bits : List ℕ) (n : ℕ) → bitAt bits n ≡ true → countBits bits (n + 1) ≡ countBits bits n + 1
+unfolding countBits
+count-set bits n h = rw (add-one, h)
+
+pub count-clear : (bits : List ℕ) (n : ℕ) → bitAt bits n ≡ false → countBits bits (n + 1) ≡ countBits bits n
+unfolding countBits
+count-clear bits n h = rw (add-one, h) (add-zero (countBits bits n))
+
+-- bit q of 2 ^ p
+power-above : (q d : ℕ) → bitIn (2 ^ (q + suc d)) q ≡ 0
+power-above q d =
+    rw (pow-add 2 q (suc d), mul-comm (2 ^ q) (2 ^ suc d), mul-div-cancel (2 ^ suc d) (pow-pos q), pow-suc) (omega arith)
+
+pub power-bit : (p q : ℕ) → (p ≡ q → ⊥) → bitIn (2 ^ p) q ≡ 0
+power-bit p q h =
+    by-test (ltb p q)
+    (λ t. rw (div-eq-of-lt (pow-lt {i = p} {j = q} (ltb-true p q t))))
+    (λ t.
+    let g : q < p = omega (arith, ltb-false p q t, h) in
+    let e : p ≡ q + suc (p - q - 1) = omega arith in
+    rw e (power-above q (p - q - 1)))
+
+-- a bit that was set is set, and the others are as they were
+or-bit : (x y q : ℕ) → bitIn (bitOr x y) q ≡ bitOr (bitIn x q) (bitIn y q)
+or-bit x y q = rw (or-shr x y q) (or-mod (x / 2 ^ q) (y / 2 ^ q) 1)
+
+own-bit : (p : ℕ) → bitIn (2 ^ p) p ≡ 1
+own-bit p = rw (div-self (pow-pos p))
+
+or-one : (b : ℕ) → b < 2 → bitOr b 1 ≡ 1
+or-one zero h = refl
+or-one (suc zero) h = refl
+or-one (suc (suc b)) h = absurd (omega arith)
+
+pub bit-set : (bits : List ℕ) (b : ℕ) → byteOf b < length bits → bitAt (withBit bits b) b ≡ true
+unfolding bitAt withBit
+bit-set bits b h =
+    rw (getD-set-same bits (byteOf b) (bitOr (getD bits (byteOf b) 0) (2 ^ placeOf b)) 0 h)
+    (eq-eqb (bitIn (bitOr (getD bits (byteOf b) 0) (2 ^ placeOf b)) (placeOf b)) 1
+    (or-bit (getD bits (byteOf b) 0) (2 ^ placeOf b) (placeOf b)
+    ∙ ap (bitOr (bitIn (getD bits (byteOf b) 0) (placeOf b))) (own-bit (placeOf b))
+    ∙ or-one (bitIn (getD bits (byteOf b) 0) (placeOf b)) (omega arith)))
+
+pub bit-kept : (bits : List ℕ) (b c : ℕ) → (c ≡ b → ⊥) → bitAt (withBit bits b) c ≡ bitAt bits c
+unfolding bitAt withBit
+bit-kept bits b c h =
+    by-test (eqb (byteOf c) (byteOf b))
+    (λ t.
+    let e = eqb-true (byteOf c) (byteOf b) t in
+    by-test (ltb (byteOf b) (length bits))
+    (λ u. rw (e, getD-set-same bits (byteOf b) (bitOr (getD bits (byteOf b) 0) (2 ^ placeOf b)) 0 (ltb-true (byteOf b) (length bits) u))
+    (ap (λ (k : ℕ). eqb k 1)
+    (or-bit (getD bits (byteOf b) 0) (2 ^ placeOf b) (placeOf c)
+    ∙ ap (bitOr (bitIn (getD bits (byteOf b) 0) (placeOf c))) (power-bit (placeOf b) (placeOf c) (λ x. h (omega (arith, e, x))))
+    ∙ or-zero-r (bitIn (getD bits (byteOf b) 0) (placeOf c)))))
+    (λ u. rw (set-out bits (byteOf b) (bitOr (getD bits (byteOf b) 0) (2 ^ placeOf b)) (ltb-false (byteOf b) (length bits) u))))
+    (λ t. rw (getD-set-other bits (byteOf b) (byteOf c) (bitOr (getD bits (byteOf b) 0) (2 ^ placeOf b)) 0 (eqb-false (byteOf c) (byteOf b) t)))

@@ -1,0 +1,31 @@
+-- Bitmaps: one bit a block, low bit first.
+use Prim.Native.Nat.{ℕ, zero, suc, _+_, _/_, _%_, _^_}
+use mathlib.Core.Bool.{Bool, cond}
+use mathlib.Core.List.{List}
+use lib.Dec.{eqb}
+use lib.ListN.{getD, set}
+use lib.Bits.{bitOr}
+
+-- the byte and the bit of a block
+abbrev pub byteOf : ℕ → ℕ
+byteOf b = b / 8
+
+abbrev pub placeOf : ℕ → ℕ
+placeOf b = b % 8
+
+-- bit k of a byte
+abbrev pub bitIn : ℕ → ℕ → ℕ
+bitIn x k = x / 2 ^ k % 2
+
+-- whether the bit of a block is set
+unfoldable pub bitAt : List ℕ → ℕ → Bool
+bitAt bits b = eqb (bitIn (getD bits (byteOf b) 0) (placeOf b)) 1
+
+-- the bitmap with the bit of a block set
+unfoldable pub withBit : List ℕ → ℕ → List ℕ
+withBit bits b = set bits (byteOf b) (bitOr (getD bits (byteOf b) 0) (2 ^ placeOf b))
+
+-- how many of the first n blocks have their bit set
+unfoldable pub countBits : List ℕ → ℕ → ℕ
+countBits bits zero = 0
+countBits bits (suc n) = countBits bits n + cond (bitAt bits n) 1 0

@@ -1,0 +1,3 @@
+pub mod BlockLaws
+pub mod CopyTests
+pub mod SummaryLaws

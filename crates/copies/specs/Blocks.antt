@@ -1,0 +1,75 @@
+-- What one block holds. Each definition takes the block's bytes, so that a block that stays is one equation.
+use Prim.Native.Nat.{ℕ, zero, suc, _+_, _*_, max}
+use mathlib.Core.Bool.{Bool, true, false, cond}
+use mathlib.Core.List.{List}
+use lib.Dec.{eqb}
+use lib.ListN.{getD, take}
+use Rattle.geometry.specs.declared.Geometry.{Geometry}
+use Rattle.geometry.specs.Sizes.{pageSize, blockSize}
+use Rattle.cells.specs.Part.{part}
+use Rattle.pages.specs.Layout.{Label, whole, labelOf, dataKind, tableKind}
+
+-- the bytes of a block, and of a page in it
+abbrev pub blockIn : Geometry → List ℕ → ℕ → List ℕ
+blockIn g array b = part (b * blockSize g) (blockSize g) array
+
+abbrev pub pageIn : Geometry → List ℕ → ℕ → List ℕ
+pageIn g block p = part (p * pageSize g) (pageSize g) block
+
+abbrev pub markByte : Geometry → List ℕ → ℕ → ℕ
+markByte g block p = getD (pageIn g block p) (g .main) 0
+
+-- a factory mark: spare byte 0 of page 0 or page 1 is not FFh
+unfoldable pub isMarked : Geometry → List ℕ → Bool
+isMarked g block = cond (eqb (markByte g block 0) 255) (cond (eqb (markByte g block 1) 255) false true) true
+
+abbrev pub wholeIn : Geometry → List ℕ → ℕ → Bool
+wholeIn g block p = whole (g .main) (pageIn g block p)
+
+abbrev pub labelIn : Geometry → List ℕ → ℕ → Label
+labelIn g block p = labelOf (g .main) (pageIn g block p)
+
+-- a page's label agrees with that of its copy: kind, logical block and number, and its own place
+unfoldable pub agrees : Label → ℕ → Label → Bool
+agrees first p l =
+    cond (eqb (l .kind) (first .kind))
+    (cond (eqb (l .logical) (first .logical)) (cond (eqb (l .number) (first .number)) (eqb (l .page) p) false) false)
+    false
+
+-- the first n pages are whole and agree
+unfoldable pub completeTo : Geometry → List ℕ → ℕ → Bool
+completeTo g block zero = true
+completeTo g block (suc n) =
+    let less = completeTo g block n in
+    cond (wholeIn g block n) (cond (agrees (labelIn g block 0) n (labelIn g block n)) less false) false
+
+-- complete: no factory mark, and all pages whole with equal kind, logical block and number, each with its own place
+unfoldable pub isComplete : Geometry → List ℕ → Bool
+isComplete g block = cond (isMarked g block) false (completeTo g block (g .pages))
+
+abbrev pub numberIn : Geometry → List ℕ → ℕ
+numberIn g block = labelIn g block 0 .number
+
+unfoldable pub isTable : Geometry → List ℕ → Bool
+isTable g block = cond (isComplete g block) (eqb (labelIn g block 0 .kind) tableKind) false
+
+unfoldable pub isData : Geometry → List ℕ → Bool
+isData g block = cond (isComplete g block) (eqb (labelIn g block 0 .kind) dataKind) false
+
+-- a complete copy of a logical block
+unfoldable pub isCopyOf : Geometry → ℕ → List ℕ → Bool
+isCopyOf g logical block = cond (isData g block) (eqb (labelIn g block 0 .logical) logical) false
+
+-- one above the greatest number on a whole page among the first n, 0 if there is none
+unfoldable pub aboveTo : Geometry → List ℕ → ℕ → ℕ
+aboveTo g block zero = 0
+aboveTo g block (suc n) =
+    let less = aboveTo g block n in cond (wholeIn g block n) (max less (labelIn g block n .number + 1)) less
+
+-- of a block without a factory mark
+unfoldable pub above : Geometry → List ℕ → ℕ
+above g block = cond (isMarked g block) 0 (aboveTo g block (g .pages))
+
+-- the main bytes of a page
+abbrev pub mainIn : Geometry → List ℕ → ℕ → List ℕ
+mainIn g block p = take (g .main) (pageIn g block p)

@@ -1,0 +1,82 @@
+-- What is current on an array, the reading of a logical page, and the refusals of a mount.
+use Prim.Native.Nat.{ℕ, zero, suc, max}
+use mathlib.Core.Bool.{Bool, true, false, cond, not}
+use mathlib.Core.List.{List}
+use lib.Dec.{eqb, leb}
+use lib.ListN.{replicate}
+use Rattle.geometry.specs.declared.Geometry.{Geometry}
+use Rattle.copies.specs.Blocks.{blockIn, isMarked, isComplete, isTable, isData, isCopyOf, numberIn, labelIn, above, mainIn}
+use Rattle.copies.specs.Pick.{Pick, nothing, at, pick}
+use Rattle.copies.specs.Table.{lists, rightTable}
+
+abbrev pub numberAt : Geometry → List ℕ → ℕ → ℕ
+numberAt g array b = numberIn g (blockIn g array b)
+
+-- the current table: the complete one with the greatest number, the lower block at a tie
+unfoldable pub currentTable : Geometry → List ℕ → Pick
+currentTable g array = pick (λ b. isTable g (blockIn g array b)) (numberAt g array) (g .blocks)
+
+-- a block that the table does not list
+abbrev pub unlisted : Geometry → List ℕ → ℕ → ℕ → Bool
+unlisted g array table b = not (lists g (blockIn g array table) b)
+
+-- current for a logical block: its complete copy with the greatest number, copies in listed blocks left aside
+unfoldable pub currentCopy : Geometry → List ℕ → ℕ → ℕ → Pick
+currentCopy g array table logical =
+    pick (λ b. cond (unlisted g array table b) (isCopyOf g logical (blockIn g array b)) false) (numberAt g array) (g .blocks)
+
+-- the main bytes of a page of the picked block, FFh if there is none
+unfoldable pub pageOf : Geometry → List ℕ → ℕ → Pick → List ℕ
+pageOf g array p nothing = replicate (g .main) 255
+pageOf g array p (at b) = mainIn g (blockIn g array b) p
+
+-- the reading of a logical page
+abbrev pub reading : Geometry → List ℕ → ℕ → ℕ → ℕ → List ℕ
+reading g array table logical p = pageOf g array p (currentCopy g array table logical)
+
+-- one above the greatest number on a whole page of an unmarked block below n, 0 if none
+unfoldable pub aboveAll : Geometry → List ℕ → ℕ → ℕ
+aboveAll g array zero = 0
+aboveAll g array (suc n) = max (aboveAll g array n) (above g (blockIn g array n))
+
+-- the next number, 1 if there is no whole page
+unfoldable pub nextNumber : Geometry → List ℕ → ℕ
+nextNumber g array = cond (eqb (aboveAll g array (g .blocks)) 0) 1 (aboveAll g array (g .blocks))
+
+-- the block filled last: the lowest that holds the greatest number
+unfoldable pub filledLast : Geometry → List ℕ → Pick
+filledLast g array =
+    pick (λ b. cond (eqb (above g (blockIn g array b)) 0) false true) (λ b. above g (blockIn g array b)) (g .blocks)
+
+-- two complete blocks below n that the table does not list bear one number: c is the number of another such block above
+unfoldable pub sharesNumber : Geometry → List ℕ → ℕ → ℕ → ℕ → Bool
+sharesNumber g array table c zero = false
+sharesNumber g array table c (suc n) =
+    let less = sharesNumber g array table c n in
+    cond (unlisted g array table n)
+    (cond (isComplete g (blockIn g array n)) (cond (eqb (numberAt g array n) c) true less) less)
+    less
+
+-- among the blocks below n that the table does not list: two complete with one number, or a complete data copy of a block ≥ N
+unfoldable pub clashes : Geometry → List ℕ → ℕ → ℕ → Bool
+clashes g array table zero = false
+clashes g array table (suc n) =
+    let less = clashes g array table n in
+    cond (unlisted g array table n)
+    (cond (isComplete g (blockIn g array n))
+    (cond (cond (isData g (blockIn g array n)) (leb (g .logical) (labelIn g (blockIn g array n) 0 .logical)) false)
+    true
+    (cond (sharesNumber g array table (numberAt g array n) n) true less))
+    less)
+    less
+
+-- a mount's answer on an array, uncut and not silent: 0 done, 4 no table, 5 wrong table, 6 clash
+unfoldable pub judgeTable : Geometry → List ℕ → Pick → ℕ
+judgeTable g array nothing = 4
+judgeTable g array (at t) =
+    cond (rightTable g (λ b. isMarked g (blockIn g array b)) (blockIn g array t))
+    (cond (lists g (blockIn g array t) t) 5 (cond (clashes g array t (g .blocks)) 6 0))
+    5
+
+unfoldable pub mountAnswer : Geometry → List ℕ → ℕ
+mountAnswer g array = judgeTable g array (currentTable g array)

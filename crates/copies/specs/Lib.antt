@@ -1,0 +1,5 @@
+pub mod Blocks
+pub mod Pick
+pub mod Table
+pub mod Current
+pub mod Summary

@@ -1,0 +1,5 @@
+pub mod ByteLaws
+pub mod CheckLaws
+pub mod LayoutLaws
+pub mod OverLaws
+pub mod PageTests

@@ -1,0 +1,137 @@
+-- `pages::finish_page` meets its contract: its stores, in their order, make the spare bytes. Assumes nothing.
+use Prim.Native.Nat.{_+_}
+use mathlib.Core.Path.{_≡_, _∙_}
+use native.Mathlib.Nat.{sub-zero}
+use native.Mathlib.Omega.{arith}
+use borrow.Author.Needs.{needs}
+use lib.ListN.{length, take, length-set}
+use Rattle.pages.specs.Check.{zeroBits}
+use Rattle.pages.proofs.ByteLaws.{finished}
+use Rattle.pages.proofs.finish_page.Statement.{statement}
+use Rattle.pages.proofs.finish_page.Tie as tie
+
+-- the page stays as long as it is
+first : (c : tie.After-write-pair) → length (c .write-pair .last .0) ≡ length (c .before .before .before .args .page .now)
+first c = c .write-pair .kept .0 ∙ simp length-set
+
+second : (c : tie.After-write-pair2) → length (c .write-pair2 .last .0) ≡ length (c .before .before .before .before .before .before .before .args .page .now)
+second c = c .write-pair2 .kept .0 ∙ simp length-set (first (c .before .before .before .before))
+
+third : (c : tie.After-write-pair3) → length (c .write-pair3 .last .0) ≡ length (c .before .before .before .before .before .before .before .before .before .before .before .args .page .now)
+third c = c .write-pair3 .kept .0 ∙ second (c .before .before .before .before)
+
+fourth : (c : tie.After-write-pair4) → length (c .write-pair4 .last .0) ≡ length (c .before .before .before .before .before .before .before .before .before .before .before .before .before .before .before .before .before .before .args .page .now)
+fourth c = c .write-pair4 .kept .0 ∙ third (c .before .before .before .before .before .before .before)
+
+fifth : (c : tie.After-fill-ones) → length (c .fill-ones .last .0) ≡ length (c .before .before .before .before .before .before .before .before .before .before .before .before .before .before .before .before .before .before .before .before .before .before .args .page .now)
+fifth c = c .fill-ones .kept .0 ∙ fourth (c .before .before .before .before)
+
+add-k : tie.Need-add-k
+add-k c = search needs
+
+slice-write-page : tie.Need-slice-write-page
+slice-write-page c = search needs
+
+slice-write-page-2 : tie.Need-slice-write-page-2
+slice-write-page-2 c = simp length-set (omega arith)
+
+add-write-pair : tie.Need-add-write-pair
+add-write-pair c = search needs
+
+write-pair-requires : tie.Need-write-pair-requires
+write-pair-requires c κs = simp length-set (omega arith)
+
+add-p : tie.Need-add-p
+add-p c = search needs
+
+cast-page : tie.Need-cast-page
+cast-page c = search needs
+
+slice-write-page-3 : tie.Need-slice-write-page-3
+slice-write-page-3 c = omega (arith, first (c .before .before))
+
+add-write-pair-2 : tie.Need-add-write-pair-2
+add-write-pair-2 c = search needs
+
+write-pair-requires-2 : tie.Need-write-pair-requires-2
+write-pair-requires-2 c κs = simp length-set (omega (arith, first (c .before .before .before)))
+
+add-write-pair-3 : tie.Need-add-write-pair-3
+add-write-pair-3 c = search needs
+
+write-pair-requires-3 : tie.Need-write-pair-requires-3
+write-pair-requires-3 c κs = omega (arith, second (c .before .before .before))
+
+add-end : tie.Need-add-end
+add-end c = search needs
+
+sub-zero-bits : tie.Need-sub-zero-bits
+sub-zero-bits c = search needs
+
+part-zero-bits-start : tie.Need-part-zero-bits-start
+part-zero-bits-start c = search needs
+
+part-zero-bits-end : tie.Need-part-zero-bits-end
+part-zero-bits-end c = omega (arith, third (c .before .before .before))
+
+zero-bits-requires : tie.Need-zero-bits-requires
+zero-bits-requires c κs = search needs
+
+add-write-pair-4 : tie.Need-add-write-pair-4
+add-write-pair-4 c = search needs
+
+write-pair-requires-4 : tie.Need-write-pair-requires-4
+write-pair-requires-4 c κs = omega (arith, third (c .before .before .before .before .before .before))
+
+add-fill-ones : tie.Need-add-fill-ones
+add-fill-ones c = search needs
+
+fill-ones-requires : tie.Need-fill-ones-requires
+fill-ones-requires c κs = omega (arith, fourth (c .before .before .before))
+
+same-length : tie.Need-same-length
+same-length c = fifth (c .before .before)
+
+returns : tie.Need-returns
+returns c =
+    let fill = c .before .before in
+    let pair4 = fill .before .before .before .before in
+    let count = pair4 .before .before in
+    let pair3 = count .before .before .before .before .before in
+    let pair2 = pair3 .before .before .before .before in
+    let pair = pair2 .before .before .before .before in
+    let s = pair .before .before .before in
+    let a = s .args in
+    let counted : count .zero-bits .result ≡ zeroBits (take (a .main + 9) (pair3 .write-pair3 .last .0)) = count .zero-bits .ensures ∙ rw sub-zero in
+    finished (a .main) (a .kind) (a .logical) (a .place) (a .number) (count .zero-bits .result) (a .page .now)
+    (pair .write-pair .last .0) (pair2 .write-pair2 .last .0) (pair3 .write-pair3 .last .0) (pair4 .write-pair4 .last .0) (fill .fill-ones .last .0)
+    (omega (arith, s .pre)) (s .pre .1 .0) (omega (arith, s .pre))
+    (pair .write-pair .ensures) (pair2 .write-pair2 .ensures) (pair3 .write-pair3 .ensures) counted (pair4 .write-pair4 .ensures) (fill .fill-ones .ensures)
+
+pub finish-page-spec : {M : Type 1} → statement M
+finish-page-spec =
+    tie.close
+    (tie.spec
+    add-k
+    slice-write-page
+    slice-write-page-2
+    add-write-pair
+    write-pair-requires
+    add-p
+    cast-page
+    slice-write-page-3
+    add-write-pair-2
+    write-pair-requires-2
+    add-write-pair-3
+    write-pair-requires-3
+    add-end
+    sub-zero-bits
+    part-zero-bits-start
+    part-zero-bits-end
+    zero-bits-requires
+    add-write-pair-4
+    write-pair-requires-4
+    add-fill-ones
+    fill-ones-requires
+    same-length
+    returns)

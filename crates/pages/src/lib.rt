@@ -1,0 +1,187 @@
+// Pages byte by byte: the check, whether a page is whole, its label, and the spare bytes of a new page.
+ghost use mathlib.Core.Path.{_≡_};
+ghost use Prim.Native.Nat.{_+_, _-_, _≤_, _<_};
+ghost use lib.Count.{ones};
+ghost use lib.ListN.{length, take, drop, replicate};
+ghost use mathlib.Core.List.{_++_};
+ghost use Rattle.cells.specs.Part.{put};
+ghost use Rattle.pages.specs.Check.{zeroBits};
+ghost use Rattle.pages.specs.Layout.{numberWidth, allOnes, bytesOf, numberOf, kindOf, whole, labelOf, label, encoded, Sized};
+
+fn wide(x: u8) -> usize
+    ensures { λ r. ⌜ r ≡ x ⌝ }
+{
+    x as usize
+}
+
+// The set bits of a byte.
+fn ones_of(x: u8) -> usize
+    ensures { λ r. ⌜ (r ≡ ones x) × (r ≤ 8) ⌝ }
+{
+    u8::count_ones(x) as usize
+}
+
+// The zero bits of some bytes: eight less the ones of each.
+pub fn zero_bits(bytes: &[u8]) -> usize
+    requires { ⌜ length (now bytes) ≤ 8192 ⌝ }
+    ensures { λ r. ⌜ r ≡ zeroBits (now (bytes .entry)) ⌝ }
+{
+    let mut sum: usize = 0;
+    let mut i = 0;
+    while i < bytes.len() {
+        sum += 8 - ones_of(bytes[i]);
+        i += 1;
+    }
+    sum
+}
+
+// Whether every byte is FFh.
+fn all_ones(bytes: &[u8]) -> bool
+    ensures { λ r. ⌜ r ≡ allOnes (now (bytes .entry)) ⌝ }
+{
+    let mut i = 0;
+    while i < bytes.len() {
+        if bytes[i] != 255 {
+            return false;
+        }
+        i += 1;
+    }
+    true
+}
+
+// The bytes of a page's number; 0 where the byte is no kind.
+pub fn number_width(kind: u8) -> usize
+    ensures { λ r. ⌜ r ≡ numberWidth kind ⌝ }
+{
+    if kind == 0x44 {
+        return 4;
+    }
+    if kind == 0x54 {
+        return 4;
+    }
+    0
+}
+
+// A number of two bytes, low byte first.
+fn pair_at(bytes: &[u8], at: usize) -> usize
+    requires { ⌜ at + 2 ≤ length (now bytes) ⌝ }
+    ensures { λ r. ⌜ r ≡ numberOf (take 2 (drop at (now (bytes .entry)))) ⌝ }
+{
+    let next = at + 1;
+    wide(bytes[at]) + 256 * wide(bytes[next])
+}
+
+// The kind byte of a page.
+pub fn kind_of(page: &[u8], main: usize) -> u8
+    requires { ⌜ Sized main (now page) ⌝ }
+    ensures { λ r. ⌜ r ≡ kindOf main (now (page .entry)) ⌝ }
+{
+    let at = main + 1;
+    page[at]
+}
+
+// The logical block of a page.
+pub fn logical_of(page: &[u8], main: usize) -> usize
+    requires { ⌜ Sized main (now page) ⌝ }
+    ensures { λ r. ⌜ r ≡ labelOf main (now (page .entry)) .logical ⌝ }
+{
+    pair_at(page, main + 2)
+}
+
+// The place of a page in its block.
+pub fn place_of(page: &[u8], main: usize) -> usize
+    requires { ⌜ Sized main (now page) ⌝ }
+    ensures { λ r. ⌜ r ≡ labelOf main (now (page .entry)) .page ⌝ }
+{
+    let at = main + 4;
+    wide(page[at])
+}
+
+// The sequence number of a page.
+pub fn number_of(page: &[u8], main: usize) -> u64
+    requires { ⌜ Sized main (now page) ⌝ }
+    ensures { λ r. ⌜ r ≡ labelOf main (now (page .entry)) .number ⌝ }
+    ensures { λ r. ⌜ r < 4294967296 ⌝ }
+{
+    let width = number_width(kind_of(page, main));
+    if width == 0 {
+        return 0;
+    }
+    let low = pair_at(page, main + 5);
+    let high = pair_at(page, main + 7);
+    (low + 65536 * high) as u64
+}
+
+// Whether a page is whole: kind, check and FFh places are right.
+pub fn is_whole(page: &[u8], main: usize) -> bool
+    requires { ⌜ Sized main (now page) ⌝ }
+    ensures { λ r. ⌜ r ≡ whole main (now (page .entry)) ⌝ }
+{
+    let width = number_width(kind_of(page, main));
+    if width == 0 {
+        return false;
+    }
+    if page[main] != 255 {
+        return false;
+    }
+    let check_at = main + 5 + width;
+    let rest = check_at + 2;
+    if all_ones(&page[rest..]) {
+        return pair_at(page, check_at) == zero_bits(&page[0..check_at]);
+    }
+    false
+}
+
+// Writes a number of two bytes, low byte first.
+fn write_pair(bytes: &mut [u8], at: usize, number: usize)
+    requires { ⌜ at + 2 ≤ length (now bytes) ⌝ }
+    ensures { λ _. ⌜ now (bytes .exit) ≡ put at (bytesOf 2 number) (now (bytes .entry)) ⌝ }
+{
+    let next = at + 1;
+    bytes[at] = (number % 256) as u8;
+    bytes[next] = (number / 256 % 256) as u8;
+}
+
+// Writes FFh from a place on.
+fn fill_ones(bytes: &mut [u8], from: usize)
+    requires { ⌜ from ≤ length (now bytes) ⌝ }
+    ensures { λ _. ⌜ now (bytes .exit) ≡ take from (now (bytes .entry)) ++ replicate (length (now (bytes .entry)) - from) 255 ⌝ }
+{
+    let mut i = from;
+    while i < bytes.len() {
+        bytes[i] = 255;
+        i += 1;
+    }
+}
+
+// Writes the spare bytes of a page whose main bytes stand already.
+pub fn finish_page(
+    page: &mut [u8],
+    main: usize,
+    kind: u8,
+    logical: usize,
+    place: usize,
+    number: u64,
+)
+    requires { ⌜ Sized main (now page) ⌝ }
+    requires { ⌜ numberWidth kind ≡ 4 ⌝ }
+    requires { ⌜ logical < 65536 ⌝ }
+    requires { ⌜ place < 256 ⌝ }
+    requires { ⌜ number < 4294967296 ⌝ }
+    ensures { λ _. ⌜ now (page .exit) ≡ encoded (length (now (page .entry)) - main) (label kind logical place number) (take main (now (page .entry))) ⌝ }
+{
+    let k = main + 1;
+    page[main] = 255;
+    page[k] = kind;
+    write_pair(page, main + 2, logical);
+    let p = main + 4;
+    page[p] = (place % 256) as u8;
+    let low = (number % 65536) as usize;
+    let high = (number / 65536 % 65536) as usize;
+    write_pair(page, main + 5, low);
+    write_pair(page, main + 7, high);
+    let end = main + 9;
+    let check = zero_bits(&page[0..end]);
+    write_pair(page, main + 9, check);
+    fill_ones(page, main + 11);
+}

@@ -1,0 +1,64 @@
+-- `state::State::is_mounted` meets its contract, one test after the other. Assumes nothing.
+use mathlib.Core.Path.{sym, _∙_}
+use borrow.Author.Needs.{needs}
+use borrow.Author.Tests.{eq-eqb, ne-eqb, lt-ltb, le-ltb}
+use Rattle.state.specs.State.{mounted}
+use Rattle.state.proofs.State.is_mounted.Statement.{statement}
+use Rattle.state.proofs.State.is_mounted.Tie as tie
+
+returns : tie.Need-returns
+unfolding mounted
+returns c = rw (ne-eqb (c .before .args .self .status) 1 (c .if1 .taken))
+
+returns-2 : tie.Need-returns-2
+unfolding mounted
+returns-2 c =
+    rw (eq-eqb (c .before .before .args .self .status) 1 (c .before .if1 .left), le-ltb (c .before .before .args .self .last) (c .before .before .args .blocks) (c .if2 .taken))
+
+is-clear-from-requires : tie.Need-is-clear-from-requires
+is-clear-from-requires c κs = search needs
+
+is-clear-from-requires-2 : tie.Need-is-clear-from-requires-2
+is-clear-from-requires-2 c κs = search needs
+
+is-never-both-requires : tie.Need-is-never-both-requires
+is-never-both-requires c κs = search needs
+
+has-sound-entries-requires : tie.Need-has-sound-entries-requires
+has-sound-entries-requires c κs = search needs
+
+returns-3 : tie.Need-returns-3
+unfolding mounted
+returns-3 c =
+    rw (eq-eqb (c .before .before .before .before .before .before .before .before .before .before .before .before .before .before .before .args .self .status) 1 (c .before .before .before .before .before .before .before .before .before .before .before .before .before .before .if1 .left), lt-ltb (c .before .before .before .before .before .before .before .before .before .before .before .before .before .before .before .args .self .last) (c .before .before .before .before .before .before .before .before .before .before .before .before .before .before .before .args .blocks) (c .before .before .before .before .before .before .before .before .before .before .before .before .before .if2 .left), sym (c .before .before .before .before .before .before .before .before .before .is-clear-from .ensures) ∙ c .before .before .before .before .before .before .before .before .if3 .taken, sym (c .before .before .before .before .before .before .is-clear-from2 .ensures) ∙ c .before .before .before .before .before .if4 .taken, sym (c .before .before .is-never-both .ensures) ∙ c .before .if5 .taken)
+    (c .has-sound-entries .ensures)
+
+returns-4 : tie.Need-returns-4
+unfolding mounted
+returns-4 c =
+    rw (eq-eqb (c .before .before .before .before .before .before .before .before .before .before .before .before .before .before .args .self .status) 1 (c .before .before .before .before .before .before .before .before .before .before .before .before .before .if1 .left), lt-ltb (c .before .before .before .before .before .before .before .before .before .before .before .before .before .before .args .self .last) (c .before .before .before .before .before .before .before .before .before .before .before .before .before .before .args .blocks) (c .before .before .before .before .before .before .before .before .before .before .before .before .if2 .left), sym (c .before .before .before .before .before .before .before .before .is-clear-from .ensures) ∙ c .before .before .before .before .before .before .before .if3 .taken, sym (c .before .before .before .before .before .is-clear-from2 .ensures) ∙ c .before .before .before .before .if4 .taken, sym (c .before .is-never-both .ensures) ∙ c .if5 .left)
+
+returns-5 : tie.Need-returns-5
+unfolding mounted
+returns-5 c =
+    rw (eq-eqb (c .before .before .before .before .before .before .before .before .before .before .args .self .status) 1 (c .before .before .before .before .before .before .before .before .before .if1 .left), lt-ltb (c .before .before .before .before .before .before .before .before .before .before .args .self .last) (c .before .before .before .before .before .before .before .before .before .before .args .blocks) (c .before .before .before .before .before .before .before .before .if2 .left), sym (c .before .before .before .before .is-clear-from .ensures) ∙ c .before .before .before .if3 .taken, sym (c .before .is-clear-from2 .ensures) ∙ c .if4 .left)
+
+returns-6 : tie.Need-returns-6
+unfolding mounted
+returns-6 c =
+    rw (eq-eqb (c .before .before .before .before .before .before .before .args .self .status) 1 (c .before .before .before .before .before .before .if1 .left), lt-ltb (c .before .before .before .before .before .before .before .args .self .last) (c .before .before .before .before .before .before .before .args .blocks) (c .before .before .before .before .before .if2 .left), sym (c .before .is-clear-from .ensures) ∙ c .if3 .left)
+
+pub is-mounted-spec : {M : Type 1} → statement M
+is-mounted-spec =
+    tie.close
+    (tie.spec
+    returns
+    returns-2
+    is-clear-from-requires
+    is-clear-from-requires-2
+    is-never-both-requires
+    has-sound-entries-requires
+    returns-3
+    returns-4
+    returns-5
+    returns-6)

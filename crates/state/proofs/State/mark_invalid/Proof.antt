@@ -1,0 +1,19 @@
+-- `state::State::mark_invalid` meets its contract. Assumes nothing.
+use Rattle.bitmaps.specs.Bitmap.{byteOf}
+use native.Mathlib.Omega.{arith}
+use Prim.Native.Nat.{_<_}
+use borrow.Author.Needs.{needs}
+use Rattle.state.proofs.State.mark_invalid.Statement.{statement}
+use Rattle.state.proofs.State.mark_invalid.Tie as tie
+
+slice-aggregate-set-bit : tie.Need-slice-aggregate-set-bit
+slice-aggregate-set-bit c = search needs
+
+set-bit-requires : tie.Need-set-bit-requires
+set-bit-requires c κs = let h : byteOf (c .before .before .args .block) < 512 = omega arith in search needs
+
+returns : tie.Need-returns
+returns c = rw (c .before .set-bit .ensures)
+
+pub mark-invalid-spec : {M : Type 1} → statement M
+mark-invalid-spec = tie.close (tie.spec slice-aggregate-set-bit set-bit-requires returns)

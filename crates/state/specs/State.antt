@@ -1,0 +1,115 @@
+-- The mounted state: what each of its methods makes of it.
+use Prim.Native.Nat.{ℕ, zero, suc, _+_, _-_}
+use mathlib.Core.Bool.{Bool, true, false, cond}
+use mathlib.Core.List.{List}
+use lib.Dec.{eqb, ltb}
+use lib.ListN.{getD, set, replicate}
+use Rattle.bitmaps.specs.Bitmap.{bitAt, withBit}
+use Rattle.state.specs.Choose.{permitted}
+use Rattle.state.specs.declared.State.{State}
+
+-- a state that is 0 in all fields but its status: 0 not mounted, 1 mounted, 2 stopped
+abbrev pub blank : ℕ → State
+blank status =
+    record { status = status; table = 0; last = 0; number = 0; marked = replicate 512 0; invalid = replicate 512 0; map = replicate 4096 0 }
+
+-- the numbers end at 4,294,967,295 ("spent")
+abbrev pub spent : State → Bool
+spent s = ltb 4294967295 (s .number)
+
+-- the number is taken
+abbrev pub withNumber : ℕ → State → State
+withNumber n s =
+    record { status = s .status; table = s .table; last = s .last; number = n; marked = s .marked; invalid = s .invalid; map = s .map }
+
+-- a block that failed is invalid
+abbrev pub withInvalid : ℕ → State → State
+withInvalid b s =
+    record { status = s .status; table = s .table; last = s .last; number = s .number; marked = s .marked; invalid = withBit (s .invalid) b; map = s .map }
+
+-- a passed fill: of a logical block's copy, and of a table
+abbrev pub withCopy : ℕ → ℕ → State → State
+withCopy logical b s =
+    record { status = s .status; table = s .table; last = b; number = s .number; marked = s .marked; invalid = s .invalid; map = set (s .map) logical b }
+
+abbrev pub withTable : ℕ → State → State
+withTable b s =
+    record { status = s .status; table = b; last = b; number = s .number; marked = s .marked; invalid = s .invalid; map = s .map }
+
+-- the block of a logical block; FFFFh stands for none
+abbrev pub none : ℕ
+none = 65535
+
+-- bits with that of a block added, where it is one
+abbrev pub addBlock : ℕ → List ℕ → List ℕ
+addBlock b bits = cond (ltb b 4096) (withBit bits b) bits
+
+-- the bits of the blocks that the first n logical blocks have, added to some bits
+unfoldable pub copyBits : List ℕ → ℕ → List ℕ → List ℕ
+copyBits map zero bits = bits
+copyBits map (suc n) bits = let rest = copyBits map n bits in addBlock (getD map n 0) rest
+
+-- the blocks that hold something current: the table and the copies of n logical blocks
+abbrev pub heldBits : State → ℕ → List ℕ
+heldBits s n = copyBits (s .map) n (addBlock (s .table) (replicate 512 0))
+
+-- how many of the first n blocks may be filled
+unfoldable pub countPermitted : List ℕ → List ℕ → List ℕ → ℕ → ℕ
+countPermitted marked invalid held zero = 0
+countPermitted marked invalid held (suc n) =
+    countPermitted marked invalid held n + cond (permitted marked invalid held n) 1 0
+
+-- no bit of the k blocks from n on is set
+unfoldable pub clearFrom : List ℕ → ℕ → ℕ → Bool
+clearFrom bits n zero = true
+clearFrom bits n (suc k) = let more = clearFrom bits (n + 1) k in cond (bitAt bits n) false more
+
+-- none of the first n blocks has both bits set
+unfoldable pub neverBoth : List ℕ → List ℕ → ℕ → Bool
+neverBoth xs ys zero = true
+neverBoth xs ys (suc n) = let less = neverBoth xs ys n in cond (bitAt xs n) (cond (bitAt ys n) false less) less
+
+-- the k entries of the map from n on are empty
+unfoldable pub emptyFrom : List ℕ → ℕ → ℕ → Bool
+emptyFrom map n zero = true
+emptyFrom map n (suc k) = let more = emptyFrom map (n + 1) k in cond (eqb (getD map n 0) none) more false
+
+-- a block with something current: on the chip, unmarked, not invalid, and not named before
+abbrev pub soundBlock : List ℕ → List ℕ → List ℕ → ℕ → ℕ → Bool
+soundBlock marked invalid named blocks b = cond (ltb b blocks) (permitted marked invalid named b) false
+
+-- each of the k entries of the map from n on is empty or sound, where named has the blocks named so far
+unfoldable pub soundFrom : State → ℕ → List ℕ → ℕ → ℕ → Bool
+soundFrom s blocks named n zero = true
+soundFrom s blocks named n (suc k) =
+    let skip = soundFrom s blocks named (n + 1) k in
+    let more = soundFrom s blocks (withBit named (getD (s .map) n 0)) (n + 1) k in
+    cond (eqb (getD (s .map) n 0) none) skip
+    (cond (soundBlock (s .marked) (s .invalid) named blocks (getD (s .map) n 0)) more false)
+
+-- the entries past the logical blocks are empty, and the table's block and those of the copies are sound
+unfoldable pub soundEntries : State → ℕ → ℕ → Bool
+soundEntries s blocks logical =
+    cond (emptyFrom (s .map) logical (4096 - logical))
+    (cond (soundBlock (s .marked) (s .invalid) (replicate 512 0) blocks (s .table))
+    (soundFrom s blocks (withBit (replicate 512 0) (s .table)) 0 logical)
+    false)
+    false
+
+-- a state counts as mounted for so many blocks and logical blocks
+unfoldable pub mounted : State → ℕ → ℕ → Bool
+mounted s blocks logical =
+    cond (eqb (s .status) 1)
+    (cond (ltb (s .last) blocks)
+    (cond (clearFrom (s .marked) blocks (4096 - blocks))
+    (cond (clearFrom (s .invalid) blocks (4096 - blocks))
+    (cond (neverBoth (s .marked) (s .invalid) 4096) (soundEntries s blocks logical) false)
+    false)
+    false)
+    false)
+    false
+
+-- the bench's third figure: valid unmarked blocks that hold nothing current, 0 if not mounted
+unfoldable pub freeBlocks : State → ℕ → ℕ → ℕ
+freeBlocks s blocks logical =
+    cond (mounted s blocks logical) (countPermitted (s .marked) (s .invalid) (heldBits s logical) blocks) 0

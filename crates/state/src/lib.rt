@@ -1,0 +1,281 @@
+// The mounted state, and the choice of a block for the next fill.
+pub mod choose;
+
+ghost use mathlib.Core.Path.{_≡_};
+ghost use Prim.Native.Nat.{_+_, _-_, _<_, _≤_};
+ghost use lib.ListN.{replicate};
+ghost use Rattle.bitmaps.specs.Bitmap.{withBit};
+ghost use Rattle.state.specs.State.{blank, spent, withNumber, withInvalid, withCopy, withTable, heldBits, clearFrom, neverBoth, emptyFrom, countPermitted, soundBlock, soundFrom, soundEntries, mounted, freeBlocks};
+
+// What a mount found and the fills since changed. It goes in by value and comes back.
+pub struct State {
+    // 0 not mounted, 1 mounted, 2 stopped.
+    pub status: usize,
+    // The block of the current table.
+    pub table: usize,
+    // The block filled last.
+    pub last: usize,
+    // The next sequence number.
+    pub number: u64,
+    // Factory marks and invalid blocks, one bit a block.
+    pub marked: [u8; 512],
+    pub invalid: [u8; 512],
+    // The block of each logical block, FFFFh where it has none.
+    pub map: [u16; 4096],
+}
+
+fn wide(x: u16) -> usize
+    ensures { λ r. ⌜ r ≡ x ⌝ }
+{
+    x as usize
+}
+
+// Whether no bit of a block past the last is set.
+fn is_clear_from(bits: &[u8; 512], blocks: usize) -> bool
+    requires { ⌜ blocks ≤ 4096 ⌝ }
+    ensures { λ r. ⌜ r ≡ clearFrom (now (bits .entry)) blocks (4096 - blocks) ⌝ }
+{
+    let mut b = blocks;
+    while b < 4096 {
+        if bitmaps::is_set(bits, b) {
+            return false;
+        }
+        b += 1;
+    }
+    true
+}
+
+// Whether no block is both marked and invalid.
+fn is_never_both(marked: &[u8; 512], invalid: &[u8; 512]) -> bool
+    ensures { λ r. ⌜ r ≡ neverBoth (now (marked .entry)) (now (invalid .entry)) 4096 ⌝ }
+{
+    let mut b: usize = 4096;
+    while 0 < b {
+        b -= 1;
+        if bitmaps::is_set(marked, b) {
+            if bitmaps::is_set(invalid, b) {
+                return false;
+            }
+        }
+    }
+    true
+}
+
+// Whether the entries past the last logical block are empty.
+fn is_empty_from(map: &[u16; 4096], logical: usize) -> bool
+    requires { ⌜ logical ≤ 4096 ⌝ }
+    ensures { λ r. ⌜ r ≡ emptyFrom (now (map .entry)) logical (4096 - logical) ⌝ }
+{
+    let mut l = logical;
+    while l < 4096 {
+        if map[l] != 65535 {
+            return false;
+        }
+        l += 1;
+    }
+    true
+}
+
+// How many blocks may be filled.
+fn count_permitted(
+    marked: &[u8; 512],
+    invalid: &[u8; 512],
+    held: &[u8; 512],
+    blocks: usize,
+) -> usize
+    requires { ⌜ blocks ≤ 4096 ⌝ }
+    ensures { λ r. ⌜ r ≡ countPermitted (now (marked .entry)) (now (invalid .entry)) (now (held .entry)) blocks ⌝ }
+{
+    let mut count: usize = 0;
+    let mut b = 0;
+    while b < blocks {
+        if choose::is_permitted(marked, invalid, held, b) {
+            count += 1;
+        }
+        b += 1;
+    }
+    count
+}
+
+impl State {
+    // A state that is 0 in all other fields.
+    pub fn blank(status: usize) -> Self
+        ensures { λ r. ⌜ r ≡ blank status ⌝ }
+    {
+        Self {
+            status,
+            table: 0,
+            last: 0,
+            number: 0,
+            marked: [0; 512],
+            invalid: [0; 512],
+            map: [0; 4096],
+        }
+    }
+
+    // Whether no number is left.
+    pub fn is_spent(self) -> bool
+        ensures { λ r. ⌜ r ≡ spent self ⌝ }
+    {
+        let number = self.number;
+        4294967295 < number
+    }
+
+    // The state after its next number was taken.
+    pub fn take_number(mut self) -> Self
+        requires { ⌜ self .number ≤ 4294967295 ⌝ }
+        ensures { λ r. ⌜ r ≡ withNumber (self .number + 1) self ⌝ }
+    {
+        let number = self.number;
+        self.number = number + 1;
+        self
+    }
+
+    // The state after a block failed.
+    pub fn mark_invalid(mut self, block: usize) -> Self
+        requires { ⌜ block < 4096 ⌝ }
+        ensures { λ r. ⌜ r ≡ withInvalid block self ⌝ }
+    {
+        let mut bits = self.invalid;
+        bitmaps::set_bit(&mut bits, block);
+        self.invalid = bits;
+        self
+    }
+
+    // The state after a passed fill with a copy of a logical block.
+    pub fn record_copy(mut self, logical: usize, block: usize) -> Self
+        requires { ⌜ (logical < 4096) × (block < 4096) ⌝ }
+        ensures { λ r. ⌜ r ≡ withCopy logical block self ⌝ }
+    {
+        self.map[logical] = block as u16;
+        self.last = block;
+        self
+    }
+
+    // The blocks that hold something current, one bit a block.
+    pub fn held(self, logical: usize) -> [u8; 512]
+        requires { ⌜ logical ≤ 4096 ⌝ }
+        ensures { λ r. ⌜ r ≡ heldBits self logical ⌝ }
+    {
+        let map = self.map;
+        let table = self.table;
+        let mut bits = [0u8; 512];
+        if table < 4096 {
+            bitmaps::set_bit(&mut bits, table);
+        }
+        let mut l = 0;
+        while l < logical {
+            let block = wide(map[l]);
+            if block < 4096 {
+                bitmaps::set_bit(&mut bits, block);
+            }
+            l += 1;
+        }
+        bits
+    }
+
+    // Whether every copy's block is on the chip, unmarked, valid and named once.
+    fn has_sound_map(self, blocks: usize, logical: usize) -> bool
+        requires { ⌜ (blocks ≤ 4096) × (logical ≤ 4096) × (self .table < blocks) ⌝ }
+        ensures { λ r. ⌜ r ≡ soundFrom self blocks (withBit (replicate 512 0) (self .table)) 0 logical ⌝ }
+    {
+        let marked = self.marked;
+        let invalid = self.invalid;
+        let map = self.map;
+        let table = self.table;
+        let mut named = [0u8; 512];
+        bitmaps::set_bit(&mut named, table);
+        let mut l = 0;
+        while l < logical {
+            let block = wide(map[l]);
+            if block != 65535 {
+                if blocks <= block {
+                    return false;
+                }
+                if !choose::is_permitted(&marked, &invalid, &named, block) {
+                    return false;
+                }
+                bitmaps::set_bit(&mut named, block);
+            }
+            l += 1;
+        }
+        true
+    }
+
+    // Whether the table's block is on the chip, unmarked and valid.
+    fn has_sound_table(self, blocks: usize) -> bool
+        requires { ⌜ blocks ≤ 4096 ⌝ }
+        ensures { λ r. ⌜ r ≡ soundBlock (self .marked) (self .invalid) (replicate 512 0) blocks (self .table) ⌝ }
+    {
+        let marked = self.marked;
+        let invalid = self.invalid;
+        let table = self.table;
+        let named = [0u8; 512];
+        if blocks <= table {
+            return false;
+        }
+        choose::is_permitted(&marked, &invalid, &named, table)
+    }
+
+    // Whether the map names sound blocks for the logical blocks and none past them, and the table's block is sound.
+    fn has_sound_entries(self, blocks: usize, logical: usize) -> bool
+        requires { ⌜ (blocks ≤ 4096) × (logical ≤ 4096) ⌝ }
+        ensures { λ r. ⌜ r ≡ soundEntries self blocks logical ⌝ }
+    {
+        let map = self.map;
+        if is_empty_from(&map, logical) {
+            if self.has_sound_table(blocks) {
+                return self.has_sound_map(blocks, logical);
+            }
+        }
+        false
+    }
+
+    // Whether the state counts as mounted, on any state whatever.
+    pub fn is_mounted(self, blocks: usize, logical: usize) -> bool
+        requires { ⌜ (blocks ≤ 4096) × (logical ≤ 4096) ⌝ }
+        ensures { λ r. ⌜ r ≡ mounted self blocks logical ⌝ }
+    {
+        let status = self.status;
+        if status != 1 {
+            return false;
+        }
+        let last = self.last;
+        if blocks <= last {
+            return false;
+        }
+        let marked = self.marked;
+        let invalid = self.invalid;
+        if is_clear_from(&marked, blocks) {
+            if is_clear_from(&invalid, blocks) {
+                if is_never_both(&marked, &invalid) {
+                    return self.has_sound_entries(blocks, logical);
+                }
+            }
+        }
+        false
+    }
+
+    // The valid unmarked blocks that hold nothing current, 0 if the state is not mounted.
+    pub fn free_blocks(self, blocks: usize, logical: usize) -> usize
+        requires { ⌜ (blocks ≤ 4096) × (logical ≤ 4096) ⌝ }
+        ensures { λ r. ⌜ r ≡ freeBlocks self blocks logical ⌝ }
+    {
+        if self.is_mounted(blocks, logical) {
+            let marked = self.marked;
+            let invalid = self.invalid;
+            let held = self.held(logical);
+            return count_permitted(&marked, &invalid, &held, blocks);
+        }
+        0
+    }
+
+    // The state after a passed fill with a table.
+    pub fn record_table(mut self, block: usize) -> Self
+        ensures { λ r. ⌜ r ≡ withTable block self ⌝ }
+    {
+        self.table = block;
+        self.last = block;
+        self
+    }
+}
