@@ -1,6 +1,6 @@
 -- Single bits of bytes and of bitmaps. Assumes nothing.
-use Prim.Native.Nat.{ℕ, zero, suc, _+_, _-_, _*_, _/_, _%_, _^_, _<_}
-use mathlib.Core.Bool.{Bool, true, false, not}
+use Prim.Native.Nat.{_≤_, ℕ, zero, suc, _+_, _-_, _*_, _/_, _%_, _^_, _<_}
+use mathlib.Core.Bool.{Bool, true, false, not, cond}
 use mathlib.Core.List.{List}
 use mathlib.Core.Path.{_≡_, refl, ap, _∙_}
 use native.Mathlib.Nat.{one-mul, zero-mul, pow-le-pow-right, lt-of-le-of-lt, add-comm, add-zero, mul-comm, mul-div-cancel, div-eq-of-lt, div-self, pow-suc}
@@ -12,7 +12,7 @@ use lib.Dec.{eqb, ltb}
 use lib.ListN.{length, getD}
 use lib.Seq.{getD-set-same, getD-set-other, set-out}
 use lib.Bits.{bitAnd, bitOr, and-mask, and-high, or-shr, or-mod, or-zero-r}
-use Rattle.bitmaps.specs.Bitmap.{byteOf, placeOf, bitIn, bitAt, withBit, countBits}
+use Rattle.bitmaps.specs.Bitmap.{byteOf, placeOf, bitIn, bitAt, withBit, countBits, clearFrom, neverBoth}
 
 by-test : {P : Type 0} (b : Bool) → (b ≡ true → P) → (b ≡ false → P) → P
 by-test true f g = f refl
@@ -98,3 +98,58 @@ bit-kept bits b c h =
     ∙ or-zero-r (bitIn (getD bits (byteOf b) 0) (placeOf c)))))
     (λ u. rw (set-out bits (byteOf b) (bitOr (getD bits (byteOf b) 0) (2 ^ placeOf b)) (ltb-false (byteOf b) (length bits) u))))
     (λ t. rw (getD-set-other bits (byteOf b) (byteOf c) (bitOr (getD bits (byteOf b) 0) (2 ^ placeOf b)) 0 (eqb-false (byteOf c) (byteOf b) t)))
+
+-- the search for a set bit: found, not yet, over
+pub clear-hit : (bits : List ℕ) (m n : ℕ) → n < m → bitAt bits n ≡ true → false ≡ clearFrom bits n (m - n)
+unfolding clearFrom
+clear-hit bits m n h t =
+    let e : m - n ≡ suc (m - (n + 1)) = omega arith in
+    rw (e, t)
+
+pub clear-on : (bits : List ℕ) (m n : ℕ) → n < m → bitAt bits n ≡ false → clearFrom bits (n + 1) (m - (n + 1)) ≡ clearFrom bits n (m - n)
+unfolding clearFrom
+clear-on bits m n h t =
+    let e : m - n ≡ suc (m - (n + 1)) = omega arith in
+    rw (e, t)
+
+pub clear-over : (bits : List ℕ) (m n : ℕ) → m ≤ n → true ≡ clearFrom bits n (m - n)
+unfolding clearFrom
+clear-over bits m n h =
+    let e : m - n ≡ 0 = omega arith in
+    rw e
+
+cond-same : (b : Bool) {x : Bool} → x ≡ cond b x x
+cond-same true = refl
+cond-same false = refl
+
+-- one block more
+both-next : (xs ys : List ℕ) (n : ℕ) → bitAt xs n ≡ true → bitAt ys n ≡ true → false ≡ neverBoth xs ys (suc n)
+unfolding neverBoth
+both-next xs ys n s t = rw (s, t)
+
+first-next : (xs ys : List ℕ) (n : ℕ) → bitAt xs n ≡ false → neverBoth xs ys n ≡ neverBoth xs ys (suc n)
+unfolding neverBoth
+first-next xs ys n s = rw s
+
+second-next : (xs ys : List ℕ) (n : ℕ) → bitAt ys n ≡ false → neverBoth xs ys n ≡ neverBoth xs ys (suc n)
+unfolding neverBoth
+second-next xs ys n t = rw t (cond-same (bitAt xs n))
+
+one-back : (n : ℕ) → 0 < n → suc (n - 1) ≡ n
+one-back n h = omega arith
+
+-- the last of the first n blocks: both bits, not the first, not the second
+pub never-hit : (xs ys : List ℕ) (n : ℕ) → 0 < n → bitAt xs (n - 1) ≡ true → bitAt ys (n - 1) ≡ true → false ≡ neverBoth xs ys n
+never-hit xs ys n h s t = both-next xs ys (n - 1) s t ∙ ap (neverBoth xs ys) (one-back n h)
+
+pub never-first : (xs ys : List ℕ) (n : ℕ) → 0 < n → bitAt xs (n - 1) ≡ false → neverBoth xs ys (n - 1) ≡ neverBoth xs ys n
+never-first xs ys n h s = first-next xs ys (n - 1) s ∙ ap (neverBoth xs ys) (one-back n h)
+
+pub never-second : (xs ys : List ℕ) (n : ℕ) → 0 < n → bitAt ys (n - 1) ≡ false → neverBoth xs ys (n - 1) ≡ neverBoth xs ys n
+never-second xs ys n h t = second-next xs ys (n - 1) t ∙ ap (neverBoth xs ys) (one-back n h)
+
+pub never-over : (xs ys : List ℕ) (n : ℕ) → n ≤ 0 → true ≡ neverBoth xs ys n
+unfolding neverBoth
+never-over xs ys n h =
+    let e : n ≡ 0 = omega arith in
+    rw e

@@ -1,6 +1,6 @@
 -- Bitmaps: one bit a block, low bit first.
 use Prim.Native.Nat.{ℕ, zero, suc, _+_, _/_, _%_, _^_}
-use mathlib.Core.Bool.{Bool, cond}
+use mathlib.Core.Bool.{Bool, true, false, cond}
 use mathlib.Core.List.{List}
 use lib.Dec.{eqb}
 use lib.ListN.{getD, set}
@@ -29,3 +29,13 @@ withBit bits b = set bits (byteOf b) (bitOr (getD bits (byteOf b) 0) (2 ^ placeO
 unfoldable pub countBits : List ℕ → ℕ → ℕ
 countBits bits zero = 0
 countBits bits (suc n) = countBits bits n + cond (bitAt bits n) 1 0
+
+-- no bit of the k blocks from n on is set
+unfoldable pub clearFrom : List ℕ → ℕ → ℕ → Bool
+clearFrom bits n zero = true
+clearFrom bits n (suc k) = let more = clearFrom bits (n + 1) k in cond (bitAt bits n) false more
+
+-- none of the first n blocks has its bit set in both
+unfoldable pub neverBoth : List ℕ → List ℕ → ℕ → Bool
+neverBoth xs ys zero = true
+neverBoth xs ys (suc n) = let less = neverBoth xs ys n in cond (bitAt xs n) (cond (bitAt ys n) false less) less

@@ -1,3 +1,4 @@
 pub mod BlockLaws
 pub mod CopyTests
 pub mod SummaryLaws
+pub mod TableLaws

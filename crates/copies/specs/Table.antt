@@ -1,46 +1,45 @@
 -- The table of invalid blocks: its page 0 and its other pages.
-use Prim.Native.Nat.{ℕ, zero, suc, _+_, _-_, _*_, _/_}
+use Prim.Native.Nat.{ℕ, zero, suc, _+_, _-_, _*_, _/_, _≤_}
 use mathlib.Core.Bool.{Bool, true, false, cond}
 use mathlib.Core.List.{List, _++_}
 use lib.Dec.{eqb}
 use lib.ListN.{take, drop, replicate}
 use Rattle.geometry.specs.declared.Geometry.{Geometry}
-use Rattle.bitmaps.specs.Bitmap.{bitAt, countBits}
+use Rattle.bitmaps.specs.Bitmap.{bitAt, countBits, clearFrom}
 use Rattle.pages.specs.Layout.{bytesOf, numberOf, allOnes}
 use Rattle.copies.specs.Blocks.{labelIn, mainIn}
 
 -- bytes of the bitmap: one bit a block
-abbrev pub bitmapBytes : Geometry → ℕ
-bitmapBytes g = (g .blocks + 7) / 8
+abbrev pub bitmapBytes : ℕ → ℕ
+bitmapBytes blocks = (blocks + 7) / 8
+
+-- a page has room for header and bitmap
+pub record Roomy (blocks main : ℕ) : Type 0 where
+  pub blocks-least : 1 ≤ blocks
+  pub blocks-most : blocks ≤ 4096
+  pub room : 8 + bitmapBytes blocks ≤ main
+  pub main-most : main ≤ 4096
 
 -- header: blocks, logical blocks, invalid blocks, offset of the bitmap, each in two bytes
-abbrev pub header : Geometry → List ℕ → List ℕ
-header g bits =
-    bytesOf 2 (g .blocks) ++ (bytesOf 2 (g .logical) ++ (bytesOf 2 (countBits bits (g .blocks)) ++ bytesOf 2 8))
+abbrev pub header : ℕ → ℕ → List ℕ → List ℕ
+header blocks logical bits =
+    bytesOf 2 blocks ++ (bytesOf 2 logical ++ (bytesOf 2 (countBits bits blocks) ++ bytesOf 2 8))
 
 -- main bytes of page 0: header, bitmap, FFh
-unfoldable pub tablePage : Geometry → List ℕ → List ℕ
-tablePage g bits =
-    header g bits
-    ++ (take (bitmapBytes g) bits ++ replicate (g .main - (8 + bitmapBytes g)) 255)
+unfoldable pub tablePage : ℕ → ℕ → ℕ → List ℕ → List ℕ
+tablePage main blocks logical bits =
+    header blocks logical bits
+    ++ (take (bitmapBytes blocks) bits ++ replicate (main - (8 + bitmapBytes blocks)) 255)
 
--- the fields and the bitmap that a table's block holds
-abbrev pub tableMain : Geometry → List ℕ → List ℕ
-tableMain g block = mainIn g block 0
+-- the fields and the bitmap of a table's page 0
+abbrev pub fieldOf : List ℕ → ℕ → ℕ
+fieldOf main at = numberOf (take 2 (drop at main))
 
-abbrev pub fieldAt : Geometry → List ℕ → ℕ → ℕ
-fieldAt g block k = numberOf (take 2 (drop (2 * k) (tableMain g block)))
-
-abbrev pub bitmapIn : Geometry → List ℕ → List ℕ
-bitmapIn g block = take (bitmapBytes g) (drop 8 (tableMain g block))
+abbrev pub bitmapOf : ℕ → List ℕ → List ℕ
+bitmapOf blocks main = take (bitmapBytes blocks) (drop 8 main)
 
 abbrev pub lists : Geometry → List ℕ → ℕ → Bool
-lists g table b = bitAt (bitmapIn g table) b
-
--- the bits of the k blocks from n on are clear
-unfoldable pub clearPast : List ℕ → ℕ → ℕ → Bool
-clearPast bits n zero = true
-clearPast bits n (suc k) = let more = clearPast bits (n + 1) k in cond (bitAt bits n) false more
+lists g table b = bitAt (bitmapOf (g .blocks) (mainIn g table 0)) b
 
 -- no bit is set for a block that some test picks
 unfoldable pub clearWhere : (ℕ → Bool) → List ℕ → ℕ → Bool
@@ -55,21 +54,26 @@ restOnes g block (suc zero) = true
 restOnes g block (suc (suc n)) =
     let less = restOnes g block (suc n) in cond (allOnes (mainIn g block (suc n))) less false
 
--- the layout, its counts and the given geometry; marked tells the blocks with a factory mark
+-- page 0 has the layout, its counts and the given geometry
+unfoldable pub rightFirst : ℕ → ℕ → List ℕ → Bool
+rightFirst blocks logical main =
+    cond (eqb (fieldOf main 0) blocks)
+    (cond (eqb (fieldOf main 2) logical)
+    (cond (eqb (fieldOf main 4) (countBits (bitmapOf blocks main) blocks))
+    (cond (eqb (fieldOf main 6) 8)
+    (cond (clearFrom (bitmapOf blocks main) blocks (8 * bitmapBytes blocks - blocks))
+    (allOnes (drop (8 + bitmapBytes blocks) main))
+    false)
+    false)
+    false)
+    false)
+    false
+
+-- the whole table; marked tells the blocks with a factory mark
 unfoldable pub rightTable : Geometry → (ℕ → Bool) → List ℕ → Bool
 rightTable g marked block =
     cond (eqb (labelIn g block 0 .logical) 0)
-    (cond (eqb (fieldAt g block 0) (g .blocks))
-    (cond (eqb (fieldAt g block 1) (g .logical))
-    (cond (eqb (fieldAt g block 2) (countBits (bitmapIn g block) (g .blocks)))
-    (cond (eqb (fieldAt g block 3) 8)
-    (cond (clearPast (bitmapIn g block) (g .blocks) (8 * bitmapBytes g - g .blocks))
-    (cond (clearWhere marked (bitmapIn g block) (g .blocks))
-    (cond (allOnes (drop (8 + bitmapBytes g) (tableMain g block))) (restOnes g block (g .pages)) false)
-    false)
-    false)
-    false)
-    false)
-    false)
+    (cond (rightFirst (g .blocks) (g .logical) (mainIn g block 0))
+    (cond (restOnes g block (g .pages)) (clearWhere marked (bitmapOf (g .blocks) (mainIn g block 0)) (g .blocks)) false)
     false)
     false

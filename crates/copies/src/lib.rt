@@ -1,4 +1,6 @@
 // Copies and tables on the chip: what the pages of a block tell, one after the other.
+pub mod table;
+
 ghost use mathlib.Core.Path.{_≡_};
 ghost use Prim.Native.Nat.{_+_, _<_, max};
 ghost use Rattle.pages.specs.Layout.{Sized, label, labelOf};

@@ -36,7 +36,7 @@ pub fn zero_bits(bytes: &[u8]) -> usize
 }
 
 // Whether every byte is FFh.
-fn all_ones(bytes: &[u8]) -> bool
+pub fn all_ones(bytes: &[u8]) -> bool
     ensures { λ r. ⌜ r ≡ allOnes (now (bytes .entry)) ⌝ }
 {
     let mut i = 0;
@@ -63,7 +63,7 @@ pub fn number_width(kind: u8) -> usize
 }
 
 // A number of two bytes, low byte first.
-fn pair_at(bytes: &[u8], at: usize) -> usize
+pub fn pair_at(bytes: &[u8], at: usize) -> usize
     requires { ⌜ at + 2 ≤ length (now bytes) ⌝ }
     ensures { λ r. ⌜ r ≡ numberOf (take 2 (drop at (now (bytes .entry)))) ⌝ }
 {
@@ -133,7 +133,7 @@ pub fn is_whole(page: &[u8], main: usize) -> bool
 }
 
 // Writes a number of two bytes, low byte first.
-fn write_pair(bytes: &mut [u8], at: usize, number: usize)
+pub fn write_pair(bytes: &mut [u8], at: usize, number: usize)
     requires { ⌜ at + 2 ≤ length (now bytes) ⌝ }
     ensures { λ _. ⌜ now (bytes .exit) ≡ put at (bytesOf 2 number) (now (bytes .entry)) ⌝ }
 {
@@ -143,7 +143,7 @@ fn write_pair(bytes: &mut [u8], at: usize, number: usize)
 }
 
 // Writes FFh from a place on.
-fn fill_ones(bytes: &mut [u8], from: usize)
+pub fn fill_ones(bytes: &mut [u8], from: usize)
     requires { ⌜ from ≤ length (now bytes) ⌝ }
     ensures { λ _. ⌜ now (bytes .exit) ≡ take from (now (bytes .entry)) ++ replicate (length (now (bytes .entry)) - from) 255 ⌝ }
 {

@@ -1,6 +1,6 @@
 -- Laws of what the methods of the state walk over: bitmaps and the map, one block or entry at a time. Assumes nothing.
 use Prim.Native.Nat.{ℕ, zero, suc, _+_, _-_, _≤_, _<_}
-use mathlib.Core.Bool.{Bool, true, false, cond}
+use mathlib.Core.Bool.{Bool, true, false}
 use mathlib.Core.List.{List}
 use mathlib.Core.Path.{_≡_, refl, sym, ap, _∙_}
 use native.Mathlib.Nat.{add-zero, sub-zero}
@@ -9,9 +9,9 @@ use native.Mathlib.Omega.{arith}
 use borrow.Author.Tests.{eq-eqb, ne-eqb, lt-ltb, le-ltb, ltb-true}
 use lib.Dec.{ltb}
 use lib.ListN.{length, getD, length-set}
-use Rattle.bitmaps.specs.Bitmap.{bitAt, withBit}
+use Rattle.bitmaps.specs.Bitmap.{withBit}
 use Rattle.state.specs.Choose.{permitted}
-use Rattle.state.specs.State.{addBlock, copyBits, countPermitted, clearFrom, neverBoth, emptyFrom, soundBlock, soundFrom}
+use Rattle.state.specs.State.{addBlock, copyBits, countPermitted, emptyFrom, soundBlock, soundFrom}
 use Rattle.state.specs.declared.State.{State}
 
 pub by-test : {P : Type 0} (b : Bool) → (b ≡ true → P) → (b ≡ false → P) → P
@@ -20,25 +20,6 @@ by-test false f g = g refl
 
 pub not-both : false ≡ true → ⊥
 not-both e = let z : _≡_ {A = ℕ} 0 1 = cc in omega arith
-
--- a set bit of the blocks from n on, a clear one, and no block left
-pub clear-hit : (bits : List ℕ) (m n : ℕ) → n < m → bitAt bits n ≡ true → false ≡ clearFrom bits n (m - n)
-unfolding clearFrom
-clear-hit bits m n h t =
-    let e : m - n ≡ suc (m - (n + 1)) = omega arith in
-    rw (e, t)
-
-pub clear-on : (bits : List ℕ) (m n : ℕ) → n < m → bitAt bits n ≡ false → clearFrom bits (n + 1) (m - (n + 1)) ≡ clearFrom bits n (m - n)
-unfolding clearFrom
-clear-on bits m n h t =
-    let e : m - n ≡ suc (m - (n + 1)) = omega arith in
-    rw (e, t)
-
-pub clear-over : (bits : List ℕ) (m n : ℕ) → m ≤ n → true ≡ clearFrom bits n (m - n)
-unfolding clearFrom
-clear-over bits m n h =
-    let e : m - n ≡ 0 = omega arith in
-    rw e
 
 -- an entry of the map from n on that is not empty, an empty one, and no entry left
 pub empty-hit : (map : List ℕ) (m n : ℕ) → n < m → (getD map n 0 ≡ 65535 → ⊥) → false ≡ emptyFrom map n (m - n)
@@ -57,42 +38,6 @@ pub empty-over : (map : List ℕ) (m n : ℕ) → m ≤ n → true ≡ emptyFrom
 unfolding emptyFrom
 empty-over map m n h =
     let e : m - n ≡ 0 = omega arith in
-    rw e
-
-pub cond-same : (b : Bool) {x : Bool} → x ≡ cond b x x
-cond-same true = refl
-cond-same false = refl
-
--- one block more
-pub both-next : (xs ys : List ℕ) (n : ℕ) → bitAt xs n ≡ true → bitAt ys n ≡ true → false ≡ neverBoth xs ys (suc n)
-unfolding neverBoth
-both-next xs ys n s t = rw (s, t)
-
-pub first-next : (xs ys : List ℕ) (n : ℕ) → bitAt xs n ≡ false → neverBoth xs ys n ≡ neverBoth xs ys (suc n)
-unfolding neverBoth
-first-next xs ys n s = rw s
-
-pub second-next : (xs ys : List ℕ) (n : ℕ) → bitAt ys n ≡ false → neverBoth xs ys n ≡ neverBoth xs ys (suc n)
-unfolding neverBoth
-second-next xs ys n t = rw t (cond-same (bitAt xs n))
-
-pub one-back : (n : ℕ) → 0 < n → suc (n - 1) ≡ n
-one-back n h = omega arith
-
--- the last of the first n blocks: both bits, not the first, not the second
-pub never-hit : (xs ys : List ℕ) (n : ℕ) → 0 < n → bitAt xs (n - 1) ≡ true → bitAt ys (n - 1) ≡ true → false ≡ neverBoth xs ys n
-never-hit xs ys n h s t = both-next xs ys (n - 1) s t ∙ ap (neverBoth xs ys) (one-back n h)
-
-pub never-first : (xs ys : List ℕ) (n : ℕ) → 0 < n → bitAt xs (n - 1) ≡ false → neverBoth xs ys (n - 1) ≡ neverBoth xs ys n
-never-first xs ys n h s = first-next xs ys (n - 1) s ∙ ap (neverBoth xs ys) (one-back n h)
-
-pub never-second : (xs ys : List ℕ) (n : ℕ) → 0 < n → bitAt ys (n - 1) ≡ false → neverBoth xs ys (n - 1) ≡ neverBoth xs ys n
-never-second xs ys n h t = second-next xs ys (n - 1) t ∙ ap (neverBoth xs ys) (one-back n h)
-
-pub never-over : (xs ys : List ℕ) (n : ℕ) → n ≤ 0 → true ≡ neverBoth xs ys n
-unfolding neverBoth
-never-over xs ys n h =
-    let e : n ≡ 0 = omega arith in
     rw e
 
 -- one block more is counted, where it may be filled

@@ -4,7 +4,7 @@ use mathlib.Core.Bool.{Bool, true, false, cond}
 use mathlib.Core.List.{List}
 use lib.Dec.{eqb, ltb}
 use lib.ListN.{getD, set, replicate}
-use Rattle.bitmaps.specs.Bitmap.{bitAt, withBit}
+use Rattle.bitmaps.specs.Bitmap.{withBit, clearFrom, neverBoth}
 use Rattle.state.specs.Choose.{permitted}
 use Rattle.state.specs.declared.State.{State}
 
@@ -58,16 +58,6 @@ unfoldable pub countPermitted : List ℕ → List ℕ → List ℕ → ℕ → �
 countPermitted marked invalid held zero = 0
 countPermitted marked invalid held (suc n) =
     countPermitted marked invalid held n + cond (permitted marked invalid held n) 1 0
-
--- no bit of the k blocks from n on is set
-unfoldable pub clearFrom : List ℕ → ℕ → ℕ → Bool
-clearFrom bits n zero = true
-clearFrom bits n (suc k) = let more = clearFrom bits (n + 1) k in cond (bitAt bits n) false more
-
--- none of the first n blocks has both bits set
-unfoldable pub neverBoth : List ℕ → List ℕ → ℕ → Bool
-neverBoth xs ys zero = true
-neverBoth xs ys (suc n) = let less = neverBoth xs ys n in cond (bitAt xs n) (cond (bitAt ys n) false less) less
 
 -- the k entries of the map from n on are empty
 unfoldable pub emptyFrom : List ℕ → ℕ → ℕ → Bool

@@ -4,8 +4,8 @@ pub mod choose;
 ghost use mathlib.Core.Path.{_≡_};
 ghost use Prim.Native.Nat.{_+_, _-_, _<_, _≤_};
 ghost use lib.ListN.{replicate};
-ghost use Rattle.bitmaps.specs.Bitmap.{withBit};
-ghost use Rattle.state.specs.State.{blank, spent, withNumber, withInvalid, withCopy, withTable, heldBits, clearFrom, neverBoth, emptyFrom, countPermitted, soundBlock, soundFrom, soundEntries, mounted, freeBlocks};
+ghost use Rattle.bitmaps.specs.Bitmap.{withBit, clearFrom, neverBoth};
+ghost use Rattle.state.specs.State.{blank, spent, withNumber, withInvalid, withCopy, withTable, heldBits, emptyFrom, countPermitted, soundBlock, soundFrom, soundEntries, mounted, freeBlocks};
 
 // What a mount found and the fills since changed. It goes in by value and comes back.
 pub struct State {
@@ -35,30 +35,14 @@ fn is_clear_from(bits: &[u8; 512], blocks: usize) -> bool
     requires { ⌜ blocks ≤ 4096 ⌝ }
     ensures { λ r. ⌜ r ≡ clearFrom (now (bits .entry)) blocks (4096 - blocks) ⌝ }
 {
-    let mut b = blocks;
-    while b < 4096 {
-        if bitmaps::is_set(bits, b) {
-            return false;
-        }
-        b += 1;
-    }
-    true
+    bitmaps::is_clear_from(bits, blocks, 4096)
 }
 
 // Whether no block is both marked and invalid.
 fn is_never_both(marked: &[u8; 512], invalid: &[u8; 512]) -> bool
     ensures { λ r. ⌜ r ≡ neverBoth (now (marked .entry)) (now (invalid .entry)) 4096 ⌝ }
 {
-    let mut b: usize = 4096;
-    while 0 < b {
-        b -= 1;
-        if bitmaps::is_set(marked, b) {
-            if bitmaps::is_set(invalid, b) {
-                return false;
-            }
-        }
-    }
-    true
+    bitmaps::is_never_both(marked, invalid, 4096)
 }
 
 // Whether the entries past the last logical block are empty.

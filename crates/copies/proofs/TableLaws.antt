@@ -1,0 +1,159 @@
+-- Laws of the table's page 0. Assumes nothing.
+use Prim.Native.Nat.{ℕ, zero, suc, _+_, _-_, _*_, _/_, _≤_, _<_}
+use mathlib.Core.Bool.{Bool, true, false, cond}
+use mathlib.Core.List.{List, _++_, append-nil, append-assoc}
+use mathlib.Core.Path.{_≡_, refl, sym, ap, ap₂, _∙_}
+use native.Mathlib.Nat.{zero-add}
+use native.Mathlib.Omega.{arith}
+use borrow.Author.Tests.{eq-eqb, ne-eqb}
+use lib.ListN.{length, getD, take, drop, replicate, length-append, length-take, length-drop, drop-of-length-le}
+use lib.Seq.{length-take-le, getD-take, take-at, drop-at, drop-drop}
+use Rattle.geometry.specs.declared.Geometry.{Geometry}
+use Rattle.geometry.specs.Limits.{Valid}
+use Rattle.bitmaps.specs.Bitmap.{bitAt, countBits, clearFrom, neverBoth}
+use Rattle.pages.specs.Layout.{allOnes, bytesOf}
+use Rattle.pages.proofs.ByteLaws.{take-rest, put-next, take-put}
+use Rattle.pages.proofs.LayoutLaws.{length-bytesOf, numberOf-bytesOf, allOnes-replicate}
+use Rattle.cells.specs.Cells.{over}
+use Rattle.cells.specs.Part.{put}
+use Rattle.cells.proofs.PartLaws.{put-lent}
+use Rattle.copies.specs.Table.{Roomy, bitmapBytes, fieldOf, bitmapOf, rightFirst, tablePage, clearWhere}
+
+module _ (blocks logical : ℕ) (main : List ℕ) where
+  pub wrong-blocks : (fieldOf main 0 ≡ blocks → ⊥) → false ≡ rightFirst blocks logical main
+  unfolding rightFirst
+  wrong-blocks b = rw (ne-eqb _ _ b)
+
+  pub wrong-logical : fieldOf main 0 ≡ blocks → (fieldOf main 2 ≡ logical → ⊥) → false ≡ rightFirst blocks logical main
+  unfolding rightFirst
+  wrong-logical b l = rw (eq-eqb _ _ b, ne-eqb _ _ l)
+
+  pub wrong-count : fieldOf main 0 ≡ blocks → fieldOf main 2 ≡ logical → (fieldOf main 4 ≡ countBits (bitmapOf blocks main) blocks → ⊥) → false ≡ rightFirst blocks logical main
+  unfolding rightFirst
+  wrong-count b l n = rw (eq-eqb _ _ b, eq-eqb _ _ l, ne-eqb _ _ n)
+
+  pub wrong-offset : fieldOf main 0 ≡ blocks → fieldOf main 2 ≡ logical → fieldOf main 4 ≡ countBits (bitmapOf blocks main) blocks → (fieldOf main 6 ≡ 8 → ⊥) → false ≡ rightFirst blocks logical main
+  unfolding rightFirst
+  wrong-offset b l n o = rw (eq-eqb _ _ b, eq-eqb _ _ l, eq-eqb _ _ n, ne-eqb _ _ o)
+
+  pub wrong-bits : fieldOf main 0 ≡ blocks → fieldOf main 2 ≡ logical → fieldOf main 4 ≡ countBits (bitmapOf blocks main) blocks → fieldOf main 6 ≡ 8 → clearFrom (bitmapOf blocks main) blocks (8 * bitmapBytes blocks - blocks) ≡ false → false ≡ rightFirst blocks logical main
+  unfolding rightFirst
+  wrong-bits b l n o c = rw (eq-eqb _ _ b, eq-eqb _ _ l, eq-eqb _ _ n, eq-eqb _ _ o, c)
+
+  pub right-rest : fieldOf main 0 ≡ blocks → fieldOf main 2 ≡ logical → fieldOf main 4 ≡ countBits (bitmapOf blocks main) blocks → fieldOf main 6 ≡ 8 → clearFrom (bitmapOf blocks main) blocks (8 * bitmapBytes blocks - blocks) ≡ true → allOnes (drop (8 + bitmapBytes blocks) main) ≡ rightFirst blocks logical main
+  unfolding rightFirst
+  right-rest b l n o c = rw (eq-eqb _ _ b, eq-eqb _ _ l, eq-eqb _ _ n, eq-eqb _ _ o, c)
+
+-- the bitmap's part of the page, and what follows it
+pub bits-are : (blocks size : ℕ) (main : List ℕ) → size ≡ bitmapBytes blocks → take (8 + size - 8) (drop 8 main) ≡ bitmapOf blocks main
+bits-are blocks size main e =
+    let k : 8 + size - 8 ≡ bitmapBytes blocks = omega (arith, e) in
+    ap (λ (n : ℕ). take n (drop 8 main)) k
+
+pub rest-is : (blocks size : ℕ) (main : List ℕ) → size ≡ bitmapBytes blocks → take (length main - (8 + size)) (drop (8 + size) main) ≡ drop (8 + bitmapBytes blocks) main
+rest-is blocks size main e = take-rest (8 + size) main ∙ ap (λ (k : ℕ). drop (8 + k) main) e
+
+-- one field more
+pairs : (xs ys : List ℕ) (n : ℕ) → length xs ≡ n → length ys ≡ 2 → length (xs ++ ys) ≡ n + 2
+pairs xs ys n e f = length-append xs ys ∙ ap₂ _+_ e f
+
+-- the bitmap as it is copied: a lent part comes back with the bytes over it
+pub copied : (k size : ℕ) (bits p y : List ℕ) → k ≡ size → size ≤ length bits → 8 + size ≤ length p → y ≡ over (take size bits) (take k (drop 8 p)) → take 8 p ++ (y ++ drop k (drop 8 p)) ≡ put 8 (take size bits) p
+copied k size bits p y e b h f =
+    let l : length (take size bits) ≡ size = length-take-le size bits b in
+    let whole : y ≡ take size bits =
+    f ∙ rw (l, e, drop-of-length-le (take size (drop 8 p)) {i = size} (simp (length-take, length-drop) (omega arith)), append-nil) in
+    rw (whole, e) (put-lent 8 size (take size bits) p l)
+
+-- page 0 as it is built: four fields, the bitmap, FFh
+module _ (m p₁ p₂ p₃ p₄ p₅ p₆ bits : List ℕ) (blocks logical count size : ℕ) where
+  pub built : 8 + size ≤ length m → size ≤ length bits → size ≡ bitmapBytes blocks → count ≡ countBits bits blocks
+      → p₁ ≡ put 0 (bytesOf 2 blocks) m
+      → p₂ ≡ put 2 (bytesOf 2 logical) p₁
+      → p₃ ≡ put 4 (bytesOf 2 count) p₂
+      → p₄ ≡ put 6 (bytesOf 2 8) p₃
+      → p₅ ≡ put 8 (take size bits) p₄
+      → length p₅ ≡ length m
+      → p₆ ≡ take (8 + size) p₅ ++ replicate (length p₅ - (8 + size)) 255
+      → p₆ ≡ tablePage (length m) blocks logical bits
+  unfolding tablePage
+  built h b z n e₁ e₂ e₃ e₄ e₅ l e₆ =
+      let f₁ = bytesOf 2 blocks in
+      let f₂ = bytesOf 2 logical in
+      let f₃ = bytesOf 2 count in
+      let f₄ = bytesOf 2 8 in
+      let q₂ : p₂ ≡ put 0 (f₁ ++ f₂) m =
+      e₂ ∙ ap (put 2 f₂) e₁ ∙ put-next 0 2 f₂ f₁ m (length-bytesOf 2 blocks) (omega arith) in
+      let q₃ : p₃ ≡ put 0 ((f₁ ++ f₂) ++ f₃) m =
+      e₃ ∙ ap (put 4 f₃) q₂ ∙ put-next 0 4 f₃ (f₁ ++ f₂) m (pairs f₁ f₂ 2 (length-bytesOf 2 blocks) (length-bytesOf 2 logical)) (omega arith) in
+      let q₄ : p₄ ≡ put 0 (((f₁ ++ f₂) ++ f₃) ++ f₄) m =
+      e₄ ∙ ap (put 6 f₄) q₃ ∙ put-next 0 6 f₄ ((f₁ ++ f₂) ++ f₃) m (pairs (f₁ ++ f₂) f₃ 4 (pairs f₁ f₂ 2 (length-bytesOf 2 blocks) (length-bytesOf 2 logical)) (length-bytesOf 2 count)) (omega arith) in
+      let k₈ : length (((f₁ ++ f₂) ++ f₃) ++ f₄) ≡ 8 =
+      pairs ((f₁ ++ f₂) ++ f₃) f₄ 6 (pairs (f₁ ++ f₂) f₃ 4 (pairs f₁ f₂ 2 (length-bytesOf 2 blocks) (length-bytesOf 2 logical)) (length-bytesOf 2 count)) (length-bytesOf 2 8) in
+      let q₅ : p₅ ≡ put 0 ((((f₁ ++ f₂) ++ f₃) ++ f₄) ++ take size bits) m =
+      e₅ ∙ ap (put 8 (take size bits)) q₄ ∙ put-next 0 8 (take size bits) (((f₁ ++ f₂) ++ f₃) ++ f₄) m k₈ (omega arith) in
+      let k : length ((((f₁ ++ f₂) ++ f₃) ++ f₄) ++ take size bits) ≡ 8 + size =
+      length-append (((f₁ ++ f₂) ++ f₃) ++ f₄) (take size bits) ∙ ap₂ _+_ k₈ (length-take-le size bits b) in
+      e₆
+      ∙ ap (λ (j : ℕ). take (8 + size) p₅ ++ replicate (j - (8 + size)) 255) l
+      ∙ ap (λ (x : List ℕ). take (8 + size) x ++ replicate (length m - (8 + size)) 255) q₅
+      ∙ ap (λ (x : List ℕ). x ++ replicate (length m - (8 + size)) 255)
+      (ap (λ (j : ℕ). take j (put 0 ((((f₁ ++ f₂) ++ f₃) ++ f₄) ++ take size bits) m)) (sym (zero-add (8 + size)))
+      ∙ take-put 0 (8 + size) ((((f₁ ++ f₂) ++ f₃) ++ f₄) ++ take size bits) m k (omega arith))
+      ∙ rw (z, n) (simp append-assoc)
+
+-- blocks counted: no more than there are, and the same by the bytes that hold them
+count-step : (b : Bool) (c n : ℕ) → c ≤ n → c + cond b 1 0 ≤ suc n
+count-step true c n h = omega arith
+count-step false c n h = omega arith
+
+count-le : (bits : List ℕ) (n : ℕ) → countBits bits n ≤ n
+unfolding countBits
+count-le bits zero = omega arith
+count-le bits (suc n) = count-step (bitAt bits n) (countBits bits n) n (count-le bits n)
+
+count-take : (bits : List ℕ) (k n : ℕ) → n ≤ 8 * k → countBits (take k bits) n ≡ countBits bits n
+unfolding countBits bitAt
+count-take bits k zero h = refl
+count-take bits k (suc n) h =
+    let byte : getD (take k bits) (n / 8) 0 ≡ getD bits (n / 8) 0 = getD-take k bits (n / 8) 0 (omega (arith, h)) in
+    rw (count-take bits k n (omega (arith, h)), byte)
+
+-- page 0 as it is built is right
+module _ (main blocks logical : ℕ) (bits : List ℕ) where
+  pub table-right : Roomy blocks main → logical < 65536 → bitmapBytes blocks ≤ length bits
+      → clearFrom (take (bitmapBytes blocks) bits) blocks (8 * bitmapBytes blocks - blocks) ≡ true
+      → rightFirst blocks logical (tablePage main blocks logical bits) ≡ true
+  unfolding tablePage bytesOf
+  table-right r l h clear =
+      let k = bitmapBytes blocks in
+      let page = tablePage main blocks logical bits in
+      let ones : List ℕ = replicate (main - (8 + k)) 255 in
+      let map : bitmapOf blocks page ≡ take k bits = take-at (take k bits) ones k (length-take-le k bits h) in
+      let count : countBits (bitmapOf blocks page) blocks ≡ countBits bits blocks =
+      ap (λ (x : List ℕ). countBits x blocks) map ∙ count-take bits k blocks (omega arith) in
+      let rest : drop (8 + k) page ≡ ones = sym (drop-drop k 8 page) ∙ drop-at (take k bits) ones k (length-take-le k bits h) in
+      sym (right-rest blocks logical page
+      (numberOf-bytesOf 2 blocks (omega (arith, r .blocks-most)))
+      (numberOf-bytesOf 2 logical l)
+      (numberOf-bytesOf 2 (countBits bits blocks) (omega (arith, r .blocks-most, count-le bits blocks)) ∙ sym count)
+      (numberOf-bytesOf 2 8 (omega arith))
+      (ap (λ (x : List ℕ). clearFrom x blocks (8 * k - blocks)) map ∙ clear))
+      ∙ ap allOnes rest
+      ∙ allOnes-replicate (main - (8 + k))
+
+-- no marked block is listed, where the marks are a bitmap
+pub clear-where : (marked bits : List ℕ) (n : ℕ) → clearWhere (bitAt marked) bits n ≡ neverBoth marked bits n
+unfolding clearWhere neverBoth
+clear-where marked bits zero = refl
+clear-where marked bits (suc n) = rw (clear-where marked bits n)
+
+-- a valid geometry has room for header and bitmap
+pub valid-roomy : (g : Geometry) → Valid g → Roomy (g .blocks) (g .main)
+valid-roomy g v =
+    record {
+      blocks-least = omega (arith, v .blocks-least);
+      blocks-most = v .blocks-most;
+      room = omega (arith, v .blocks-room, v .main-least);
+      main-most = v .main-most;
+    }
