@@ -4,6 +4,7 @@ use mathlib.Core.Bool.{Bool, true, false, cond, false≢true}
 use mathlib.Core.List.{List}
 use mathlib.Core.Path.{_≡_, refl, sym, ap, subst, _∙_}
 use native.Mathlib.Omega.{arith}
+use borrow.Table.Steps.{cases}
 use borrow.Author.Tests.{eq-eqb, ne-eqb, le-ltb}
 use lib.Dec.{eqb}
 use Rattle.geometry.specs.declared.Geometry.{Geometry}
@@ -11,10 +12,6 @@ use Rattle.pages.specs.Layout.{Label, label}
 use Rattle.copies.specs.Blocks.{pageIn, agrees, wholeIn, labelIn, completeTo, aboveTo, isMarked, isComplete, above, markByte}
 use Rattle.copies.specs.Summary.{blankSummary, broken, summed, stepped, wholeStep, markedBy, saysComplete, saysAbove}
 use Rattle.copies.specs.declared.Summary.{Summary}
-
-by-test : {P : Type 0} (b : Bool) → (b ≡ true → P) → (b ≡ false → P) → P
-by-test true f g = f refl
-by-test false f g = g refl
 
 -- a summary of the first n pages, n at least 1
 pub record Sums (g : Geometry) (block : List ℕ) (n : ℕ) (s : Summary) : Type 0 where
@@ -75,7 +72,7 @@ module _ (g : Geometry) (block : List ℕ) where
   -- the label kept is that of page 0, wherever it counts
   agreed : (n : ℕ) (s : Summary) → Sums g block n s → cond (agrees (label (s .kind) (s .logical) 0 (s .number)) n (labelIn g block n)) (s .complete) 0 ≡ cond (cond (agrees (labelIn g block 0) n (labelIn g block n)) (completeTo g block n) false) 1 0
   agreed n s r =
-      by-test (wholeIn g block 0)
+      cases (wholeIn g block 0)
       (λ w. rw (agrees-alike (label (s .kind) (s .logical) 0 (s .number)) (labelIn g block 0) n (labelIn g block n) (r .kind-is w) (r .logical-is w) (r .number-is w), r .complete-is)
       (nested (agrees (labelIn g block 0) n (labelIn g block n)) (completeTo g block n)))
       (λ w. rw (r .complete-is, r .broken-is w)
@@ -96,7 +93,7 @@ module _ (g : Geometry) (block : List ℕ) where
   sums-first : Sums g block 1 (summed g block 1)
   unfolding summed wholeStep completeTo aboveTo page
   sums-first =
-      by-test (wholeIn g block 0)
+      cases (wholeIn g block 0)
       (λ t.
       let e = page-whole 0 blankSummary t in
       record {
@@ -121,7 +118,7 @@ module _ (g : Geometry) (block : List ℕ) where
   sums-next : (n : ℕ) (s : Summary) → 1 ≤ n → Sums g block n s → Sums g block (suc n) (page n s)
   unfolding wholeStep completeTo aboveTo
   sums-next n s h r =
-      by-test (wholeIn g block n)
+      cases (wholeIn g block n)
       (λ t.
       let e = page-whole n s t in
       let z = ne-eqb n 0 (λ x. omega (arith, x)) in
@@ -154,9 +151,9 @@ module _ (g : Geometry) (block : List ℕ) where
   page-mark : (n : ℕ) (s : Summary) → page n s .marked ≡ markedBy (g .main) n (pageIn g block n) (s .marked)
   unfolding wholeStep
   page-mark n s =
-      by-test (wholeIn g block n)
+      cases (wholeIn g block n)
       (λ t. ap (λ (x : Summary). x .marked) (page-whole n s t)
-      ∙ by-test (eqb n 0) (λ z. rw z) (λ z. rw z))
+      ∙ cases (eqb n 0) (λ z. rw z) (λ z. rw z))
       (λ t. ap (λ (x : Summary). x .marked) (page-broken n s t))
 
   mark-two : summed g block 2 .marked ≡ cond (isMarked g block) 1 0

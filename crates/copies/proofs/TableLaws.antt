@@ -1,23 +1,24 @@
 -- Laws of the table's page 0. Assumes nothing.
 use Prim.Native.Nat.{ℕ, zero, suc, _+_, _-_, _*_, _/_, _≤_, _<_}
 use mathlib.Core.Bool.{Bool, true, false, cond}
-use mathlib.Core.List.{List, _++_, append-nil, append-assoc}
+use mathlib.Core.List.{List, [], _∷_, _++_, append-nil, append-assoc}
 use mathlib.Core.Path.{_≡_, refl, sym, ap, ap₂, _∙_}
 use native.Mathlib.Nat.{zero-add}
 use native.Mathlib.Omega.{arith}
 use borrow.Author.Tests.{eq-eqb, ne-eqb}
 use lib.ListN.{length, getD, take, drop, replicate, length-append, length-take, length-drop, drop-of-length-le}
-use lib.Seq.{length-take-le, getD-take, take-at, drop-at, drop-drop}
+use lib.Seq.{length-take-le, take-take, getD-take, take-at, drop-at, drop-drop}
 use Rattle.geometry.specs.declared.Geometry.{Geometry}
 use Rattle.geometry.specs.Limits.{Valid}
+use Rattle.geometry.specs.Sizes.{pageSize}
 use Rattle.bitmaps.specs.Bitmap.{bitAt, countBits, clearFrom, neverBoth}
-use Rattle.pages.specs.Layout.{allOnes, bytesOf}
+use Rattle.pages.specs.Layout.{labelOf, allOnes, bytesOf}
 use Rattle.pages.proofs.ByteLaws.{take-rest, put-next, take-put}
 use Rattle.pages.proofs.LayoutLaws.{length-bytesOf, numberOf-bytesOf, allOnes-replicate}
 use Rattle.cells.specs.Cells.{over}
-use Rattle.cells.specs.Part.{put}
-use Rattle.cells.proofs.PartLaws.{put-lent}
-use Rattle.copies.specs.Table.{Roomy, bitmapBytes, fieldOf, bitmapOf, rightFirst, tablePage, clearWhere}
+use Rattle.cells.specs.Part.{part, put}
+use Rattle.cells.proofs.PartLaws.{put-lent, length-part}
+use Rattle.copies.specs.Table.{Roomy, bitmapBytes, fieldOf, bitmapOf, rightFirst, rightPage, bitsWith, tablePage, clearWhere}
 
 module _ (blocks logical : ℕ) (main : List ℕ) where
   pub wrong-blocks : (fieldOf main 0 ≡ blocks → ⊥) → false ≡ rightFirst blocks logical main
@@ -44,6 +45,43 @@ module _ (blocks logical : ℕ) (main : List ℕ) where
   unfolding rightFirst
   right-rest b l n o c = rw (eq-eqb _ _ b, eq-eqb _ _ l, eq-eqb _ _ n, eq-eqb _ _ o, c)
 
+-- a part of the first m bytes
+pub part-take : (at n m : ℕ) (xs : List ℕ) → at + n ≤ m → part at n (take m xs) ≡ part at n xs
+part-take zero n m xs h = take-take n m xs (omega (arith, h))
+part-take (suc at) n zero xs h = absurd (omega (arith, h))
+part-take (suc at) n (suc m) [] h = refl
+part-take (suc at) n (suc m) (x ∷ xs) h = part-take at n m xs (omega (arith, h))
+
+-- the first n bytes as they are lent
+pub from-start : (n : ℕ) (page : List ℕ) → take (n - 0) (drop 0 page) ≡ take n page
+from-start n page =
+    let k : n - 0 ≡ n = omega arith in
+    ap (λ (m : ℕ). take m page) k
+
+-- a page of a table: another than page 0, page 0 under another logical block, page 0
+module _ (g : Geometry) (p : ℕ) (page : List ℕ) where
+  pub later-page : (p ≡ 0 → ⊥) → allOnes (take (g .main) page) ≡ rightPage g p page
+  unfolding rightPage
+  later-page z = rw (ne-eqb p 0 z)
+
+  pub wrong-label : p ≡ 0 → (labelOf (g .main) page .logical ≡ 0 → ⊥) → false ≡ rightPage g p page
+  unfolding rightPage
+  wrong-label z l = rw (eq-eqb p 0 z, ne-eqb _ 0 l)
+
+  pub first-page : p ≡ 0 → labelOf (g .main) page .logical ≡ 0 → rightFirst (g .blocks) (g .logical) (take (g .main) page) ≡ rightPage g p page
+  unfolding rightPage
+  first-page z l = rw (eq-eqb p 0 z, eq-eqb _ 0 l)
+
+-- a valid geometry has room for header and bitmap
+pub valid-roomy : (g : Geometry) → Valid g → Roomy (g .blocks) (g .main)
+valid-roomy g v =
+    record {
+      blocks-least = omega (arith, v .blocks-least);
+      blocks-most = v .blocks-most;
+      room = omega (arith, v .blocks-room, v .main-least);
+      main-most = v .main-most;
+    }
+
 -- the bitmap's part of the page, and what follows it
 pub bits-are : (blocks size : ℕ) (main : List ℕ) → size ≡ bitmapBytes blocks → take (8 + size - 8) (drop 8 main) ≡ bitmapOf blocks main
 bits-are blocks size main e =
@@ -58,12 +96,17 @@ pairs : (xs ys : List ℕ) (n : ℕ) → length xs ≡ n → length ys ≡ 2 →
 pairs xs ys n e f = length-append xs ys ∙ ap₂ _+_ e f
 
 -- the bitmap as it is copied: a lent part comes back with the bytes over it
-pub copied : (k size : ℕ) (bits p y : List ℕ) → k ≡ size → size ≤ length bits → 8 + size ≤ length p → y ≡ over (take size bits) (take k (drop 8 p)) → take 8 p ++ (y ++ drop k (drop 8 p)) ≡ put 8 (take size bits) p
-copied k size bits p y e b h f =
-    let l : length (take size bits) ≡ size = length-take-le size bits b in
-    let whole : y ≡ take size bits =
-    f ∙ rw (l, e, drop-of-length-le (take size (drop 8 p)) {i = size} (simp (length-take, length-drop) (omega arith)), append-nil) in
-    rw (whole, e) (put-lent 8 size (take size bits) p l)
+pub copied : (at k size : ℕ) (bits p y : List ℕ) → k ≡ size → length bits ≡ size → at + size ≤ length p → y ≡ over bits (take k (drop at p)) → take at p ++ (y ++ drop k (drop at p)) ≡ put at bits p
+copied at k size bits p y e l h f =
+    let whole : y ≡ bits =
+    f ∙ rw (l, e, drop-of-length-le (take size (drop at p)) {i = size} (simp (length-take, length-drop) (omega arith)), append-nil) in
+    rw (whole, e) (put-lent at size bits p l)
+
+-- the bitmap lies in the main bytes
+pub bits-in-main : (g : Geometry) → Valid g → (size : ℕ) (page : List ℕ) → size ≡ bitmapBytes (g .blocks) → take (8 + size - 8) (drop 8 page) ≡ bitmapOf (g .blocks) (take (g .main) page)
+bits-in-main g v size page e =
+    let k : 8 + size - 8 ≡ bitmapBytes (g .blocks) = omega (arith, e) in
+    ap (λ (n : ℕ). take n (drop 8 page)) k ∙ sym (part-take 8 (bitmapBytes (g .blocks)) (g .main) page (valid-roomy g v .room))
 
 -- page 0 as it is built: four fields, the bitmap, FFh
 module _ (m p₁ p₂ p₃ p₄ p₅ p₆ bits : List ℕ) (blocks logical count size : ℕ) where
@@ -148,12 +191,19 @@ unfolding clearWhere neverBoth
 clear-where marked bits zero = refl
 clear-where marked bits (suc n) = rw (clear-where marked bits n)
 
--- a valid geometry has room for header and bitmap
-pub valid-roomy : (g : Geometry) → Valid g → Roomy (g .blocks) (g .main)
-valid-roomy g v =
-    record {
-      blocks-least = omega (arith, v .blocks-least);
-      blocks-most = v .blocks-most;
-      room = omega (arith, v .blocks-room, v .main-least);
-      main-most = v .main-most;
-    }
+-- the bitmap of page 0 as it is copied to the start of a buffer
+module _ (g : Geometry) (p : ℕ) (page bits : List ℕ) where
+  pub no-bitmap : (p ≡ 0 → ⊥) → bits ≡ bitsWith g p page bits
+  unfolding bitsWith
+  no-bitmap z = rw (ne-eqb p 0 z)
+
+  pub bitmap-copied : Valid g → length page ≡ pageSize g → bitmapBytes (g .blocks) ≤ length bits → (k size : ℕ) (y : List ℕ) → k ≡ size → p ≡ 0 → size ≡ bitmapBytes (g .blocks)
+      → y ≡ over (take (8 + size - 8) (drop 8 page)) (take k (drop 0 bits)) → take 0 bits ++ (y ++ drop k (drop 0 bits)) ≡ bitsWith g p page bits
+  unfolding bitsWith
+  bitmap-copied v l room k size y e z d f =
+      let same = bits-in-main g v size page d in
+      let bitmap = bitmapOf (g .blocks) (take (g .main) page) in
+      let long : length bitmap ≡ size =
+      sym (ap length same) ∙ length-part 8 (8 + size - 8) page (omega (arith, d, l, valid-roomy g v .room)) ∙ omega arith in
+      rw (eq-eqb p 0 z)
+      (copied 0 k size bitmap bits y e long (omega (arith, d, room)) (f ∙ ap (λ (x : List ℕ). over x (take k (drop 0 bits))) same))

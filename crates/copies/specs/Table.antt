@@ -5,9 +5,10 @@ use mathlib.Core.List.{List, _++_}
 use lib.Dec.{eqb}
 use lib.ListN.{take, drop, replicate}
 use Rattle.geometry.specs.declared.Geometry.{Geometry}
+use Rattle.cells.specs.Part.{put}
 use Rattle.bitmaps.specs.Bitmap.{bitAt, countBits, clearFrom}
-use Rattle.pages.specs.Layout.{bytesOf, numberOf, allOnes}
-use Rattle.copies.specs.Blocks.{labelIn, mainIn}
+use Rattle.pages.specs.Layout.{labelOf, bytesOf, numberOf, allOnes}
+use Rattle.copies.specs.Blocks.{pageIn, mainIn}
 
 -- bytes of the bitmap: one bit a block
 abbrev pub bitmapBytes : ℕ → ℕ
@@ -47,13 +48,6 @@ clearWhere test bits zero = true
 clearWhere test bits (suc n) =
     let less = clearWhere test bits n in cond (test n) (cond (bitAt bits n) false less) less
 
--- the pages from 1 on are FFh
-unfoldable pub restOnes : Geometry → List ℕ → ℕ → Bool
-restOnes g block zero = true
-restOnes g block (suc zero) = true
-restOnes g block (suc (suc n)) =
-    let less = restOnes g block (suc n) in cond (allOnes (mainIn g block (suc n))) less false
-
 -- page 0 has the layout, its counts and the given geometry
 unfoldable pub rightFirst : ℕ → ℕ → List ℕ → Bool
 rightFirst blocks logical main =
@@ -69,11 +63,27 @@ rightFirst blocks logical main =
     false)
     false
 
+-- page p of a table: page 0 is labelled with logical block 0 and has the layout, the others are FFh
+unfoldable pub rightPage : Geometry → ℕ → List ℕ → Bool
+rightPage g p page =
+    cond (eqb p 0)
+    (cond (eqb (labelOf (g .main) page .logical) 0) (rightFirst (g .blocks) (g .logical) (take (g .main) page)) false)
+    (allOnes (take (g .main) page))
+
+-- the first n pages
+unfoldable pub rightTo : Geometry → List ℕ → ℕ → Bool
+rightTo g block zero = true
+rightTo g block (suc n) = let less = rightTo g block n in cond (rightPage g n (pageIn g block n)) less false
+
+-- 1 or 0 for that, one page more
+unfoldable pub rightWith : Geometry → ℕ → List ℕ → ℕ → ℕ
+rightWith g p page right = cond (eqb right 0) 0 (cond (rightPage g p page) 1 0)
+
+-- a buffer that takes the bitmap of page 0, one page more
+unfoldable pub bitsWith : Geometry → ℕ → List ℕ → List ℕ → List ℕ
+bitsWith g p page bits = cond (eqb p 0) (put 0 (bitmapOf (g .blocks) (take (g .main) page)) bits) bits
+
 -- the whole table; marked tells the blocks with a factory mark
 unfoldable pub rightTable : Geometry → (ℕ → Bool) → List ℕ → Bool
 rightTable g marked block =
-    cond (eqb (labelIn g block 0 .logical) 0)
-    (cond (rightFirst (g .blocks) (g .logical) (mainIn g block 0))
-    (cond (restOnes g block (g .pages)) (clearWhere marked (bitmapOf (g .blocks) (mainIn g block 0)) (g .blocks)) false)
-    false)
-    false
+    cond (rightTo g block (g .pages)) (clearWhere marked (bitmapOf (g .blocks) (mainIn g block 0)) (g .blocks)) false

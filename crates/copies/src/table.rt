@@ -1,9 +1,12 @@
-// The table of invalid blocks: page 0 built and judged. The main bytes of its other pages are FFh:
-// pages::fill_ones writes them, pages::all_ones judges them.
+// The table of invalid blocks: page 0 built, and each page judged. The main bytes of the other pages are FFh:
+// pages::fill_ones writes them.
+use geometry::Geometry;
 ghost use mathlib.Core.Path.{_≡_};
 ghost use Prim.Native.Nat.{_*_, _≤_};
 ghost use lib.ListN.{length};
-ghost use Rattle.copies.specs.Table.{bitmapBytes, bitmapOf, clearWhere, rightFirst, tablePage, Roomy};
+ghost use Rattle.copies.specs.Table.{bitmapBytes, bitmapOf, bitsWith, clearWhere, rightFirst, rightPage, rightWith, tablePage, Roomy};
+ghost use Rattle.geometry.specs.Limits.{Valid};
+ghost use Rattle.geometry.specs.Sizes.{pageSize};
 ghost use Rattle.bitmaps.specs.Bitmap.{bitAt};
 
 // Bytes of the bitmap.
@@ -38,6 +41,52 @@ pub fn is_right_first(main: &[u8], blocks: usize, logical: usize) -> bool
         return pages::all_ones(&main[end..]);
     }
     false
+}
+
+// Whether a page of a table is right: page 0 under logical block 0, the others FFh.
+pub fn is_right_page(page: &[u8], g: Geometry, place: usize) -> bool
+    requires { ⌜ Valid g ⌝ }
+    requires { ⌜ length (now page) ≡ pageSize g ⌝ }
+    ensures { λ r. ⌜ r ≡ rightPage g place (now (page .entry)) ⌝ }
+{
+    let main = g.main;
+    if place != 0 {
+        return pages::all_ones(&page[0..main]);
+    }
+    if pages::logical_of(page, main) != 0 {
+        return false;
+    }
+    is_right_first(&page[0..main], g.blocks, g.logical)
+}
+
+// 1 where the pages so far were right for a table and this one is, 0 otherwise.
+pub fn right_with(right: usize, page: &[u8], g: Geometry, place: usize) -> usize
+    requires { ⌜ Valid g ⌝ }
+    requires { ⌜ length (now page) ≡ pageSize g ⌝ }
+    ensures { λ r. ⌜ r ≡ rightWith g place (now (page .entry)) right ⌝ }
+{
+    if right == 0 {
+        return 0;
+    }
+    if is_right_page(page, g, place) {
+        return 1;
+    }
+    0
+}
+
+// Copies the bitmap of a table's page 0; the other pages have none.
+pub fn copy_bitmap(page: &[u8], g: Geometry, place: usize, bits: &mut [u8])
+    requires { ⌜ Valid g ⌝ }
+    requires { ⌜ length (now page) ≡ pageSize g ⌝ }
+    requires { ⌜ bitmapBytes (g .blocks) ≤ length (now bits) ⌝ }
+    ensures { λ _. ⌜ now (bits .exit) ≡ bitsWith g place (now (page .entry)) (now (bits .entry)) ⌝ }
+{
+    if place != 0 {
+        return;
+    }
+    let size = bitmap_bytes(g.blocks);
+    let end = 8 + size;
+    cells::copy(&page[8..end], &mut bits[0..size]);
 }
 
 // Whether page 0 lists no block that has a factory mark.

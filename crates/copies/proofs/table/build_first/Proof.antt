@@ -4,7 +4,8 @@ use Rattle.copies.proofs.table.build_first.Statement.{statement}
 use Rattle.copies.proofs.table.build_first.Tie as tie
 use native.Mathlib.Omega.{arith}
 use Prim.Native.Nat.{_+_, _-_, _≤_}
-use lib.ListN.{length}
+use lib.ListN.{length, take}
+use lib.Seq.{length-take-le}
 use mathlib.Core.Path.{_≡_, sym, _∙_}
 use native.Mathlib.Nat.{sub-zero}
 use Rattle.copies.proofs.TableLaws.{built, copied}
@@ -78,7 +79,7 @@ returns c =
     let room : 8 + size ≤ length (a .main .now) = rw (bytes .bitmap-bytes .ensures) (s .pre .0 .room) in
     let bits : size ≤ length (a .invalid .now) = rw (bytes .bitmap-bytes .ensures) (omega (arith, s .pre .1)) in
     let same : length p ≡ length (a .main .now) = fourth pair4 in
-    let over-bits = copied (8 + size - 8) size (a .invalid .now) p (copy .copy .last .1 .0) (omega arith) bits (omega (arith, room, same)) (copy .copy .ensures ∙ rw sub-zero) in
+    let over-bits = copied 8 (8 + size - 8) size (take size (a .invalid .now)) p (copy .copy .last .1 .0) (omega arith) (length-take-le size (a .invalid .now) bits) (omega (arith, room, same)) (copy .copy .ensures ∙ rw sub-zero) in
     let kept = sym (fill .fill-ones .kept .0) ∙ same-length c in
     built (a .main .now) (pair .write-pair .last .0) (pair2 .write-pair2 .last .0) (pair3 .write-pair3 .last .0) p _ (fill .fill-ones .last .0)
     (a .invalid .now) (a .blocks) (a .logical) (count .count-set .result) size

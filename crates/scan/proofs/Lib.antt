@@ -1,0 +1,2 @@
+pub mod ReadOnLaws
+pub mod ScanLaws
