@@ -5,7 +5,7 @@ ghost use mathlib.Core.Path.{_≡_};
 ghost use Prim.Native.Nat.{_+_, _<_, max};
 ghost use Rattle.pages.specs.Layout.{Sized, label, labelOf};
 ghost use Rattle.copies.specs.Blocks.{agrees};
-ghost use Rattle.copies.specs.Summary.{blankSummary, markedBy, broken, wholeStep, stepped};
+ghost use Rattle.copies.specs.Summary.{blankSummary, markedBy, broken, wholeStep, stepped, saysComplete, saysAbove};
 
 // What the pages of a block told so far. `marked` and `complete` are 1 or 0; kind, logical and number are those of page 0.
 pub struct Summary {
@@ -129,5 +129,28 @@ impl Summary {
             return self.whole_step(marked, page, main, place);
         }
         self.broken(marked)
+    }
+
+    // Whether a block with this summary of all pages is complete.
+    pub fn is_complete(self) -> bool
+        ensures { λ r. ⌜ r ≡ saysComplete self ⌝ }
+    {
+        let marked = self.marked;
+        if marked != 0 {
+            return false;
+        }
+        let complete = self.complete;
+        complete == 1
+    }
+
+    // One above the greatest number on a whole page of the block, 0 if it is marked or there is none.
+    pub fn numbers_above(self) -> u64
+        ensures { λ r. ⌜ r ≡ saysAbove self ⌝ }
+    {
+        let marked = self.marked;
+        if marked != 0 {
+            return 0;
+        }
+        self.above
     }
 }

@@ -1,2 +1,3 @@
+pub mod ChipLaws
 pub mod ReadOnLaws
 pub mod ScanLaws

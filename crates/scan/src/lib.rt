@@ -1,6 +1,7 @@
-// The scan of a block: every page read whole through the bus, and what the pages tell.
+// The scan of a block and of the chip: every page read whole through the bus, and what the pages tell.
 use bus::Bus;
 use copies::Summary;
+use found::Found;
 use geometry::Geometry;
 use sequences::Outcome;
 ghost use mathlib.Core.Bool.{true, cond};
@@ -21,7 +22,8 @@ ghost use Rattle.copies.specs.Summary.{summed};
 ghost use Rattle.copies.specs.Table.{bitmapBytes, bitmapOf, rightTo};
 ghost use Rattle.cells.specs.Part.{put};
 ghost use Rattle.scan.specs.Progress.{progress};
-ghost use Rattle.scan.specs.Scan.{pagesRead};
+ghost use Rattle.found.specs.Found.{contents, foundTo, contentsTo};
+ghost use Rattle.scan.specs.Scan.{pagesRead, blocksRead};
 
 // The bus after a scan, how its last read ended, and what the pages told if all passed.
 pub struct Scanned {
@@ -87,5 +89,80 @@ pub fn scan_block(
         outcome: Outcome::Passed,
         summary,
         right,
+    }
+}
+
+// The bus after a scan of the chip, how its last read ended, and what was found if all passed.
+pub struct ChipScanned {
+    pub bus: Bus,
+    pub outcome: Outcome,
+    pub found: Found,
+}
+
+// Reads every page of every block whole, in order, through a page buffer. Kind, logical block and number of each
+// complete block go to the last three buffers.
+pub fn scan_chip(
+    from: Bus,
+    g: Geometry,
+    array: &mut [u8],
+    register: &mut [u8],
+    history: &mut [u8],
+    mask: &[u8],
+    fates: &[u32],
+    page: &mut [u8],
+    kinds: &mut [usize],
+    logicals: &mut [usize],
+    numbers: &mut [u64],
+) -> ChipScanned
+    requires { ⌜ Called (setting g (now mask) (now fates)) (line from (now array) (now register) (now history)) ⌝ }
+    requires { ⌜ length (now page) ≡ pageSize g ⌝ }
+    requires { ⌜ g .blocks ≤ length (now kinds) ⌝ }
+    requires { ⌜ g .blocks ≤ length (now logicals) ⌝ }
+    requires { ⌜ g .blocks ≤ length (now numbers) ⌝ }
+    ensures { λ r. ⌜ ((cs : List Cycle) (os : List ArrayOperation) → line (r .bus) (now (array .exit)) (now (register .exit)) (now (history .exit)) ≡ blocksRead (setting g (now (mask .entry)) (now (fates .entry))) (g .blocks) (progress (line from (now (array .entry)) (now (register .entry)) (now (history .entry))) Passed cs os) .line) ⌝ }
+    ensures { λ r. ⌜ ((cs : List Cycle) (os : List ArrayOperation) → r .outcome ≡ blocksRead (setting g (now (mask .entry)) (now (fates .entry))) (g .blocks) (progress (line from (now (array .entry)) (now (register .entry)) (now (history .entry))) Passed cs os) .outcome) ⌝ }
+    ensures { λ r. ⌜ now (array .exit) ≡ now (array .entry) ⌝ }
+    ensures { λ r. ⌜ now (history .exit) ≡ now (history .entry) ⌝ }
+    ensures { λ r. ⌜ (isPassed (r .outcome) ≡ true → Called (setting g (now (mask .entry)) (now (fates .entry))) (line (r .bus) (now (array .exit)) (now (register .exit)) (now (history .exit)))) ⌝ }
+    ensures { λ r. ⌜ (isPassed (r .outcome) ≡ true → r .found ≡ foundTo g (now (array .entry)) (g .blocks)) ⌝ }
+    ensures { λ r. ⌜ (isPassed (r .outcome) ≡ true → contents (now (kinds .exit)) (now (logicals .exit)) (now (numbers .exit)) ≡ contentsTo g (now (array .entry)) (contents (now (kinds .entry)) (now (logicals .entry)) (now (numbers .entry))) (g .blocks)) ⌝ }
+{
+    let mut b = from;
+    let mut found = Found::blank();
+    let mut block: usize = 0;
+    let blocks = g.blocks;
+    while block < blocks {
+        let mut bits = [0u8; 512];
+        let done = scan_block(
+            b,
+            g,
+            array,
+            register,
+            history,
+            mask,
+            fates,
+            block,
+            page,
+            &mut bits,
+        );
+        b = done.bus;
+        let outcome = done.outcome;
+        let Outcome::Passed = outcome else {
+            return ChipScanned {
+                bus: b,
+                outcome,
+                found,
+            };
+        };
+        let summary = done.summary;
+        let right = done.right;
+        found = found.note(block, summary, right, bits);
+        found::note_copy(summary, block, kinds, logicals, numbers);
+        block += 1;
+    }
+    ChipScanned {
+        bus: b,
+        outcome: Outcome::Passed,
+        found,
     }
 }

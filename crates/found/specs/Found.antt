@@ -1,0 +1,80 @@
+-- What the blocks scanned so far told: marks, complete copies, the current table, the greatest number.
+use Prim.Native.Nat.{ℕ, zero, suc}
+use mathlib.Core.Bool.{Bool, true, cond}
+use mathlib.Core.List.{List}
+use lib.Dec.{eqb, ltb}
+use lib.ListN.{set, replicate}
+use Rattle.geometry.specs.declared.Geometry.{Geometry}
+use Rattle.bitmaps.specs.Bitmap.{withBit}
+use Rattle.cells.specs.Part.{put}
+use Rattle.copies.specs.Blocks.{blockIn, mainIn}
+use Rattle.copies.specs.Summary.{summed, saysComplete, saysAbove}
+use Rattle.copies.specs.Table.{bitmapOf, rightTo}
+use Rattle.copies.specs.declared.Summary.{Summary}
+use Rattle.found.specs.declared.Found.{Found}
+
+abbrev pub blankFound : Found
+blankFound =
+    record { above = 0; last = 0; tables = 0; table = 0; number = 0; right = 0; bits = replicate 512 0; marked = replicate 512 0 }
+
+-- a factory mark
+unfoldable pub markNoted : ℕ → Summary → Found → Found
+markNoted b s f =
+    cond (eqb (s .marked) 0) f
+    (record { above = f .above; last = f .last; tables = f .tables; table = f .table; number = f .number; right = f .right; bits = f .bits; marked = withBit (f .marked) b })
+
+-- a greater number than before
+unfoldable pub aboveNoted : ℕ → Summary → Found → Found
+aboveNoted b s f =
+    cond (ltb (f .above) (saysAbove s))
+    (record { above = saysAbove s; last = b; tables = f .tables; table = f .table; number = f .number; right = f .right; bits = f .bits; marked = f .marked })
+    f
+
+-- a complete table that is the first, or has a greater number than the one before
+abbrev pub isNewer : Summary → Found → Bool
+isNewer s f = cond (eqb (f .tables) 0) true (ltb (f .number) (s .number))
+
+abbrev pub withTable : ℕ → Summary → ℕ → List ℕ → Found → Found
+withTable b s right bits f =
+    record { above = f .above; last = f .last; tables = 1; table = b; number = s .number; right = right; bits = bits; marked = f .marked }
+
+unfoldable pub tableNoted : ℕ → Summary → ℕ → List ℕ → Found → Found
+tableNoted b s right bits f =
+    cond (saysComplete s) (cond (eqb (s .kind) 84) (cond (isNewer s f) (withTable b s right bits f) f) f) f
+
+unfoldable pub noted : ℕ → Summary → ℕ → List ℕ → Found → Found
+noted b s right bits f = tableNoted b s right bits (aboveNoted b s (markNoted b s f))
+
+-- kind, logical block and number of each complete block; kind 0 stands for a block that is not complete
+pub record Contents : Type 0 where
+  pub kinds : List ℕ
+  pub logicals : List ℕ
+  pub numbers : List ℕ
+
+abbrev pub contents : List ℕ → List ℕ → List ℕ → Contents
+contents k l n = record { kinds = k; logicals = l; numbers = n }
+
+unfoldable pub copyNoted : ℕ → Summary → Contents → Contents
+copyNoted b s c =
+    cond (saysComplete s) (contents (set (c .kinds) b (s .kind)) (set (c .logicals) b (s .logical)) (set (c .numbers) b (s .number)))
+    c
+
+-- the summary, the test for a table, and the bitmap of a block of the array
+abbrev pub summaryAt : Geometry → List ℕ → ℕ → Summary
+summaryAt g array b = summed g (blockIn g array b) (g .pages)
+
+abbrev pub rightAt : Geometry → List ℕ → ℕ → ℕ
+rightAt g array b = cond (rightTo g (blockIn g array b) (g .pages)) 1 0
+
+abbrev pub bitsAt : Geometry → List ℕ → ℕ → List ℕ
+bitsAt g array b = put 0 (bitmapOf (g .blocks) (mainIn g (blockIn g array b) 0)) (replicate 512 0)
+
+-- after the first n blocks of an array
+unfoldable pub foundTo : Geometry → List ℕ → ℕ → Found
+foundTo g array zero = blankFound
+foundTo g array (suc n) =
+    let less = foundTo g array n in noted n (summaryAt g array n) (rightAt g array n) (bitsAt g array n) less
+
+unfoldable pub contentsTo : Geometry → List ℕ → Contents → ℕ → Contents
+contentsTo g array c zero = c
+contentsTo g array c (suc n) = let less = contentsTo g array c n in copyNoted n (summaryAt g array n) less

@@ -1,0 +1,125 @@
+-- The scan of the chip on its way: where each block leaves it, and what was found. Assumes nothing.
+use Prim.Native.Nat.{ℕ, zero, suc, _+_, _-_, _<_}
+use mathlib.Core.Bool.{true, false}
+use mathlib.Core.List.{List}
+use mathlib.Core.Path.{_≡_, refl, sym, ap, subst, _∙_}
+use native.Mathlib.Nat.{zero-add, add-zero}
+use native.Mathlib.Numerals.{add-one}
+use native.Mathlib.Omega.{arith}
+use lib.ListN.{replicate}
+use Rattle.array.specs.Device.{Setting}
+use Rattle.chip.specs.Chip.{Cycle}
+use Rattle.bus.specs.Line.{Line}
+use Rattle.sequences.specs.Cycles.{isPassed}
+use Rattle.sequences.specs.declared.Outcome.{Outcome}
+use Rattle.sequences.specs.declared.Outcome.the-variants.{Passed}
+use Rattle.operations.specs.Ends.{Called}
+use Rattle.operations.specs.Trace.{ArrayOperation}
+use Rattle.copies.specs.declared.Summary.{Summary}
+use Rattle.found.specs.Found.{Contents, blankFound, noted, copyNoted, foundTo, contentsTo, summaryAt, rightAt, bitsAt}
+use Rattle.found.specs.declared.Found.{Found}
+use Rattle.scan.specs.Progress.{Progress, progress}
+use Rattle.scan.specs.Scan.{pagesRead, blocksRead}
+use Rattle.scan.proofs.ScanLaws.{pages-stopped}
+
+-- a request at line m that goes on
+same-progress : (p : Progress) (m : Line) → m ≡ p .line → Passed ≡ p .outcome → progress m Passed (p .cycles) (p .started) ≡ p
+same-progress p m e q = λ i. record { line = e i; outcome = q i; cycles = p .cycles; started = p .started }
+
+-- once a block's scan has not passed no further one is scanned
+pub blocks-stopped : (s : Setting) (n : ℕ) (p : Progress) → isPassed (blocksRead s n p .outcome) ≡ false → (k : ℕ) → blocksRead s (k + n) p ≡ blocksRead s n p
+unfolding blocksRead pagesRead
+blocks-stopped s n p f zero = ap (λ (x : ℕ). blocksRead s x p) (zero-add n)
+blocks-stopped s n p f (suc k) =
+    let less = blocks-stopped s n p f k in
+    let e : suc k + n ≡ suc (k + n) = omega arith in
+    let still = ap (λ (x : Progress). isPassed (x .outcome)) less ∙ f in
+    ap (λ (x : ℕ). blocksRead s x p) e
+    ∙ sym (ap (λ (x : ℕ). pagesRead s (k + n) x (blocksRead s (k + n) p)) (add-zero (s .geometry .pages)))
+    ∙ pages-stopped s (k + n) 0 (blocksRead s (k + n) p) still (s .geometry .pages)
+    ∙ less
+
+-- after the first blocks all passed
+pub record Through (s : Setting) (l m : Line) (n : ℕ) (found : Found) (before after : Contents) : Type 0 where
+  pub reached : (cs : List Cycle) (os : List ArrayOperation) → m ≡ blocksRead s n (progress l Passed cs os) .line
+  pub passing : (cs : List Cycle) (os : List ArrayOperation) → Passed ≡ blocksRead s n (progress l Passed cs os) .outcome
+  pub called : Called s m
+  pub same-array : m .chip .array ≡ l .chip .array
+  pub same-history : m .chip .history ≡ l .chip .history
+  pub found-is : found ≡ foundTo (s .geometry) (l .chip .array) n
+  pub contents-are : after ≡ contentsTo (s .geometry) (l .chip .array) before n
+
+pub chip-begins : (s : Setting) (l : Line) (found : Found) (c : Contents) → found ≡ blankFound → Called s l → Through s l l 0 found c c
+unfolding blocksRead foundTo contentsTo
+chip-begins s l found c e called =
+    record {
+      reached = λ cs os. refl;
+      passing = λ cs os. refl;
+      called = called;
+      same-array = refl;
+      same-history = refl;
+      found-is = e;
+      contents-are = refl;
+    }
+
+module _ (s : Setting) (l m : Line) (n : ℕ) (found : Found) (before after : Contents) (below : n < s .geometry .blocks) (r : Through s l m n found before after) where
+  -- the scan of block n leaves line m' and outcome o
+  module _ (m' : Line) (o : Outcome) (f₁ : (cs : List Cycle) (os : List ArrayOperation) → m' ≡ pagesRead s n (s .geometry .pages) (progress m Passed cs os) .line)
+      (f₂ : (cs : List Cycle) (os : List ArrayOperation) → o ≡ pagesRead s n (s .geometry .pages) (progress m Passed cs os) .outcome) where
+    here : (cs : List Cycle) (os : List ArrayOperation) → progress m Passed (blocksRead s n (progress l Passed cs os) .cycles) (blocksRead s n (progress l Passed cs os) .started) ≡ blocksRead s n (progress l Passed cs os)
+    here cs os = same-progress (blocksRead s n (progress l Passed cs os)) m (r .reached cs os) (r .passing cs os)
+
+    line-next : (cs : List Cycle) (os : List ArrayOperation) → m' ≡ blocksRead s (suc n) (progress l Passed cs os) .line
+    unfolding blocksRead
+    line-next cs os =
+        f₁ (blocksRead s n (progress l Passed cs os) .cycles) (blocksRead s n (progress l Passed cs os) .started)
+        ∙ ap (λ (x : Progress). pagesRead s n (s .geometry .pages) x .line) (here cs os)
+
+    outcome-next : (cs : List Cycle) (os : List ArrayOperation) → o ≡ blocksRead s (suc n) (progress l Passed cs os) .outcome
+    unfolding blocksRead
+    outcome-next cs os =
+        f₂ (blocksRead s n (progress l Passed cs os) .cycles) (blocksRead s n (progress l Passed cs os) .started)
+        ∙ ap (λ (x : Progress). pagesRead s n (s .geometry .pages) x .outcome) (here cs os)
+
+    -- after it did not pass
+    pub chip-stops : isPassed o ≡ false → (cs : List Cycle) (os : List ArrayOperation)
+        → (m' ≡ blocksRead s (s .geometry .blocks) (progress l Passed cs os) .line) × (o ≡ blocksRead s (s .geometry .blocks) (progress l Passed cs os) .outcome)
+    chip-stops f cs os =
+        let k : s .geometry .blocks - suc n + suc n ≡ s .geometry .blocks = omega arith in
+        let still = blocks-stopped s (suc n) (progress l Passed cs os) (sym (ap isPassed (outcome-next cs os)) ∙ f) (s .geometry .blocks - suc n) in
+        let all : blocksRead s (s .geometry .blocks) (progress l Passed cs os) ≡ blocksRead s (suc n) (progress l Passed cs os) =
+        ap (λ (x : ℕ). blocksRead s x (progress l Passed cs os)) (sym k) ∙ still in
+        (line-next cs os ∙ sym (ap (λ (x : Progress). x .line) all), outcome-next cs os ∙ sym (ap (λ (x : Progress). x .outcome) all))
+
+    -- after it passed, with this summary, this test for a table and this bitmap
+    module _ (w : o ≡ Passed) (called : Called s m') (a : m' .chip .array ≡ m .chip .array) (h : m' .chip .history ≡ m .chip .history)
+        (summary : Summary) (right : ℕ) (bits : List ℕ) (e₁ : summary ≡ summaryAt (s .geometry) (m .chip .array) n) (e₂ : right ≡ rightAt (s .geometry) (m .chip .array) n)
+        (e₃ : bits ≡ bitsAt (s .geometry) (m .chip .array) n) where
+      found-next : noted n summary right bits found ≡ foundTo (s .geometry) (l .chip .array) (suc n)
+      unfolding foundTo
+      found-next =
+          let here-is : noted n summary right bits found ≡ noted n (summaryAt (s .geometry) (m .chip .array) n) (rightAt (s .geometry) (m .chip .array) n) (bitsAt (s .geometry) (m .chip .array) n) (foundTo (s .geometry) (l .chip .array) n) =
+          λ i. noted n (e₁ i) (e₂ i) (e₃ i) (r .found-is i) in
+          here-is
+          ∙ ap (λ (x : List ℕ). noted n (summaryAt (s .geometry) x n) (rightAt (s .geometry) x n) (bitsAt (s .geometry) x n) (foundTo (s .geometry) (l .chip .array) n)) (r .same-array)
+
+      contents-next : copyNoted n summary after ≡ contentsTo (s .geometry) (l .chip .array) before (suc n)
+      unfolding contentsTo
+      contents-next =
+          let here-is : copyNoted n summary after ≡ copyNoted n (summaryAt (s .geometry) (m .chip .array) n) (contentsTo (s .geometry) (l .chip .array) before n) =
+          λ i. copyNoted n (e₁ i) (r .contents-are i) in
+          here-is
+          ∙ ap (λ (x : List ℕ). copyNoted n (summaryAt (s .geometry) x n) (contentsTo (s .geometry) (l .chip .array) before n)) (r .same-array)
+
+      pub chip-goes : {next : Found} {later : Contents} → next ≡ noted n summary right bits found → later ≡ copyNoted n summary after → Through s l m' (n + 1) next before later
+      chip-goes {next} {later} f g =
+          subst (λ (k : ℕ). Through s l m' k next before later) (sym (add-one n))
+          (record {
+            reached = line-next;
+            passing = λ cs os. sym w ∙ outcome-next cs os;
+            called = called;
+            same-array = a ∙ r .same-array;
+            same-history = h ∙ r .same-history;
+            found-is = f ∙ found-next;
+            contents-are = g ∙ contents-next;
+          })

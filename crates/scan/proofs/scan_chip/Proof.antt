@@ -1,0 +1,173 @@
+-- `scan::scan_chip` meets its contract: after each block the scan has come through as ChipLaws tells. Assumes nothing.
+use Prim.Native.Nat.{ℕ, _-_, _≤_}
+use mathlib.Core.Bool.{false≢true}
+use mathlib.Core.Path.{_≡_, refl, sym, subst, _∙_}
+use native.Mathlib.Omega.{arith}
+use borrow.Author.Needs.{needs}
+use denote.Ref.{now}
+use lib.ListN.{length}
+use Rattle.array.specs.Device.{setting}
+use Rattle.bus.specs.Line.{line}
+use Rattle.sequences.proofs.DataLaws.{passed-by-tag, other-by-tag}
+use Rattle.found.specs.Found.{contents}
+use Rattle.scan.proofs.ReadOnLaws.{is-passed}
+use Rattle.scan.proofs.ChipLaws.{Through, chip-begins, chip-goes, chip-stops}
+use Rattle.scan.proofs.scan_chip.Statement.{statement}
+use Rattle.scan.proofs.scan_chip.Tie as tie
+
+abbrev Inv-loop : tie.InvT-loop
+Inv-loop g array₀ register₀ history₀ mask fates page₀ kinds₀ logicals₀ numbers₀ b₀ found₀ block₀ blocks array register history page kinds logicals numbers b found block =
+    (block ≤ g .blocks) × (length array ≡ length array₀) × (length register ≡ length register₀) × (length history ≡ length history₀)
+    × (length page ≡ length page₀) × (length kinds ≡ length kinds₀) × (length logicals ≡ length logicals₀) × (length numbers ≡ length numbers₀)
+    × Through (setting g mask fates) (line b₀ array₀ register₀ history₀) (line b array register history) block found (contents kinds₀ logicals₀ numbers₀) (contents kinds logicals numbers)
+
+abbrev μ-loop : tie.MeasureT-loop
+μ-loop g array₀ register₀ history₀ mask fates page₀ kinds₀ logicals₀ numbers₀ b₀ found₀ block₀ blocks array register history page kinds logicals numbers b found block =
+    g .blocks - block
+
+blank-requires : tie.Need-blank-requires Inv-loop μ-loop
+blank-requires c κs = search needs
+
+loop-holds : tie.Need-loop-holds Inv-loop μ-loop
+loop-holds c =
+    let s = c .before .before .before .before .before .before .before .before .before .before in
+    (omega arith, refl, refl, refl, refl, refl, refl, refl, chip-begins (setting (s .args .g) (now (s .args .mask)) (now (s .args .fates))) (line (s .args .from) (now (s .args .array)) (now (s .args .register)) (now (s .args .history))) (c .blank .result) (contents (now (s .args .kinds)) (now (s .args .logicals)) (now (s .args .numbers))) (c .blank .ensures) (s .pre .0))
+
+slice-aggregate-scan-block : tie.Need-slice-aggregate-scan-block Inv-loop μ-loop
+slice-aggregate-scan-block c = search needs
+
+scan-block-requires : tie.Need-scan-block-requires Inv-loop μ-loop
+scan-block-requires c κs =
+    let s = c .before .before .before .before .before .before .before .before .before .before .before .before .before .before .before .before .before in
+    let lp = c .before .before .before .before .before .before .loop in
+    let v = lp .inv .8 .called .is-valid in
+    (lp .inv .8 .called, (c .before .before .before .before .before .loop-test .taken, (lp .inv .4 ∙ s .pre .1 .0, omega (arith, v .blocks-most))))
+
+enum-told : tie.Need-enum-told Inv-loop μ-loop
+enum-told c = search needs
+
+same-length : tie.Need-same-length Inv-loop μ-loop
+same-length c = c .before .before .before .before .before .before .before .before .before .before .array .given ∙ c .before .before .before .before .before .before .before .before .before .before .before .before .before .before .before .before .before .before .loop .inv .1
+
+same-length-2 : tie.Need-same-length-2 Inv-loop μ-loop
+same-length-2 c = c .before .before .before .before .before .before .before .before .register .given ∙ c .before .before .before .before .before .before .before .before .before .before .before .before .before .before .before .before .before .before .loop .inv .2
+
+same-length-3 : tie.Need-same-length-3 Inv-loop μ-loop
+same-length-3 c = c .before .before .before .before .before .before .history .given ∙ c .before .before .before .before .before .before .before .before .before .before .before .before .before .before .before .before .before .before .loop .inv .3
+
+same-length-4 : tie.Need-same-length-4 Inv-loop μ-loop
+same-length-4 c = c .before .before .before .before .page .given ∙ c .before .before .before .before .before .before .before .before .before .before .before .before .before .before .before .before .before .before .loop .inv .4
+
+same-length-5 : tie.Need-same-length-5 Inv-loop μ-loop
+same-length-5 c = c .before .before .before .before .before .before .before .before .before .before .before .before .before .before .before .before .before .before .loop .inv .5
+
+same-length-6 : tie.Need-same-length-6 Inv-loop μ-loop
+same-length-6 c = c .before .before .before .before .before .before .before .before .before .before .before .before .before .before .before .before .before .before .loop .inv .6
+
+same-length-7 : tie.Need-same-length-7 Inv-loop μ-loop
+same-length-7 c = c .before .before .before .before .before .before .before .before .before .before .before .before .before .before .before .before .before .before .loop .inv .7
+
+returns : tie.Need-returns Inv-loop μ-loop
+returns c =
+    let s = c .before .before .before .before .before .before .before .before .before .before .before .before .before .before .before .before .before .before .before .before .before .before .before .before .before .before .before .before .before in
+    let lp = c .before .before .before .before .before .before .before .before .before .before .before .before .before .before .before .before .before .before .loop in
+    let f = c .before .before .before .before .before .before .before .before .before .before .before .scan-block .ensures in
+    let t = other-by-tag _ (c .match .keys2) in
+    let r = lp .inv .8 in
+    let stops = chip-stops (setting (s .args .g) (now (s .args .mask)) (now (s .args .fates))) (line (s .args .from) (now (s .args .array)) (now (s .args .register)) (now (s .args .history))) (line (lp .b) (lp .array) (lp .register) (lp .history)) (lp .block) (lp .found) (contents (now (s .args .kinds)) (now (s .args .logicals)) (now (s .args .numbers))) (contents (lp .kinds) (lp .logicals) (lp .numbers)) (c .before .before .before .before .before .before .before .before .before .before .before .before .before .before .before .before .before .loop-test .taken) r _ (c .before .before .before .before .before .before .before .before .before .before .before .scan-block .result .outcome) (f .0) (f .1 .0) t in
+    (λ cs os. stops cs os .0, (λ cs os. stops cs os .1, (f .1 .1 .0 ∙ r .same-array, (f .1 .1 .1 .0 ∙ r .same-history, (λ p. absurd (false≢true (sym t ∙ p)), (λ p. absurd (false≢true (sym t ∙ p)), λ p. absurd (false≢true (sym t ∙ p))))))))
+
+note-requires : tie.Need-note-requires Inv-loop μ-loop
+note-requires c κs = omega (arith, c .before .before .before .before .before .before .before .before .before .before .before .before .before .before .before .before .before .before .before .loop-test .taken, c .before .before .before .before .before .before .before .before .before .before .before .before .before .before .before .before .before .before .before .before .loop .inv .8 .called .is-valid .blocks-most)
+
+note-copy-requires : tie.Need-note-copy-requires Inv-loop μ-loop
+note-copy-requires c κs =
+    let s = c .before .before .before .before .before .before .before .before .before .before .before .before .before .before .before .before .before .before .before .before .before .before .before .before .before .before .before .before .before .before .before .before .before .before .before in
+    let lp = c .before .before .before .before .before .before .before .before .before .before .before .before .before .before .before .before .before .before .before .before .before .before .before .before .loop in
+    (omega (arith, c .before .before .before .before .before .before .before .before .before .before .before .before .before .before .before .before .before .before .before .before .before .before .before .loop-test .taken, lp .inv .5, s .pre .1 .1 .0), (omega (arith, c .before .before .before .before .before .before .before .before .before .before .before .before .before .before .before .before .before .before .before .before .before .before .before .loop-test .taken, lp .inv .6, s .pre .1 .1 .1 .0), omega (arith, c .before .before .before .before .before .before .before .before .before .before .before .before .before .before .before .before .before .before .before .before .before .before .before .loop-test .taken, lp .inv .7, s .pre .1 .1 .1 .1)))
+
+add-block : tie.Need-add-block Inv-loop μ-loop
+add-block c = search (needs, c .before .before .before .before .before .before .before .before .before .before .before .before .before .before .before .before .before .before .before .before .before .before .before .before .before .before .before .before .before .before .loop-test .taken, c .before .before .before .before .before .before .before .before .before .before .before .before .before .before .before .before .before .before .before .before .before .before .before .before .before .before .before .before .before .before .before .loop .inv .8 .called .is-valid .blocks-most)
+
+loop-less : tie.Need-loop-less Inv-loop μ-loop
+loop-less c = omega (arith, c .before .before .before .before .before .before .before .before .before .before .before .before .before .before .before .before .before .before .before .before .before .before .before .before .before .before .before .before .before .before .loop-test .taken)
+
+loop-again : tie.Need-loop-again Inv-loop μ-loop
+loop-again c =
+    let s = c .before .before .before .before .before .before .before .before .before .before .before .before .before .before .before .before .before .before .before .before .before .before .before .before .before .before .before .before .before .before .before .before .before .before .before .before .before .before .before .before .before .before in
+    let lp = c .before .before .before .before .before .before .before .before .before .before .before .before .before .before .before .before .before .before .before .before .before .before .before .before .before .before .before .before .before .before .before .loop in
+    let f = c .before .before .before .before .before .before .before .before .before .before .before .before .before .before .before .before .before .before .before .before .before .before .before .before .scan-block .ensures in
+    let p = passed-by-tag _ (c .before .before .before .before .before .before .before .before .before .before .before .before .before .match .keys1) in
+    let t = is-passed _ p in (
+      omega (arith, c .before .before .before .before .before .before .before .before .before .before .before .before .before .before .before .before .before .before .before .before .before .before .before .before .before .before .before .before .before .before .loop-test .taken),
+      c .before .before .before .before .before .before .before .before .before .before .before .before .before .before .before .before .before .before .before .before .before .before .before .array .given ∙ lp .inv .1,
+      c .before .before .before .before .before .before .before .before .before .before .before .before .before .before .before .before .before .before .before .before .before .register .given ∙ lp .inv .2,
+      c .before .before .before .before .before .before .before .before .before .before .before .before .before .before .before .before .before .before .before .history .given ∙ lp .inv .3,
+      c .before .before .before .before .before .before .before .before .before .before .before .before .before .before .before .before .before .page .given ∙ lp .inv .4,
+      c .before .before .before .before .before .kinds .given ∙ lp .inv .5,
+      c .before .before .before .logicals .given ∙ lp .inv .6,
+      c .before .numbers .given ∙ lp .inv .7,
+      chip-goes (setting (s .args .g) (now (s .args .mask)) (now (s .args .fates))) (line (s .args .from) (now (s .args .array)) (now (s .args .register)) (now (s .args .history))) (line (lp .b) (lp .array) (lp .register) (lp .history)) (lp .block) (lp .found) (contents (now (s .args .kinds)) (now (s .args .logicals)) (now (s .args .numbers))) (contents (lp .kinds) (lp .logicals) (lp .numbers)) (c .before .before .before .before .before .before .before .before .before .before .before .before .before .before .before .before .before .before .before .before .before .before .before .before .before .before .before .before .before .before .loop-test .taken) (lp .inv .8) _ (c .before .before .before .before .before .before .before .before .before .before .before .before .before .before .before .before .before .before .before .before .before .before .before .before .scan-block .result .outcome) (f .0) (f .1 .0) t (f .1 .1 .1 .1 .0 p) (f .1 .1 .0) (f .1 .1 .1 .0) (c .before .before .before .before .before .before .before .before .before .before .before .before .before .before .before .before .before .before .before .before .before .before .before .before .scan-block .result .summary) (c .before .before .before .before .before .before .before .before .before .before .before .before .before .before .before .before .before .before .before .before .before .before .before .before .scan-block .result .right) _ (f .1 .1 .1 .1 .1 .0 p) (f .1 .1 .1 .1 .1 .1 .0 p) (f .1 .1 .1 .1 .1 .1 .1 p) (c .before .before .before .before .before .before .before .before .before .before .note .ensures) (c .before .before .before .before .before .before .note-copy .ensures),
+    )
+
+same-length-8 : tie.Need-same-length-8 Inv-loop μ-loop
+same-length-8 c = c .before .loop .inv .1
+
+same-length-9 : tie.Need-same-length-9 Inv-loop μ-loop
+same-length-9 c = c .before .loop .inv .2
+
+same-length-10 : tie.Need-same-length-10 Inv-loop μ-loop
+same-length-10 c = c .before .loop .inv .3
+
+same-length-11 : tie.Need-same-length-11 Inv-loop μ-loop
+same-length-11 c = c .before .loop .inv .4
+
+same-length-12 : tie.Need-same-length-12 Inv-loop μ-loop
+same-length-12 c = c .before .loop .inv .5
+
+same-length-13 : tie.Need-same-length-13 Inv-loop μ-loop
+same-length-13 c = c .before .loop .inv .6
+
+same-length-14 : tie.Need-same-length-14 Inv-loop μ-loop
+same-length-14 c = c .before .loop .inv .7
+
+returns-2 : tie.Need-returns-2 Inv-loop μ-loop
+returns-2 c =
+    let s = c .before .before .before .before .before .before .before .before .before .before .before .before in
+    let lp = c .before .loop in
+    let e : lp .block ≡ s .args .g .blocks = omega arith in
+    let r = subst (λ (k : ℕ). Through (setting (s .args .g) (now (s .args .mask)) (now (s .args .fates))) (line (s .args .from) (now (s .args .array)) (now (s .args .register)) (now (s .args .history))) (line (lp .b) (lp .array) (lp .register) (lp .history)) k (lp .found) (contents (now (s .args .kinds)) (now (s .args .logicals)) (now (s .args .numbers))) (contents (lp .kinds) (lp .logicals) (lp .numbers))) e (lp .inv .8) in
+    (r .reached, (r .passing, (r .same-array, (r .same-history, (λ p. r .called, (λ p. r .found-is, λ p. r .contents-are))))))
+
+pub scan-chip-spec : {M : Type 1} → statement M
+scan-chip-spec =
+    tie.close
+    (tie.spec
+    Inv-loop
+    μ-loop
+    blank-requires
+    loop-holds
+    slice-aggregate-scan-block
+    scan-block-requires
+    enum-told
+    same-length
+    same-length-2
+    same-length-3
+    same-length-4
+    same-length-5
+    same-length-6
+    same-length-7
+    returns
+    note-requires
+    note-copy-requires
+    add-block
+    loop-less
+    loop-again
+    same-length-8
+    same-length-9
+    same-length-10
+    same-length-11
+    same-length-12
+    same-length-13
+    same-length-14
+    returns-2)
