@@ -105,9 +105,9 @@ impl State {
         requires { ⌜ block < 4096 ⌝ }
         ensures { λ r. ⌜ r ≡ withInvalid block self ⌝ }
     {
-        let mut bits = self.invalid;
-        bitmaps::set_bit(&mut bits, block);
-        self.invalid = bits;
+        let mut invalid = self.invalid;
+        bitmaps::set_bit(&mut invalid, block);
+        self.invalid = invalid;
         self
     }
 
