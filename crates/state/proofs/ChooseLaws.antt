@@ -5,18 +5,15 @@ use mathlib.Core.Logic.{_↔_}
 use mathlib.Core.Path.{_≡_, refl, sym, ap, _∙_}
 use native.Mathlib.Nat.{mod-self, mod-lt, mod-eq-of-lt, mod-add-mod, add-mod-mod, add-mod-right}
 use native.Mathlib.Omega.{arith}
+use borrow.Table.Steps.{cases}
 use borrow.Author.Tests.{eqb-true, eqb-false}
 use lib.Dec.{eqb}
 use Rattle.state.specs.Choose.{nextBlock, searchAfter}
 use Rattle.state.specs.declared.choose.Choice.the-variants.{Block, Worn}
 
-by-test : {P : Type 0} (b : Bool) → (b ≡ true → P) → (b ≡ false → P) → P
-by-test true f g = f refl
-by-test false f g = g refl
-
 pub next-below : (blocks b : ℕ) → b < blocks → nextBlock blocks b < blocks
 next-below blocks b h =
-    by-test (eqb (b + 1) blocks) (λ t. rw t (omega arith)) (λ t. rw t (omega (arith, eqb-false (b + 1) blocks t)))
+    cases (eqb (b + 1) blocks) (λ t. rw t (omega arith)) (λ t. rw t (omega (arith, eqb-false (b + 1) blocks t)))
 
 module _ (test : ℕ → Bool) (blocks : ℕ) where
   -- the next block is taken, or the search goes on after it
@@ -60,7 +57,7 @@ same-block e = cc
 
 next-is : (blocks b : ℕ) → b < blocks → nextBlock blocks b ≡ (b + 1) % blocks
 next-is blocks b h =
-    by-test (eqb (b + 1) blocks)
+    cases (eqb (b + 1) blocks)
     (λ t. rw (t, eqb-true (b + 1) blocks t) (sym (mod-self blocks)))
     (λ t. rw (t, mod-eq-of-lt {n = b + 1} {m = blocks} (omega (arith, eqb-false (b + 1) blocks t))))
 
@@ -80,7 +77,7 @@ module _ (test : ℕ → Bool) (blocks : ℕ) where
   unfolding searchAfter
   worn-none zero b h e k l = absurd (omega arith)
   worn-none (suc n) b h e k l =
-      by-test (test (nextBlock blocks b))
+      cases (test (nextBlock blocks b))
       (λ t. absurd (not-worn {c = nextBlock blocks b} (sym (rw t) ∙ e)))
       (λ t. go k l t (worn-none n (nextBlock blocks b) (next-below blocks b h) (sym (rw t) ∙ e)))
     where
@@ -107,7 +104,7 @@ module _ (test : ℕ → Bool) (blocks : ℕ) where
   unfolding searchAfter
   found zero b c h e = absurd (not-block e)
   found (suc n) b c h e =
-      by-test (test (nextBlock blocks b))
+      cases (test (nextBlock blocks b))
       (λ t.
       let s : nextBlock blocks b ≡ c = same-block (sym (rw t) ∙ e) in
       record {

@@ -1,11 +1,12 @@
 -- Laws of what the methods of the state walk over: bitmaps and the map, one block or entry at a time. Assumes nothing.
 use Prim.Native.Nat.{ℕ, zero, suc, _+_, _-_, _≤_, _<_}
-use mathlib.Core.Bool.{Bool, true, false}
+use mathlib.Core.Bool.{true, false, false≢true}
 use mathlib.Core.List.{List}
 use mathlib.Core.Path.{_≡_, refl, sym, ap, _∙_}
 use native.Mathlib.Nat.{add-zero, sub-zero}
 use native.Mathlib.Numerals.{add-one}
 use native.Mathlib.Omega.{arith}
+use borrow.Table.Steps.{cases}
 use borrow.Author.Tests.{eq-eqb, ne-eqb, lt-ltb, le-ltb, ltb-true}
 use lib.Dec.{ltb}
 use lib.ListN.{length, getD, length-set}
@@ -13,13 +14,6 @@ use Rattle.bitmaps.specs.Bitmap.{withBit}
 use Rattle.state.specs.Choose.{permitted}
 use Rattle.state.specs.State.{addBlock, copyBits, countPermitted, emptyFrom, soundBlock, soundFrom}
 use Rattle.state.specs.declared.State.{State}
-
-pub by-test : {P : Type 0} (b : Bool) → (b ≡ true → P) → (b ≡ false → P) → P
-by-test true f g = f refl
-by-test false f g = g refl
-
-pub not-both : false ≡ true → ⊥
-not-both e = let z : _≡_ {A = ℕ} 0 1 = cc in omega arith
 
 -- an entry of the map from n on that is not empty, an empty one, and no entry left
 pub empty-hit : (map : List ℕ) (m n : ℕ) → n < m → (getD map n 0 ≡ 65535 → ⊥) → false ≡ emptyFrom map n (m - n)
@@ -117,6 +111,6 @@ module _ (marked invalid map : List ℕ) (blocks : ℕ) (named : List ℕ) (m n 
 -- a sound block is on the chip
 pub sound-below : (marked invalid named : List ℕ) (blocks b : ℕ) → soundBlock marked invalid named blocks b ≡ true → b < blocks
 sound-below marked invalid named blocks b h =
-    by-test (ltb b blocks)
+    cases (ltb b blocks)
     (λ t. ltb-true b blocks t)
-    (λ t. absurd (not-both (sym (rw t) ∙ h)))
+    (λ t. absurd (false≢true (sym (rw t) ∙ h)))

@@ -1,10 +1,11 @@
 -- The mounted state: what each of its methods makes of it.
-use Prim.Native.Nat.{ℕ, zero, suc, _+_, _-_}
+use Prim.Native.Nat.{ℕ, zero, suc, _+_, _-_, _≤_, _<_}
 use mathlib.Core.Bool.{Bool, true, false, cond}
 use mathlib.Core.List.{List}
+use mathlib.Core.Path.{_≡_}
 use lib.Dec.{eqb, ltb}
 use lib.ListN.{getD, set, replicate}
-use Rattle.bitmaps.specs.Bitmap.{withBit, clearFrom, neverBoth}
+use Rattle.bitmaps.specs.Bitmap.{bitAt, withBit, clearFrom, neverBoth}
 use Rattle.state.specs.Choose.{permitted}
 use Rattle.state.specs.declared.State.{State}
 
@@ -98,6 +99,23 @@ mounted s blocks logical =
     false)
     false)
     false
+
+-- what makes a state mounted, said of each block and each entry: the test holds exactly where this does
+pub record Mounted (s : State) (blocks logical : ℕ) : Type 0 where
+  pub status-one : s .status ≡ 1
+  pub last-below : s .last < blocks
+  pub marks-end : (b : ℕ) → blocks ≤ b → b < 4096 → bitAt (s .marked) b ≡ false
+  pub invalid-end : (b : ℕ) → blocks ≤ b → b < 4096 → bitAt (s .invalid) b ≡ false
+  pub apart : (b : ℕ) → b < 4096 → bitAt (s .marked) b ≡ true → bitAt (s .invalid) b ≡ false
+  pub entries-end : (l : ℕ) → logical ≤ l → l < 4096 → getD (s .map) l 0 ≡ none
+  pub table-below : s .table < blocks
+  pub table-unmarked : bitAt (s .marked) (s .table) ≡ false
+  pub table-valid : bitAt (s .invalid) (s .table) ≡ false
+  pub copy-below : (l : ℕ) → l < logical → (getD (s .map) l 0 ≡ none → ⊥) → getD (s .map) l 0 < blocks
+  pub copy-unmarked : (l : ℕ) → l < logical → (getD (s .map) l 0 ≡ none → ⊥) → bitAt (s .marked) (getD (s .map) l 0) ≡ false
+  pub copy-valid : (l : ℕ) → l < logical → (getD (s .map) l 0 ≡ none → ⊥) → bitAt (s .invalid) (getD (s .map) l 0) ≡ false
+  pub copy-off-table : (l : ℕ) → l < logical → (getD (s .map) l 0 ≡ none → ⊥) → getD (s .map) l 0 ≡ s .table → ⊥
+  pub once : (l k : ℕ) → l < logical → k < logical → (l ≡ k → ⊥) → (getD (s .map) l 0 ≡ none → ⊥) → getD (s .map) l 0 ≡ getD (s .map) k 0 → ⊥
 
 -- the bench's third figure: valid unmarked blocks that hold nothing current, 0 if not mounted
 unfoldable pub freeBlocks : State → ℕ → ℕ → ℕ

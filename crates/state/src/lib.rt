@@ -4,7 +4,7 @@ pub mod choose;
 ghost use mathlib.Core.Path.{_≡_};
 ghost use Prim.Native.Nat.{_+_, _-_, _<_, _≤_};
 ghost use lib.ListN.{replicate};
-ghost use Rattle.bitmaps.specs.Bitmap.{withBit, clearFrom, neverBoth};
+ghost use Rattle.bitmaps.specs.Bitmap.{withBit};
 ghost use Rattle.state.specs.State.{blank, spent, withNumber, withInvalid, withCopy, withTable, heldBits, emptyFrom, countPermitted, soundBlock, soundFrom, soundEntries, mounted, freeBlocks};
 
 // What a mount found and the fills since changed. It goes in by value and comes back.
@@ -28,21 +28,6 @@ fn wide(x: u16) -> usize
     ensures { λ r. ⌜ r ≡ x ⌝ }
 {
     x as usize
-}
-
-// Whether no bit of a block past the last is set.
-fn is_clear_from(bits: &[u8; 512], blocks: usize) -> bool
-    requires { ⌜ blocks ≤ 4096 ⌝ }
-    ensures { λ r. ⌜ r ≡ clearFrom (now (bits .entry)) blocks (4096 - blocks) ⌝ }
-{
-    bitmaps::is_clear_from(bits, blocks, 4096)
-}
-
-// Whether no block is both marked and invalid.
-fn is_never_both(marked: &[u8; 512], invalid: &[u8; 512]) -> bool
-    ensures { λ r. ⌜ r ≡ neverBoth (now (marked .entry)) (now (invalid .entry)) 4096 ⌝ }
-{
-    bitmaps::is_never_both(marked, invalid, 4096)
 }
 
 // Whether the entries past the last logical block are empty.
@@ -120,9 +105,9 @@ impl State {
         requires { ⌜ block < 4096 ⌝ }
         ensures { λ r. ⌜ r ≡ withInvalid block self ⌝ }
     {
-        let mut bits = self.invalid;
-        bitmaps::set_bit(&mut bits, block);
-        self.invalid = bits;
+        let mut invalid = self.invalid;
+        bitmaps::set_bit(&mut invalid, block);
+        self.invalid = invalid;
         self
     }
 
@@ -230,9 +215,9 @@ impl State {
         }
         let marked = self.marked;
         let invalid = self.invalid;
-        if is_clear_from(&marked, blocks) {
-            if is_clear_from(&invalid, blocks) {
-                if is_never_both(&marked, &invalid) {
+        if bitmaps::is_clear_from(&marked, blocks, 4096) {
+            if bitmaps::is_clear_from(&invalid, blocks, 4096) {
+                if bitmaps::is_never_both(&marked, &invalid, 4096) {
                     return self.has_sound_entries(blocks, logical);
                 }
             }

@@ -1,7 +1,9 @@
 -- `state::State::is_mounted` meets its contract, one test after the other. Assumes nothing.
-use mathlib.Core.Path.{sym, _∙_}
+use mathlib.Core.Path.{_≡_, sym, _∙_}
+use native.Mathlib.Omega.{arith}
 use borrow.Author.Needs.{needs}
 use borrow.Author.Tests.{eq-eqb, ne-eqb, lt-ltb, le-ltb}
+use lib.ListN.{length}
 use Rattle.state.specs.State.{mounted}
 use Rattle.state.proofs.State.is_mounted.Statement.{statement}
 use Rattle.state.proofs.State.is_mounted.Tie as tie
@@ -15,14 +17,26 @@ unfolding mounted
 returns-2 c =
     rw (eq-eqb (c .before .before .args .self .status) 1 (c .before .if1 .left), le-ltb (c .before .before .args .self .last) (c .before .before .args .blocks) (c .if2 .taken))
 
+slice-aggregate-is-clear-from : tie.Need-slice-aggregate-is-clear-from
+slice-aggregate-is-clear-from c = search needs
+
 is-clear-from-requires : tie.Need-is-clear-from-requires
-is-clear-from-requires c κs = search needs
+is-clear-from-requires c κs = let h : length (c .before .before .before .before .before .args .self .marked) ≡ 512 = search needs in (omega arith, omega (arith, h))
+
+slice-aggregate-is-clear-from-2 : tie.Need-slice-aggregate-is-clear-from-2
+slice-aggregate-is-clear-from-2 c = search needs
 
 is-clear-from-requires-2 : tie.Need-is-clear-from-requires-2
-is-clear-from-requires-2 c κs = search needs
+is-clear-from-requires-2 c κs = let h : length (c .before .before .before .before .before .before .before .before .args .self .invalid) ≡ 512 = search needs in (omega arith, omega (arith, h))
+
+slice-aggregate-is-never-both : tie.Need-slice-aggregate-is-never-both
+slice-aggregate-is-never-both c = search needs
+
+slice-aggregate-is-never-both-2 : tie.Need-slice-aggregate-is-never-both-2
+slice-aggregate-is-never-both-2 c = search needs
 
 is-never-both-requires : tie.Need-is-never-both-requires
-is-never-both-requires c κs = search needs
+is-never-both-requires c κs = let h : length (c .before .before .before .before .before .before .before .before .before .before .before .before .args .self .marked) ≡ 512 = search needs in let g : length (c .before .before .before .before .before .before .before .before .before .before .before .before .args .self .invalid) ≡ 512 = search needs in (omega (arith, h), omega (arith, g))
 
 has-sound-entries-requires : tie.Need-has-sound-entries-requires
 has-sound-entries-requires c κs = search needs
@@ -54,8 +68,12 @@ is-mounted-spec =
     (tie.spec
     returns
     returns-2
+    slice-aggregate-is-clear-from
     is-clear-from-requires
+    slice-aggregate-is-clear-from-2
     is-clear-from-requires-2
+    slice-aggregate-is-never-both
+    slice-aggregate-is-never-both-2
     is-never-both-requires
     has-sound-entries-requires
     returns-3

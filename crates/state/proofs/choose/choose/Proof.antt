@@ -21,7 +21,7 @@ abbrev μ-loop : tie.MeasureT-loop
 μ-loop marked invalid held blocks last block₀ tried₀ block tried = blocks - tried
 
 loop-holds : tie.Need-loop-holds Inv-loop μ-loop
-loop-holds c = (c .before .before .before .pre .0, omega arith, ap (λ (n : ℕ). searchAfter (permitted (now (c .before .before .before .args .marked)) (now (c .before .before .before .args .invalid)) (now (c .before .before .before .args .held))) (c .before .before .before .args .blocks) n (c .before .before .before .args .last)) (sub-zero (c .before .before .before .args .blocks)))
+loop-holds c = (omega arith, omega arith, ap (λ (n : ℕ). searchAfter (permitted (now (c .before .before .before .args .marked)) (now (c .before .before .before .args .invalid)) (now (c .before .before .before .args .held))) (c .before .before .before .args .blocks) n (c .before .before .before .args .last)) (sub-zero (c .before .before .before .args .blocks)))
 
 next-block-requires : tie.Need-next-block-requires Inv-loop μ-loop
 next-block-requires c κs = c .before .loop .inv .0
