@@ -8,7 +8,8 @@ use borrow.Table.Steps.{cases}
 use borrow.Author.Tests.{eq-eqb, ne-eqb, le-ltb}
 use lib.Dec.{eqb}
 use Rattle.geometry.specs.declared.Geometry.{Geometry}
-use Rattle.pages.specs.Layout.{Label, label}
+use Rattle.pages.specs.Layout.{Label, label, labelOf, kindOf, numberWidth}
+use Rattle.pages.proofs.LayoutLaws.{unless, whole-width}
 use Rattle.copies.specs.Blocks.{pageIn, agrees, wholeIn, labelIn, completeTo, aboveTo, isMarked, isComplete, above, markByte}
 use Rattle.copies.specs.Summary.{blankSummary, broken, summed, stepped, wholeStep, markedBy, saysComplete, saysAbove}
 use Rattle.copies.specs.declared.Summary.{Summary}
@@ -189,3 +190,29 @@ module _ (g : Geometry) (block : List ℕ) where
   says-above h =
       subst (λ (k : ℕ). saysAbove (summed g block k) ≡ cond (isMarked g block) 0 (aboveTo g block k)) (more-than-one (g .pages) h)
       (above-after (g .pages - 2))
+
+  pub says-marked : 2 ≤ g .pages → summed g block (g .pages) .marked ≡ cond (isMarked g block) 1 0
+  says-marked h =
+      subst (λ (k : ℕ). summed g block k .marked ≡ cond (isMarked g block) 1 0) (more-than-one (g .pages) h) (marks (g .pages - 2))
+
+  -- the summary of a complete block bears the label of its page 0, whose kind is one
+  pub record Labelled (s : Summary) : Type 0 where
+    pub kind-is : s .kind ≡ labelIn g block 0 .kind
+    pub logical-is : s .logical ≡ labelIn g block 0 .logical
+    pub number-is : s .number ≡ labelIn g block 0 .number
+    pub kind-some : labelIn g block 0 .kind ≡ 0 → ⊥
+
+  no-kind : wholeIn g block 0 ≡ true → labelIn g block 0 .kind ≡ 0 → ⊥
+  unfolding labelOf numberWidth
+  no-kind w e =
+      let z : numberWidth (kindOf (g .main) (pageIn g block 0)) ≡ 0 = ap numberWidth e in
+      omega (arith, z, whole-width (g .main) (pageIn g block 0) w)
+
+  pub complete-label : 2 ≤ g .pages → isComplete g block ≡ true → Labelled (summed g block (g .pages))
+  unfolding isComplete
+  complete-label h c =
+      let all = unless (isMarked g block) _ c .1 in
+      let r = subst (λ (k : ℕ). Sums g block k (summed g block k)) (more-than-one (g .pages) h) (sums (suc (g .pages - 2))) in
+      cases (wholeIn g block 0)
+      (λ w. record { kind-is = r .kind-is w; logical-is = r .logical-is w; number-is = r .number-is w; kind-some = no-kind w })
+      (λ w. absurd (false≢true (sym (r .broken-is w) ∙ all)))

@@ -1,18 +1,18 @@
 -- What is picked: the block with the greatest number that passes the test, the lower at a tie. Assumes nothing.
-use Prim.Native.Nat.{ℕ, zero, suc, _<_, _≤_}
+use Prim.Native.Nat.{ℕ, zero, suc, _-_, _<_, _≤_}
 use mathlib.Core.Bool.{Bool, true, false, cond, false≢true}
 use mathlib.Core.Path.{_≡_, refl, sym, ap, subst, _∙_}
 use native.Mathlib.Omega.{arith}
 use borrow.Table.Steps.{cases}
 use borrow.Author.Tests.{eqb-true, eqb-false, ltb-true, ltb-false}
 use lib.Dec.{eqb, ltb}
-use Rattle.copies.specs.Pick.{Pick, nothing, at, better, pick, Best, Picked}
+use Rattle.copies.specs.Pick.{Pick, nothing, at, better, pick, Best, Picked, someBelow}
 
 clash : {P : Type 0} {b : Bool} → b ≡ true → b ≡ false → P
 clash t f = absurd (false≢true (sym f ∙ t))
 
 -- what holds below n and at n holds below n + 1
-up-to : (P : ℕ → Type 0) (n k : ℕ) → k < suc n → (k < n → P k) → P n → P k
+pub up-to : (P : ℕ → Type 0) (n k : ℕ) → k < suc n → (k < n → P k) → P n → P k
 up-to P n k h below here =
     cases (eqb k n) (λ t. subst P (sym (eqb-true k n t)) here) (λ f. below (omega (arith, h, eqb-false k n f)))
 
@@ -102,3 +102,62 @@ module _ (test fewer : ℕ → Bool) (number : ℕ → ℕ) (n : ℕ) (within : 
   pub pick-fewer : ((m : ℕ) → pick test number n ≡ at m → fewer m ≡ true) → pick fewer number n ≡ pick test number n
   pick-fewer still =
       sym (picked-is fewer number n (pick test number n) (fewer-picked (pick test number n) (pick-is test number n) still))
+
+-- two tests and numbers that agree below n pick the same
+module _ (test other : ℕ → Bool) (number count : ℕ → ℕ) where
+  better-same : (n : ℕ) (o : Pick) → Picked test number n o → ((k : ℕ) → k < suc n → test k ≡ true → number k ≡ count k) → test n ≡ true → better number n o ≡ better count n o
+  unfolding better
+  better-same n nothing p e t = refl
+  better-same n (at m) p e t = rw (e m (omega (arith, p .below)) (p .passes), e n (omega arith) t)
+
+  pub pick-same : (n : ℕ) → ((k : ℕ) → k < n → test k ≡ other k) → ((k : ℕ) → k < n → test k ≡ true → number k ≡ count k) → pick test number n ≡ pick other count n
+  unfolding pick
+  pick-same zero e f = refl
+  pick-same (suc n) e f =
+      let less = pick-same n (λ k h. e k (omega (arith, h))) (λ k h. f k (omega (arith, h))) in
+      cases (test n)
+      (λ t.
+      let u : other n ≡ true = sym (e n (omega arith)) ∙ t in
+      rw (t, u) (better-same n (pick test number n) (pick-is test number n) f t ∙ ap (better count n) less))
+      (λ t.
+      let u : other n ≡ false = sym (e n (omega arith)) ∙ t in
+      rw (t, u) less)
+
+-- some block passes: the last of the first n, or one below it; and two tests that agree
+pub some-hit : (test : ℕ → Bool) (n : ℕ) → 0 < n → test (n - 1) ≡ true → true ≡ someBelow test n
+unfolding someBelow
+some-hit test zero h t = absurd (omega (arith, h))
+some-hit test (suc n) h t =
+    let e : suc n - 1 ≡ n = omega arith in
+    let here : test n ≡ true = sym (ap test e) ∙ t in
+    rw here
+
+pub some-miss : (test : ℕ → Bool) (n : ℕ) → 0 < n → test (n - 1) ≡ false → someBelow test (n - 1) ≡ someBelow test n
+unfolding someBelow
+some-miss test zero h t = absurd (omega (arith, h))
+some-miss test (suc n) h t =
+    let e : suc n - 1 ≡ n = omega arith in
+    let here : test n ≡ false = sym (ap test e) ∙ t in
+    ap (someBelow test) e ∙ rw here
+
+pub some-none : (test : ℕ → Bool) (n : ℕ) → n ≤ 0 → false ≡ someBelow test n
+unfolding someBelow
+some-none test n h =
+    let e : n ≡ 0 = omega arith in
+    rw e
+
+pub some-same : (test other : ℕ → Bool) (n : ℕ) → ((k : ℕ) → k < n → test k ≡ other k) → someBelow test n ≡ someBelow other n
+unfolding someBelow
+some-same test other zero e = refl
+some-same test other (suc n) e = rw (e n (omega arith), some-same test other n (λ k h. e k (omega (arith, h))))
+
+pub some-is : (test : ℕ → Bool) (n k : ℕ) → k < n → test k ≡ true → someBelow test n ≡ true
+unfolding someBelow
+some-is test zero k h t = absurd (omega (arith, h))
+some-is test (suc n) k h t =
+    cases (test n)
+    (λ u. rw u)
+    (λ u. rw u (some-is test n k (up-to (λ (x : ℕ). test x ≡ true → x < n) n k h (λ l p. l) (λ p. clash p u) t) t))
+
+pub some-not : (test : ℕ → Bool) (n : ℕ) → someBelow test n ≡ false → (k : ℕ) → k < n → test k ≡ false
+some-not test n f k h = cases (test k) (λ t. clash (some-is test n k h t) f) (λ t. t)

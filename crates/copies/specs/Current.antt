@@ -6,7 +6,7 @@ use lib.Dec.{eqb, leb}
 use lib.ListN.{replicate}
 use Rattle.geometry.specs.declared.Geometry.{Geometry}
 use Rattle.copies.specs.Blocks.{blockIn, isMarked, isComplete, isTable, isData, isCopyOf, numberIn, labelIn, above, mainIn}
-use Rattle.copies.specs.Pick.{Pick, nothing, at, pick}
+use Rattle.copies.specs.Pick.{Pick, nothing, at, pick, someBelow}
 use Rattle.copies.specs.Table.{lists, rightTable}
 
 abbrev pub numberAt : Geometry → List ℕ → ℕ → ℕ
@@ -48,27 +48,26 @@ unfoldable pub filledLast : Geometry → List ℕ → Pick
 filledLast g array =
     pick (λ b. cond (eqb (above g (blockIn g array b)) 0) false true) (λ b. above g (blockIn g array b)) (g .blocks)
 
--- two complete blocks below n that the table does not list bear one number: c is the number of another such block above
-unfoldable pub sharesNumber : Geometry → List ℕ → ℕ → ℕ → ℕ → Bool
-sharesNumber g array table c zero = false
-sharesNumber g array table c (suc n) =
-    let less = sharesNumber g array table c n in
-    cond (unlisted g array table n)
-    (cond (isComplete g (blockIn g array n)) (cond (eqb (numberAt g array n) c) true less) less)
-    less
+-- a complete block that the table does not list
+abbrev pub counts : Geometry → List ℕ → ℕ → ℕ → Bool
+counts g array table b = cond (unlisted g array table b) (isComplete g (blockIn g array b)) false
 
--- among the blocks below n that the table does not list: two complete with one number, or a complete data copy of a block ≥ N
-unfoldable pub clashes : Geometry → List ℕ → ℕ → ℕ → Bool
-clashes g array table zero = false
-clashes g array table (suc n) =
-    let less = clashes g array table n in
-    cond (unlisted g array table n)
-    (cond (isComplete g (blockIn g array n))
-    (cond (cond (isData g (blockIn g array n)) (leb (g .logical) (labelIn g (blockIn g array n) 0 .logical)) false)
+-- such a block below n bears this number
+unfoldable pub sharesNumber : Geometry → List ℕ → ℕ → ℕ → ℕ → Bool
+sharesNumber g array table number n =
+    someBelow (λ b. cond (counts g array table b) (eqb (numberAt g array b) number) false) n
+
+-- such a block is a data copy of a block ≥ N, or bears the number of one below it
+unfoldable pub clashesAt : Geometry → List ℕ → ℕ → ℕ → Bool
+clashesAt g array table b =
+    cond (counts g array table b)
+    (cond (cond (isData g (blockIn g array b)) (leb (g .logical) (labelIn g (blockIn g array b) 0 .logical)) false)
     true
-    (cond (sharesNumber g array table (numberAt g array n) n) true less))
-    less)
-    less
+    (sharesNumber g array table (numberAt g array b) b))
+    false
+
+unfoldable pub clashes : Geometry → List ℕ → ℕ → ℕ → Bool
+clashes g array table n = someBelow (clashesAt g array table) n
 
 -- a mount's answer on an array, uncut and not silent: 0 done, 4 no table, 5 wrong table, 6 clash
 unfoldable pub judgeTable : Geometry → List ℕ → Pick → ℕ

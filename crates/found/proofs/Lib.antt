@@ -1,0 +1,4 @@
+pub mod ContentsLaws
+pub mod FoundLaws
+pub mod MapLaws
+pub mod ToldLaws

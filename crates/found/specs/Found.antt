@@ -3,11 +3,11 @@ use Prim.Native.Nat.{ℕ, zero, suc}
 use mathlib.Core.Bool.{Bool, true, cond}
 use mathlib.Core.List.{List}
 use lib.Dec.{eqb, ltb}
-use lib.ListN.{set, replicate}
+use lib.ListN.{replicate}
 use Rattle.geometry.specs.declared.Geometry.{Geometry}
 use Rattle.bitmaps.specs.Bitmap.{withBit}
 use Rattle.cells.specs.Part.{put}
-use Rattle.copies.specs.Blocks.{blockIn, mainIn}
+use Rattle.copies.specs.Blocks.{blockIn, mainIn, isMarked}
 use Rattle.copies.specs.Summary.{summed, saysComplete, saysAbove}
 use Rattle.copies.specs.Table.{bitmapOf, rightTo}
 use Rattle.copies.specs.declared.Summary.{Summary}
@@ -45,20 +45,6 @@ tableNoted b s right bits f =
 unfoldable pub noted : ℕ → Summary → ℕ → List ℕ → Found → Found
 noted b s right bits f = tableNoted b s right bits (aboveNoted b s (markNoted b s f))
 
--- kind, logical block and number of each complete block; kind 0 stands for a block that is not complete
-pub record Contents : Type 0 where
-  pub kinds : List ℕ
-  pub logicals : List ℕ
-  pub numbers : List ℕ
-
-abbrev pub contents : List ℕ → List ℕ → List ℕ → Contents
-contents k l n = record { kinds = k; logicals = l; numbers = n }
-
-unfoldable pub copyNoted : ℕ → Summary → Contents → Contents
-copyNoted b s c =
-    cond (saysComplete s) (contents (set (c .kinds) b (s .kind)) (set (c .logicals) b (s .logical)) (set (c .numbers) b (s .number)))
-    c
-
 -- the summary, the test for a table, and the bitmap of a block of the array
 abbrev pub summaryAt : Geometry → List ℕ → ℕ → Summary
 summaryAt g array b = summed g (blockIn g array b) (g .pages)
@@ -75,6 +61,8 @@ foundTo g array zero = blankFound
 foundTo g array (suc n) =
     let less = foundTo g array n in noted n (summaryAt g array n) (rightAt g array n) (bitsAt g array n) less
 
-unfoldable pub contentsTo : Geometry → List ℕ → Contents → ℕ → Contents
-contentsTo g array c zero = c
-contentsTo g array c (suc n) = let less = contentsTo g array c n in copyNoted n (summaryAt g array n) less
+-- the factory marks of the first n blocks of an array
+unfoldable pub marksTo : Geometry → List ℕ → ℕ → List ℕ
+marksTo g array zero = replicate 512 0
+marksTo g array (suc n) =
+    let less = marksTo g array n in cond (isMarked g (blockIn g array n)) (withBit less n) less

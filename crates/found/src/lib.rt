@@ -1,9 +1,10 @@
 // What a scan of the chip found: marks, complete copies, the current table, the greatest number.
+pub mod contents;
+
 use copies::Summary;
 ghost use mathlib.Core.Path.{_≡_};
 ghost use Prim.Native.Nat.{_<_};
-ghost use lib.ListN.{length};
-ghost use Rattle.found.specs.Found.{Contents, contents, blankFound, markNoted, aboveNoted, isNewer, tableNoted, noted, copyNoted};
+ghost use Rattle.found.specs.Found.{blankFound, markNoted, aboveNoted, isNewer, tableNoted, noted};
 
 // What the blocks scanned so far told, but for their copies.
 pub struct Found {
@@ -109,25 +110,4 @@ impl Found {
         let counted = marked.note_above(block, summary);
         counted.note_table(block, summary, right, bits)
     }
-}
-
-// Notes the kind, logical block and number of a complete block.
-pub fn note_copy(
-    summary: Summary,
-    block: usize,
-    kinds: &mut [usize],
-    logicals: &mut [usize],
-    numbers: &mut [u64],
-)
-    requires { ⌜ block < length (now kinds) ⌝ }
-    requires { ⌜ block < length (now logicals) ⌝ }
-    requires { ⌜ block < length (now numbers) ⌝ }
-    ensures { λ _. ⌜ contents (now (kinds .exit)) (now (logicals .exit)) (now (numbers .exit)) ≡ copyNoted block summary (contents (now (kinds .entry)) (now (logicals .entry)) (now (numbers .entry))) ⌝ }
-{
-    if !summary.is_complete() {
-        return;
-    }
-    kinds[block] = summary.kind;
-    logicals[block] = summary.logical;
-    numbers[block] = summary.number;
 }

@@ -16,7 +16,8 @@ use Rattle.sequences.specs.declared.Outcome.the-variants.{Passed}
 use Rattle.operations.specs.Ends.{Called}
 use Rattle.operations.specs.Trace.{ArrayOperation}
 use Rattle.copies.specs.declared.Summary.{Summary}
-use Rattle.found.specs.Found.{Contents, blankFound, noted, copyNoted, foundTo, contentsTo, summaryAt, rightAt, bitsAt}
+use Rattle.found.specs.Contents.{Contents, copyNoted, contentsTo}
+use Rattle.found.specs.Found.{blankFound, noted, foundTo, summaryAt, rightAt, bitsAt}
 use Rattle.found.specs.declared.Found.{Found}
 use Rattle.scan.specs.Progress.{Progress, progress}
 use Rattle.scan.specs.Scan.{pagesRead, blocksRead}

@@ -22,7 +22,8 @@ ghost use Rattle.copies.specs.Summary.{summed};
 ghost use Rattle.copies.specs.Table.{bitmapBytes, bitmapOf, rightTo};
 ghost use Rattle.cells.specs.Part.{put};
 ghost use Rattle.scan.specs.Progress.{progress};
-ghost use Rattle.found.specs.Found.{contents, foundTo, contentsTo};
+ghost use Rattle.found.specs.Found.{foundTo};
+ghost use Rattle.found.specs.Contents.{contents, contentsTo};
 ghost use Rattle.scan.specs.Scan.{pagesRead, blocksRead};
 
 // The bus after a scan, how its last read ended, and what the pages told if all passed.
@@ -157,7 +158,7 @@ pub fn scan_chip(
         let summary = done.summary;
         let right = done.right;
         found = found.note(block, summary, right, bits);
-        found::note_copy(summary, block, kinds, logicals, numbers);
+        found::contents::note_copy(summary, block, kinds, logicals, numbers);
         block += 1;
     }
     ChipScanned {

@@ -1,10 +1,10 @@
--- `found::note_copy` meets its contract. Assumes nothing.
+-- `found::contents::note_copy` meets its contract. Assumes nothing.
 use mathlib.Core.Path.{sym, _∙_}
 use borrow.Author.Tests.{not-true, not-false}
-use Rattle.found.specs.Found.{copyNoted}
+use Rattle.found.specs.Contents.{copyNoted}
 use borrow.Author.Needs.{needs}
-use Rattle.found.proofs.note_copy.Statement.{statement}
-use Rattle.found.proofs.note_copy.Tie as tie
+use Rattle.found.proofs.contents.note_copy.Statement.{statement}
+use Rattle.found.proofs.contents.note_copy.Tie as tie
 
 is-complete-requires : tie.Need-is-complete-requires
 is-complete-requires c κs = search needs
