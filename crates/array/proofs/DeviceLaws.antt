@@ -31,23 +31,6 @@ fits g a r h t₀ =
       history-long = eqb-true _ _ (t₃ .1);
     }
 
--- the part from the place at up to the place at + n is lent, and comes back as f makes it
-pub lent : (at n : ℕ) (f : List ℕ → List ℕ) (ys xs : List ℕ) → at + n ≤ length xs → ((zs : List ℕ) → length (f zs) ≡ length zs)
-    → ys ≡ f (part at (at + n - at) xs) → take at xs ++ (ys ++ drop (at + n - at) (drop at xs)) ≡ put at (f (part at n xs)) xs
-lent at n f ys xs h same e =
-    let k : at + n - at ≡ n = omega arith in
-    rw (e, k) (put-lent at n (f (part at n xs)) xs (same (part at n xs) ∙ length-part at n xs h))
-
--- a lent part is as long as it is asked
-pub length-lent : (at n : ℕ) (xs : List ℕ) → at + n ≤ length xs → length (part at (at + n - at) xs) ≡ n
-length-lent at n xs h =
-    let k : at + n - at ≡ n = omega arith in
-    rw k (length-part at n xs h)
-
--- a mask for a block is long enough for a page
-pub page-in-block : (g : Geometry) → Valid g → pageSize g ≤ blockSize g
-page-in-block g v = omega (arith, mul-le-mul-right (pageSize g) (v .pages-least))
-
 -- the part that is lent and copied over as many bytes
 pub copied : (at n : ℕ) (ys xs rs : List ℕ) → at + n ≤ length xs → length rs ≡ n → ys ≡ over (part at (at + n - at) xs) rs → ys ≡ part at n xs
 copied at n ys xs rs h e o =
