@@ -1,10 +1,10 @@
--- `sequences::judge` meets its contract: bit 0 is the remainder by 2. Assumes nothing.
+-- `polling::judge` meets its contract: bit 0 is the remainder by 2. Assumes nothing.
 use mathlib.Core.Path.{sym, _∙_}
 use borrow.Author.Tests.{eq-eqb, ne-eqb}
 use lib.Bits.{and-mask}
-use Rattle.sequences.specs.Cycles.{judged}
-use Rattle.sequences.proofs.judge.Statement.{statement}
-use Rattle.sequences.proofs.judge.Tie as tie
+use Rattle.polling.specs.Polling.{judged}
+use Rattle.polling.proofs.judge.Statement.{statement}
+use Rattle.polling.proofs.judge.Tie as tie
 
 returns : tie.Need-returns
 unfolding judged
