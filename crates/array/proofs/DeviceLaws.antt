@@ -18,7 +18,7 @@ use Rattle.cells.specs.Part.{part, put}
 use Rattle.cells.proofs.PartLaws.{length-part}
 use Rattle.interface.specs.declared.Interface.{Interface}
 use Rattle.interface.specs.Interface.{refused, inPhase, started}
-use Rattle.array.specs.Device.{Device, Setting, device, setting, withPort, rowAt, fitting, Fitting, readStarted, programStarted, eraseStarted, pageLoaded, completed}
+use Rattle.array.specs.Device.{Device, Setting, device, withPort, rowAt, fitting, Fitting, readStarted, programStarted, eraseStarted, pageLoaded, completed}
 
 -- the test of the lengths and the facts it stands for
 pub fits : (g : Geometry) (a r h : ℕ) → fitting g a r h ≡ true → Fitting g a r h
