@@ -1,21 +1,24 @@
--- Laws of the chip's lengths, and of a part of the array that is lent and comes back changed. Assumes nothing.
-use Prim.Native.Nat.{ℕ, _+_, _-_, _/_, _≤_, _<_}
+-- Laws of the chip's lengths, of the page that a read copies, and of what confirm cycles start and a ready status completes.
+-- Assumes nothing.
+use Prim.Native.Nat.{ℕ, _+_, _-_, _*_, _/_, _%_, _≤_, _<_}
 use mathlib.Core.Bool.{true}
-use mathlib.Core.Path.{_≡_, _∙_}
-use mathlib.Core.List.{List, _++_, append-nil}
-use native.Mathlib.Nat.{mul-le-mul-right}
+use mathlib.Core.Path.{_≡_, ap, _∙_}
+use mathlib.Core.List.{List, append-nil}
 use native.Mathlib.Omega.{arith}
-use borrow.Author.Tests.{eqb-true}
-use lib.ListN.{length, take, drop, drop-of-length-le}
+use borrow.Author.Tests.{eqb-true, eq-eqb, ne-eqb, le-leb}
+use lib.Dec.{eqb}
+use lib.ListN.{length, getD, set, replicate, drop-of-length-le}
 use Rattle.geometry.specs.declared.Geometry.{Geometry}
 use Rattle.geometry.specs.Limits.{Valid}
 use Rattle.geometry.specs.Sizes.{pageSize, blockSize, rowCount}
 use Rattle.geometry.proofs.LimitLaws.{both, limits}
 use Rattle.geometry.proofs.SizeLaws.{row-block-below}
-use Rattle.cells.specs.Cells.{over}
+use Rattle.cells.specs.Cells.{programmed, weakened, raised, over}
 use Rattle.cells.specs.Part.{part, put}
-use Rattle.cells.proofs.PartLaws.{put-lent, length-part}
-use Rattle.array.specs.Device.{fitting, Fitting}
+use Rattle.cells.proofs.PartLaws.{length-part}
+use Rattle.interface.specs.declared.Interface.{Interface}
+use Rattle.interface.specs.Interface.{refused, inPhase, started}
+use Rattle.array.specs.Device.{Device, Setting, device, withPort, rowAt, fitting, Fitting, readStarted, programStarted, eraseStarted, pageLoaded, completed}
 
 -- the test of the lengths and the facts it stands for
 pub fits : (g : Geometry) (a r h : ℕ) → fitting g a r h ≡ true → Fitting g a r h
@@ -31,23 +34,6 @@ fits g a r h t₀ =
       history-long = eqb-true _ _ (t₃ .1);
     }
 
--- the part from the place at up to the place at + n is lent, and comes back as f makes it
-pub lent : (at n : ℕ) (f : List ℕ → List ℕ) (ys xs : List ℕ) → at + n ≤ length xs → ((zs : List ℕ) → length (f zs) ≡ length zs)
-    → ys ≡ f (part at (at + n - at) xs) → take at xs ++ (ys ++ drop (at + n - at) (drop at xs)) ≡ put at (f (part at n xs)) xs
-lent at n f ys xs h same e =
-    let k : at + n - at ≡ n = omega arith in
-    rw (e, k) (put-lent at n (f (part at n xs)) xs (same (part at n xs) ∙ length-part at n xs h))
-
--- a lent part is as long as it is asked
-pub length-lent : (at n : ℕ) (xs : List ℕ) → at + n ≤ length xs → length (part at (at + n - at) xs) ≡ n
-length-lent at n xs h =
-    let k : at + n - at ≡ n = omega arith in
-    rw k (length-part at n xs h)
-
--- a mask for a block is long enough for a page
-pub page-in-block : (g : Geometry) → Valid g → pageSize g ≤ blockSize g
-page-in-block g v = omega (arith, mul-le-mul-right (pageSize g) (v .pages-least))
-
 -- the part that is lent and copied over as many bytes
 pub copied : (at n : ℕ) (ys xs rs : List ℕ) → at + n ≤ length xs → length rs ≡ n → ys ≡ over (part at (at + n - at) xs) rs → ys ≡ part at n xs
 copied at n ys xs rs h e o =
@@ -57,3 +43,56 @@ copied at n ys xs rs h e o =
 -- the block of a row of the chip
 pub block-below : (g : Geometry) → Valid g → (row block : ℕ) {at : ℕ} → row ≡ at → block ≡ row / g .pages → at < rowCount g → block < g .blocks
 block-below g v row block e f h = rw (f, e) (row-block-below g v _ h)
+
+-- confirm cycles that start an operation, by what their tests found: the row at the address, its block and its page
+module _ (s : Setting) (d : Device) {row : ℕ} (at : row ≡ rowAt (d .port)) where
+  pub read-confirmed : {i : Interface} {r : List ℕ} → d .port .phase ≡ 3 → d .port .count ≡ 5
+      → i ≡ started 1 (s .fates) (d .port)
+      → r ≡ part (row * pageSize (s .geometry)) (pageSize (s .geometry)) (d .array)
+      → device i (d .array) r (d .history) ≡ readStarted s d
+  unfolding readStarted
+  read-confirmed p n e f = rw (eq-eqb _ _ p, eq-eqb _ _ n, e, f, at)
+
+  pub program-confirmed : {i : Interface} {a : List ℕ} (block page : ℕ) {least size : ℕ} → block ≡ row / s .geometry .pages → page ≡ row % s .geometry .pages
+      → d .port .phase ≡ 6 → d .port .first ≡ 0 → size ≡ pageSize (s .geometry) → d .port .column ≡ size
+      → least ≡ getD (d .history) block 0 → least ≤ page
+      → i ≡ started 2 (s .fates) (d .port)
+      → a ≡ put (row * pageSize (s .geometry)) (programmed (part (row * pageSize (s .geometry)) (pageSize (s .geometry)) (d .array)) (weakened (d .register) (s .mask))) (d .array)
+      → device i a (d .register) (set (d .history) block (page + 1)) ≡ programStarted s d
+  unfolding programStarted
+  program-confirmed block page b q p z k n l m e f =
+      rw (eq-eqb _ _ p, eq-eqb _ _ z, eq-eqb _ _ (n ∙ k), e, f, ← at, ← b, ← q, ← l, le-leb _ _ m)
+
+  pub erase-confirmed : {i : Interface} {a : List ℕ} (block : ℕ) → block ≡ row / s .geometry .pages → d .port .phase ≡ 5 → d .port .count ≡ 5
+      → i ≡ started 3 (s .fates) (d .port)
+      → a ≡ put (block * blockSize (s .geometry)) (raised (part (block * blockSize (s .geometry)) (blockSize (s .geometry)) (d .array)) (s .mask)) (d .array)
+      → device i a (d .register) (set (d .history) block 255) ≡ eraseStarted s d
+  unfolding eraseStarted
+  erase-confirmed block b p n e f = rw (eq-eqb _ _ p, eq-eqb _ _ n, e, f, ← at, ← b)
+
+-- what a ready status completes, by the operation under way and whether it failed
+module _ (g : Geometry) (d : Device) where
+  pub read-completed : {i : Interface} → d .port .operation ≡ 1 → i ≡ pageLoaded (d .port) → withPort i d ≡ completed g d
+  unfolding completed
+  read-completed o e = rw (eq-eqb _ _ o, e)
+
+  pub failure-completed : {i : Interface} → (d .port .operation ≡ 1 → ⊥) → (d .port .failed ≡ 0 → ⊥) → i ≡ inPhase 1 (d .port) → withPort i d ≡ completed g d
+  unfolding completed
+  failure-completed o f e = rw (ne-eqb _ _ o, ne-eqb _ _ f, e)
+
+  pub program-completed : {i : Interface} {a : List ℕ} {row : ℕ} → row ≡ rowAt (d .port) → d .port .operation ≡ 2 → d .port .failed ≡ 0 → i ≡ inPhase 1 (d .port)
+      → a ≡ put (row * pageSize g) (programmed (part (row * pageSize g) (pageSize g) (d .array)) (d .register)) (d .array)
+      → device i a (d .register) (d .history) ≡ completed g d
+  unfolding completed
+  program-completed at o f e h = rw (ap (λ (n : ℕ). eqb n 1) o, eq-eqb _ _ f, eq-eqb _ _ o, e, h, at)
+
+  pub erase-completed : {i : Interface} {a : List ℕ} {row : ℕ} (block : ℕ) → row ≡ rowAt (d .port) → block ≡ row / g .pages → d .port .operation ≡ 3 → d .port .failed ≡ 0 → i ≡ inPhase 1 (d .port)
+      → a ≡ put (block * blockSize g) (replicate (blockSize g) 255) (d .array)
+      → device i a (d .register) (set (d .history) block 0) ≡ completed g d
+  unfolding completed
+  erase-completed block at b o f e h =
+      rw (ap (λ (n : ℕ). eqb n 1) o, eq-eqb _ _ f, ap (λ (n : ℕ). eqb n 2) o, eq-eqb _ _ o, e, h, ← at, ← b)
+
+  pub none-completed : {i : Interface} → (d .port .operation ≡ 1 → ⊥) → d .port .failed ≡ 0 → (d .port .operation ≡ 2 → ⊥) → (d .port .operation ≡ 3 → ⊥) → i ≡ refused (d .port) → withPort i d ≡ completed g d
+  unfolding completed
+  none-completed o f p q e = rw (ne-eqb _ _ o, eq-eqb _ _ f, ne-eqb _ _ p, ne-eqb _ _ q, e)

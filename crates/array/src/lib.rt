@@ -3,12 +3,10 @@ use geometry::Geometry;
 use interface::Interface;
 ghost use mathlib.Core.Path.{_≡_};
 ghost use mathlib.Core.List.{List};
-ghost use Prim.Native.Nat.{ℕ, _*_, _<_};
-ghost use lib.ListN.{length, replicate};
+ghost use Prim.Native.Nat.{ℕ, _<_};
+ghost use lib.ListN.{length};
 ghost use Rattle.geometry.specs.Limits.{Valid};
 ghost use Rattle.geometry.specs.Sizes.{pageSize, blockSize, chipSize, rowCount};
-ghost use Rattle.cells.specs.Cells.{programmed, weakened, raised};
-ghost use Rattle.cells.specs.Part.{part, put};
 ghost use Rattle.interface.specs.Interface.{inPhase};
 ghost use Rattle.array.specs.Device.{device, setting, Fitting, rowAt, readStarted, programStarted, eraseStarted, pageLoaded, completed};
 
@@ -48,20 +46,6 @@ pub fn confirm_read(
     i.start(interface::READ, fates)
 }
 
-// The program's effect on the array as far as the mask goes.
-fn program_part(row: usize, g: Geometry, array: &mut [u8], data: &[u8], mask: &[u8])
-    requires { ⌜ Valid g ⌝ }
-    requires { ⌜ length (now array) ≡ chipSize g ⌝ }
-    requires { ⌜ length (now «data») ≡ pageSize g ⌝ }
-    requires { ⌜ length (now mask) ≡ blockSize g ⌝ }
-    requires { ⌜ row < rowCount g ⌝ }
-    ensures { λ _. ⌜ now (array .exit) ≡ put (row * pageSize g) (programmed (part (row * pageSize g) (pageSize g) (now (array .entry))) (weakened (now («data» .entry)) (now (mask .entry)))) (now (array .entry)) ⌝ }
-{
-    let at = geometry::row_start(g, row);
-    let end = at + geometry::page_size(g);
-    cells::program_masked(&mut array[at..end], data, mask);
-}
-
 // 10h: a page above all that were programmed since the block's erase.
 pub fn confirm_program(
     i: Interface,
@@ -96,22 +80,9 @@ pub fn confirm_program(
     if page < wide(history[block]) {
         return i.refuse();
     }
-    program_part(row, g, array, register, mask);
+    effects::program_part(row, g, array, register, mask);
     history[block] = (page + 1) as u8;
     i.start(interface::PROGRAM, fates)
-}
-
-// The erase's effect on the array as far as the mask goes. The block's part is lent on, the rest stays.
-fn erase_part(block: usize, g: Geometry, array: &mut [u8], mask: &[u8])
-    requires { ⌜ Valid g ⌝ }
-    requires { ⌜ length (now array) ≡ chipSize g ⌝ }
-    requires { ⌜ length (now mask) ≡ blockSize g ⌝ }
-    requires { ⌜ block < g .blocks ⌝ }
-    ensures { λ _. ⌜ now (array .exit) ≡ put (block * blockSize g) (raised (part (block * blockSize g) (blockSize g) (now (array .entry))) (now (mask .entry))) (now (array .entry)) ⌝ }
-{
-    let at = geometry::block_start(g, block);
-    let end = at + geometry::block_size(g);
-    cells::erase_masked(&mut array[at..end], mask);
 }
 
 // D0h: the block of the row; the row's page bits are ignored.
@@ -141,34 +112,9 @@ pub fn confirm_erase(
     let address = i.address;
     let row = interface::row_of_address(address);
     let block = geometry::block_of_row(g, row);
-    erase_part(block, g, array, mask);
+    effects::erase_part(block, g, array, mask);
     history[block] = 255;
     i.start(interface::ERASE, fates)
-}
-
-// A passed program: every bit that the data has clear is cleared.
-fn program_rest(row: usize, g: Geometry, array: &mut [u8], data: &[u8])
-    requires { ⌜ Valid g ⌝ }
-    requires { ⌜ length (now array) ≡ chipSize g ⌝ }
-    requires { ⌜ length (now «data») ≡ pageSize g ⌝ }
-    requires { ⌜ row < rowCount g ⌝ }
-    ensures { λ _. ⌜ now (array .exit) ≡ put (row * pageSize g) (programmed (part (row * pageSize g) (pageSize g) (now (array .entry))) (now («data» .entry))) (now (array .entry)) ⌝ }
-{
-    let at = geometry::row_start(g, row);
-    let end = at + geometry::page_size(g);
-    cells::program_whole(&mut array[at..end], data);
-}
-
-// A passed erase: every bit of the block is set.
-fn erase_rest(block: usize, g: Geometry, array: &mut [u8])
-    requires { ⌜ Valid g ⌝ }
-    requires { ⌜ length (now array) ≡ chipSize g ⌝ }
-    requires { ⌜ block < g .blocks ⌝ }
-    ensures { λ _. ⌜ now (array .exit) ≡ put (block * blockSize g) (replicate (blockSize g) 255) (now (array .entry)) ⌝ }
-{
-    let at = geometry::block_start(g, block);
-    let end = at + geometry::block_size(g);
-    cells::erase_whole(&mut array[at..end]);
 }
 
 fn page_loaded(mut i: Interface) -> Interface
@@ -209,12 +155,12 @@ pub fn complete(
     let address = i.address;
     let row = interface::row_of_address(address);
     if operation == interface::PROGRAM {
-        program_rest(row, g, array, register);
+        effects::program_rest(row, g, array, register);
         return shows_status(i);
     }
     if operation == interface::ERASE {
         let block = geometry::block_of_row(g, row);
-        erase_rest(block, g, array);
+        effects::erase_rest(block, g, array);
         history[block] = 0;
         return shows_status(i);
     }

@@ -3,7 +3,7 @@ use Prim.Native.Nat.{_≤_, ℕ, zero, suc, _+_, _-_, _*_, _/_, _%_, _^_, _<_}
 use mathlib.Core.Bool.{Bool, true, false, not, cond}
 use mathlib.Core.List.{List}
 use mathlib.Core.Path.{_≡_, refl, ap, _∙_}
-use native.Mathlib.Nat.{one-mul, zero-mul, pow-le-pow-right, lt-of-le-of-lt, add-comm, add-zero, mul-comm, mul-div-cancel, div-eq-of-lt, div-self, pow-suc}
+use native.Mathlib.Nat.{one-mul, zero-mul, pow-le-pow-right, lt-of-le-of-lt, add-comm, add-zero, mul-comm, mul-div-cancel, div-eq-of-lt, div-self, pow-suc, mod-eq-of-lt}
 use native.Mathlib.Numerals.{add-one}
 use lib.Pow.{pow-pos, pow-lt, pow-add}
 use native.Mathlib.Omega.{arith}
@@ -11,7 +11,7 @@ use borrow.Author.Tests.{eq-eqb, ne-eqb, eqb-true, eqb-false, ltb-true, ltb-fals
 use lib.Dec.{eqb, ltb}
 use lib.ListN.{length, getD}
 use lib.Seq.{getD-set-same, getD-set-other, set-out}
-use lib.Bits.{bitAnd, bitOr, and-mask, and-high, or-shr, or-mod, or-zero-r}
+use lib.Bits.{bitAnd, bitOr, and-le-r, and-mask, and-high, or-shr, or-mod, or-zero-r}
 use Rattle.bitmaps.specs.Bitmap.{byteOf, placeOf, bitIn, bitAt, withBit, countBits, clearFrom, neverBoth}
 
 by-test : {P : Type 0} (b : Bool) → (b ≡ true → P) → (b ≡ false → P) → P
@@ -22,11 +22,19 @@ by-test false f g = g refl
 pub power-small : (p : ℕ) → p < 8 → 2 ^ p < 256
 power-small p h = lt-of-le-of-lt (pow-le-pow-right {n = 2} (omega arith) {i = p} {j = 7} (omega arith)) (omega arith)
 
+-- a number masked
+pub masked-below : (b m k : ℕ) → m < k → bitAnd b m < k
+masked-below b m k h = lt-of-le-of-lt (and-le-r b m) h
+
 pub place-is : (b : ℕ) → bitAnd b 7 ≡ b % 8
 place-is b = and-mask b 3
 
 pub place-small : (b : ℕ) → b % 8 < 8
 place-small b = omega arith
+
+-- a bit shifted to the place of a block
+pub shifted-to-place : (b p : ℕ) → p ≡ b % 8 → 1 * 2 ^ p % 256 ≡ 2 ^ (b % 8)
+shifted-to-place b p e = rw (e, one-mul) (mod-eq-of-lt (power-small (b % 8) (place-small b)))
 
 digit : (b q : ℕ) → b < 2 → 0 < q → not (eqb (b * q) 0) ≡ eqb b 1
 digit zero q h k = rw (zero-mul q)

@@ -6,7 +6,7 @@ ghost use mathlib.Core.List.{List};
 ghost use Prim.Native.Nat.{ℕ, _<_};
 ghost use Rattle.array.specs.Device.{Setting, setting};
 ghost use Rattle.chip.specs.Chip.{Cycle};
-ghost use Rattle.bus.specs.Line.{line, mayGo, spentBus, blockedBus, send, byteOut, statusOut, newBus};
+ghost use Rattle.bus.specs.Line.{line, goesOn, mayGo, spentBus, blockedBus, send, byteOut, statusOut, newBus};
 
 pub struct Bus {
     pub interface: Interface,
@@ -171,4 +171,17 @@ pub fn status(bus: Bus, g: Geometry, array: &mut [u8], register: &[u8], history:
         bus: bus.block(),
         byte: 0,
     }
+}
+
+// Whether no cycle was cut off or answered illegal.
+pub fn goes_on(b: Bus) -> bool
+    ensures { λ r. ⌜ ((a p h : List ℕ) → r ≡ goesOn (line b a p h)) ⌝ }
+{
+    let cut = b.cut;
+    if cut != 0 {
+        return false;
+    }
+    let i = b.interface;
+    let illegal = i.illegal;
+    illegal == 0
 }

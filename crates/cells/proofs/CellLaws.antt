@@ -1,5 +1,5 @@
 -- Laws of programs and erases: lengths, bytes by index, a program done again, and that bytes stay bytes.
-use Prim.Native.Nat.{ℕ, zero, suc, _+_, _-_, _/_, _<_}
+use Prim.Native.Nat.{ℕ, zero, suc, _+_, _-_, _/_, _≤_, _<_}
 use mathlib.Core.Path.{_≡_, refl, ap, ap₂, _∙_}
 use mathlib.Core.List.{List, [], _∷_, _++_}
 use native.Mathlib.Omega.{arith}
@@ -20,6 +20,14 @@ pub length-weakened : (ds ms : List ℕ) → length (weakened ds ms) ≡ length 
 unfolding weakened
 length-weakened [] ms = refl
 length-weakened (d ∷ ds) ms = ap suc (length-weakened ds (drop 1 ms))
+
+-- the bytes of a mask behind those of the data do not matter
+pub weakened-first : (n : ℕ) (ds ms : List ℕ) → length ds ≤ n → weakened ds (take n ms) ≡ weakened ds ms
+unfolding weakened
+weakened-first n [] ms h = refl
+weakened-first zero (d ∷ ds) ms h = absurd (omega arith)
+weakened-first (suc n) (d ∷ ds) [] h = refl
+weakened-first (suc n) (d ∷ ds) (m ∷ ms) h = ap (λ (l : List ℕ). bitOr d (255 - m) ∷ l) (weakened-first n ds ms (omega arith))
 
 pub length-raised : (xs ms : List ℕ) → length (raised xs ms) ≡ length xs
 unfolding raised

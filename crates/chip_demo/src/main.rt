@@ -3,8 +3,8 @@ use bus::Bus;
 use geometry::Geometry;
 use interface::Interface;
 use libc::STDOUT_FILENO;
-use sequences::Done;
-use sequences::Outcome;
+use polling::Done;
+use polling::Outcome;
 
 fn wide(x: u8) -> u64 {
     x as u64

@@ -19,7 +19,8 @@ use Rattle.bus.specs.Line.{Line, sendAll, run, Legal, uncutLine, cutLine}
 use Rattle.bus.proofs.LineLaws.{by-test, sendAll-append, run-append, run-uncut, run-cut, cut-stays}
 use Rattle.bus.proofs.LegalLaws.{legal-run, legal-start, legal-take, legal-first}
 use Rattle.bus.proofs.StepLaws.{busyWith, one-busy, busy-reads, ready-read, status-busy}
-use Rattle.sequences.specs.Cycles.{waiting, polls, statusReads, confirmCycles, confirmedCycles}
+use Rattle.polling.specs.Polling.{waiting, polls, statusReads}
+use Rattle.sequences.specs.Cycles.{confirmCycles, confirmedCycles}
 use Rattle.operations.specs.Ends.{pollsFor}
 
 eqb-at : {p : ℕ} → p ≡ 1 → eqb p 8 ≡ false

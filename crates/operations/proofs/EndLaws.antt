@@ -14,7 +14,8 @@ use Rattle.array.specs.Device.{Device, Setting}
 use Rattle.chip.specs.Chip.{Cycle}
 use Rattle.bus.specs.Line.{Line, run, sendAll, uncutLine, Quiet}
 use Rattle.bus.proofs.LineLaws.{by-test}
-use Rattle.sequences.specs.Cycles.{confirmedCycles, outcomeOf}
+use Rattle.polling.specs.Polling.{outcomeOf}
+use Rattle.sequences.specs.Cycles.{confirmedCycles}
 use Rattle.operations.specs.Ends.{Called, End, endOf, confirmedEnd, endsAs, answered, wordFor, totalFor}
 use Rattle.operations.proofs.ConfirmLaws.{Confirmed, through, silent, early-cut, late-cut}
 

@@ -24,7 +24,8 @@ use Rattle.bus.proofs.LineLaws.{by-test, sendAll-append, run-uncut, run-cut, se
 use Rattle.bus.proofs.LegalLaws.{legal-run, legal-take}
 use Rattle.bus.proofs.QuietLaws.{quiet-run, still-take, still-address, still-out}
 use Rattle.bus.proofs.StepLaws.{atColumn, busyWith, begin-read, resume-output, five-bytes, confirm-read, one-out, data-given}
-use Rattle.sequences.specs.Cycles.{readAddress, addressCycles, rowCycles, pageRead, pageLine, readCycles, readOutcome, readOutputs, outputs, isPassed, outcomeOf, endedAs}
+use Rattle.polling.specs.Polling.{isPassed, outcomeOf, endedAs}
+use Rattle.sequences.specs.Cycles.{readAddress, addressCycles, rowCycles, pageRead, pageLine, readCycles, readOutcome, readOutputs, outputs}
 use Rattle.operations.specs.Trace.{readStarts}
 use Rattle.operations.specs.Ends.{Called, CanRead, End, endOf, endsAs, passes, confirmedEnd, readEnd, endOfRead, readTotal, totalFor, wordFor}
 use Rattle.operations.proofs.CallLaws.{uncut-is, fitting-holds, row-is, column-is, address-holds}

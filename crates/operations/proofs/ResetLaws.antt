@@ -17,7 +17,8 @@ use Rattle.bus.proofs.LineLaws.{by-test, run-uncut, run-cut}
 use Rattle.bus.proofs.LegalLaws.{legal-run, legal-take}
 use Rattle.bus.proofs.QuietLaws.{quiet-run}
 use Rattle.bus.proofs.StepLaws.{reset-command, status-ready}
-use Rattle.sequences.specs.Cycles.{resetCycles, endedAs}
+use Rattle.polling.specs.Polling.{endedAs}
+use Rattle.sequences.specs.Cycles.{resetCycles}
 use Rattle.operations.specs.Ends.{Called, resetEnd, endOfReset}
 use Rattle.operations.proofs.CallLaws.{uncut-is}
 use Rattle.operations.proofs.EndLaws.{same-end}

@@ -12,9 +12,10 @@ use Rattle.cells.specs.Part.{part, put}
 use Rattle.interface.specs.Interface.{fateWord, nextFate, busyOf, failedFor}
 use Rattle.array.specs.Device.{Setting, Device}
 use Rattle.bus.specs.Line.{Line, sendAll}
-use Rattle.sequences.specs.Cycles.{outcomeOf, endedAs, resetCycles, readCycles, readOutcome}
-use Rattle.sequences.specs.declared.Outcome.{Outcome}
-use Rattle.sequences.specs.declared.Outcome.the-variants.{Passed, Failed, Silent, Cut, Illegal}
+use Rattle.polling.specs.Polling.{outcomeOf, endedAs}
+use Rattle.sequences.specs.Cycles.{resetCycles, readCycles, readOutcome}
+use Rattle.polling.specs.declared.Outcome.{Outcome}
+use Rattle.polling.specs.declared.Outcome.the-variants.{Passed, Failed, Silent, Cut, Illegal}
 
 -- the chip as the store calls it: all lengths fit, no command under way, nothing refused or cut
 pub record Called (s : Setting) (l : Line) : Type 0 where

@@ -6,8 +6,9 @@ use Rattle.array.specs.Device.{Setting}
 use Rattle.chip.specs.Chip.{Cycle}
 use Rattle.chip.specs.Chip.Cycle.{command}
 use Rattle.bus.specs.Line.{Line, sendAll, sent, goesOn}
-use Rattle.sequences.specs.Cycles.{readAddress, programData, eraseAddress, confirmedCycles, readCycles, programCycles, eraseCycles, outcomeOf}
-use Rattle.sequences.specs.declared.Outcome.{Outcome}
+use Rattle.polling.specs.Polling.{outcomeOf}
+use Rattle.sequences.specs.Cycles.{readAddress, programData, eraseAddress, confirmedCycles, readCycles, programCycles, eraseCycles}
+use Rattle.polling.specs.declared.Outcome.{Outcome}
 
 -- kind: 1 read, 2 program, 3 erase. bytes: the data of a program. before: the array when the confirm cycle came
 pub record ArrayOperation : Type 0 where

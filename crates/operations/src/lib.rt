@@ -1,14 +1,15 @@
 // The chip's operations as cycles on the bus: reset, read, program and erase.
 use bus::Bus;
 use geometry::Geometry;
-use sequences::Done;
-use sequences::Outcome;
+use polling::Done;
+use polling::Outcome;
 ghost use mathlib.Core.Path.{_≡_};
 ghost use lib.ListN.{length};
 ghost use Rattle.cells.specs.Cells.{over};
 ghost use Rattle.array.specs.Device.{setting};
 ghost use Rattle.bus.specs.Line.{line, sendAll};
-ghost use Rattle.sequences.specs.Cycles.{resetCycles, outcomeOf, endedAs, readCycles, readOutcome, readOutputs, programCycles, eraseCycles};
+ghost use Rattle.polling.specs.Polling.{outcomeOf, endedAs};
+ghost use Rattle.sequences.specs.Cycles.{resetCycles, readCycles, readOutcome, readOutputs, programCycles, eraseCycles};
 
 // Reset: FFh, 70h, one status read.
 pub fn reset(
@@ -28,7 +29,7 @@ pub fn reset(
     let c = out.bus;
     Done {
         bus: c,
-        outcome: sequences::ended(c),
+        outcome: polling::ended(c),
     }
 }
 
@@ -49,7 +50,7 @@ pub fn erase(
     let b = bus::command(from, g, array, register, history, mask, fates, 0x60);
     let c = sequences::send_row(b, g, row);
     let d = sequences::confirm(c, g, array, register, history, mask, fates, 0xd0);
-    sequences::poll(d, g, array, register, history)
+    polling::poll(d, g, array, register, history)
 }
 
 // Program: 80h, five address bytes, the data, 10h, 70h, status reads.
@@ -71,7 +72,7 @@ pub fn program(
     let c = sequences::send_address(b, g, 0, row);
     let d = sequences::send_data(c, register, data);
     let e = sequences::confirm(d, g, array, register, history, mask, fates, 0x10);
-    sequences::poll(e, g, array, register, history)
+    polling::poll(e, g, array, register, history)
 }
 
 // Read: 00h, five address bytes, 30h, 70h, status reads, 00h, and a data output for each byte of the buffer.
@@ -94,7 +95,7 @@ pub fn read(
     let b = bus::command(from, g, array, register, history, mask, fates, 0x00);
     let c = sequences::send_address(b, g, column, row);
     let d = sequences::confirm(c, g, array, register, history, mask, fates, 0x30);
-    let loaded = sequences::poll(d, g, array, register, history);
+    let loaded = polling::poll(d, g, array, register, history);
     let e = loaded.bus;
     let outcome = loaded.outcome;
     let Outcome::Passed = outcome else {
@@ -104,6 +105,6 @@ pub fn read(
     let last = sequences::take_data(f, register, buffer);
     Done {
         bus: last,
-        outcome: sequences::ended(last),
+        outcome: polling::ended(last),
     }
 }

@@ -12,9 +12,10 @@ use Rattle.cells.specs.Part.{part}
 use Rattle.cells.proofs.PartLaws.{length-part}
 use Rattle.array.specs.Device.{Setting}
 use Rattle.bus.specs.Line.{Line, sendAll}
-use Rattle.sequences.specs.Cycles.{isPassed, readCycles, readOutcome, readOutputs}
-use Rattle.sequences.specs.declared.Outcome.{Outcome}
-use Rattle.sequences.specs.declared.Outcome.the-variants.{Passed, Failed, Silent, Cut, Illegal}
+use Rattle.polling.specs.Polling.{isPassed}
+use Rattle.sequences.specs.Cycles.{readCycles, readOutcome, readOutputs}
+use Rattle.polling.specs.declared.Outcome.{Outcome}
+use Rattle.polling.specs.declared.Outcome.the-variants.{Passed, Failed, Silent, Cut, Illegal}
 use Rattle.operations.specs.Ends.{Called, CanRead, End, endOfRead, readEnd}
 use Rattle.operations.proofs.ReadLaws.{read-ends, read-bytes, read-next}
 use Rattle.scan.specs.Progress.{Progress, readOn}

@@ -20,9 +20,10 @@ use Rattle.cells.specs.Part.{part, put}
 use Rattle.array.specs.Device.{Setting}
 use Rattle.chip.specs.Chip.{Cycle}
 use Rattle.bus.specs.Line.{Line, sendAll}
-use Rattle.sequences.specs.Cycles.{isPassed, readCycles, readOutcome, readOutputs}
-use Rattle.sequences.specs.declared.Outcome.{Outcome}
-use Rattle.sequences.specs.declared.Outcome.the-variants.{Passed}
+use Rattle.polling.specs.Polling.{isPassed}
+use Rattle.sequences.specs.Cycles.{readCycles, readOutcome, readOutputs}
+use Rattle.polling.specs.declared.Outcome.{Outcome}
+use Rattle.polling.specs.declared.Outcome.the-variants.{Passed}
 use Rattle.operations.specs.Ends.{Called, CanRead}
 use Rattle.operations.specs.Trace.{ArrayOperation}
 use Rattle.copies.specs.Blocks.{blockIn, pageIn, mainIn}

@@ -5,8 +5,9 @@ use mathlib.Core.List.{List, [], _++_}
 use Rattle.array.specs.Device.{Setting}
 use Rattle.chip.specs.Chip.{Cycle}
 use Rattle.bus.specs.Line.{Line, sendAll}
-use Rattle.sequences.specs.Cycles.{isPassed, readCycles, readOutcome}
-use Rattle.sequences.specs.declared.Outcome.{Outcome}
+use Rattle.polling.specs.Polling.{isPassed}
+use Rattle.sequences.specs.Cycles.{readCycles, readOutcome}
+use Rattle.polling.specs.declared.Outcome.{Outcome}
 use Rattle.operations.specs.Trace.{ArrayOperation, readSends, readStarts}
 
 -- cycles: those sent. started: the array operations

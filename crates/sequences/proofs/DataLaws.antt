@@ -1,13 +1,11 @@
--- Laws of lists of cycles sent one by one: data in, data out, the buffer that the data fills, and a read from ready on. Assumes nothing.
+-- Laws of lists of cycles sent one by one: data in, data out, the buffer that the data fills, a read from ready on, and an
+-- operation up to ready. Assumes nothing.
 use Prim.Native.Nat.{ℕ, zero, suc, _+_, _-_, _<_, _≤_}
 use mathlib.Core.Bool.{true, false}
 use mathlib.Core.List.{List, [], _∷_, _++_, map, append-nil}
-use mathlib.Core.Logic.{⊎-elim}
-use mathlib.Core.Path.{_≡_, refl, sym, ap, _∙_}
+use mathlib.Core.Path.{_≡_, sym, ap, _∙_}
 use native.Mathlib.Numerals.{add-one}
 use native.Mathlib.Omega.{arith}
-use denote.Enum.Declared.{tagOf}
-use types.Run.{OneOf}
 use lib.ListN.{length, take, drop, getD, set, replicate, take-append-drop, drop-of-length-le}
 use lib.Seq.{drop-cons, take-suc-set, drop-set-lt, drop-drop, append-snoc}
 use Rattle.cells.specs.Cells.{over}
@@ -16,27 +14,9 @@ use Rattle.chip.specs.Chip.{Cycle}
 use Rattle.chip.specs.Chip.Cycle.{command, dataIn, dataOut}
 use Rattle.bus.specs.Line.{Line, send, sendAll, goesOn, byteOut}
 use Rattle.bus.proofs.LineLaws.{sendAll-append, sendAll-stopped}
-use Rattle.sequences.specs.Cycles.{outputs, outcomeOf, isPassed, endedAs, pageRead, pageLine, readCycles, readOutcome, readOutputs}
-use Rattle.sequences.specs.declared.Outcome.{Outcome}
-use Rattle.sequences.specs.declared.Outcome.the-variants.{Passed, Failed, Silent, Cut, Illegal}
-use Rattle.sequences.proofs.Outcome.{the-type}
-
--- the outcome's variant, by its number
-pub passed-by-tag : (o : Outcome) → tagOf the-type o ≡ 0 → isPassed o ≡ true
-unfolding isPassed
-passed-by-tag Passed h = refl
-passed-by-tag Failed h = absurd (omega (arith, h))
-passed-by-tag Silent h = absurd (omega (arith, h))
-passed-by-tag Cut h = absurd (omega (arith, h))
-passed-by-tag Illegal h = absurd (omega (arith, h))
-
-pub other-by-tag : (o : Outcome) → OneOf (1 ∷ 2 ∷ 3 ∷ 4 ∷ []) (tagOf the-type o) → isPassed o ≡ false
-unfolding isPassed
-other-by-tag Passed h = absurd (⊎-elim (λ e. omega (arith, e)) (⊎-elim (λ e. omega (arith, e)) (⊎-elim (λ e. omega (arith, e)) (λ e. omega (arith, e)))) h)
-other-by-tag Failed h = refl
-other-by-tag Silent h = refl
-other-by-tag Cut h = refl
-other-by-tag Illegal h = refl
+use Rattle.polling.specs.Polling.{statusReads, polled, outcomeOf, isPassed, endedAs}
+use Rattle.polling.proofs.PollLaws.{polled-all}
+use Rattle.sequences.specs.Cycles.{outputs, confirmCycles, confirmedCycles, pageRead, pageLine, readCycles, readOutcome, readOutputs}
 
 module _ (s : Setting) where
   -- lists of cycles put together
@@ -121,3 +101,10 @@ module _ (s : Setting) where
       let t = rw e at h in
       let p : _ ≡ sendAll s l (pageRead s l row column ++ (command 0 ∷ replicate n dataOut)) = joined l (pageRead s l row column) (command 0 ∷ replicate n dataOut) e (onward k (command 0) (replicate n dataOut) f g) in
       (p ∙ rw t, ap endedAs p ∙ rw t, ap (outputs s n) (f ∙ ap (λ (x : Line). send s x (command 0)) e) ∙ rw t)
+
+  -- an operation with a confirm cycle, up to the status read that reports ready
+  pub confirmed-all : {m n k : Line} (l : Line) (first : List Cycle) (code : ℕ) → m ≡ sendAll s l first → n ≡ sendAll s m (confirmCycles code) → k ≡ polled s 256 n → k ≡ sendAll s l (confirmedCycles s l first code)
+  confirmed-all l first code e f h =
+      let cs = first ++ confirmCycles code in
+      h ∙ ap (polled s 256) (joined l first (confirmCycles code) e f) ∙ polled-all s 256 (sendAll s l cs)
+      ∙ sym (sendAll-append s l cs (statusReads s (sendAll s l cs .chip)))

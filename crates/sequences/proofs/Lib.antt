@@ -1,2 +1,1 @@
 pub mod DataLaws
-pub mod PollLaws

@@ -1,16 +1,15 @@
--- The cycles of each operation, as the paper lists them, and how an operation ended.
-use Prim.Native.Nat.{ℕ, zero, suc, _/_, _%_}
-use mathlib.Core.Bool.{Bool, true, false, cond}
+-- The cycles of each operation, as the paper lists them.
+use Prim.Native.Nat.{ℕ, zero, suc}
+use mathlib.Core.Bool.{cond}
 use mathlib.Core.List.{List, [], _∷_, _++_, map}
-use lib.Dec.{eqb}
 use lib.ListN.{replicate}
 use Rattle.geometry.specs.Sizes.{columnBytes, rowBytes}
-use Rattle.array.specs.Device.{Device, Setting}
-use Rattle.chip.specs.Chip.{Cycle, exec}
+use Rattle.array.specs.Device.{Setting}
+use Rattle.chip.specs.Chip.{Cycle}
 use Rattle.chip.specs.Chip.Cycle.{command, address, dataIn, dataOut, status}
 use Rattle.bus.specs.Line.{Line, send, sendAll, goesOn, byteOut}
-use Rattle.sequences.specs.declared.Outcome.{Outcome}
-use Rattle.sequences.specs.declared.Outcome.the-variants.{Passed, Failed, Silent, Cut, Illegal}
+use Rattle.polling.specs.declared.Outcome.{Outcome}
+use Rattle.polling.specs.Polling.{statusReads, outcomeOf, isPassed, endedAs}
 
 -- two column bytes and three row bytes
 abbrev pub addressCycles : ℕ → ℕ → List Cycle
@@ -39,18 +38,6 @@ eraseAddress row = command 96 ∷ rowCycles row
 abbrev pub confirmCycles : ℕ → List Cycle
 confirmCycles code = command code ∷ command 112 ∷ []
 
--- after a status read: busy still, and nothing refused
-unfoldable pub waiting : Device → Bool
-waiting d = cond (eqb (d .port .phase) 8) (eqb (d .port .illegal) 0) false
-
--- how many status reads are sent, at most n, until one reports ready
-unfoldable pub polls : Setting → ℕ → Device → ℕ
-polls s zero d = zero
-polls s (suc n) d = let more = polls s n (exec s d status) in suc (cond (waiting (exec s d status)) more zero)
-
-abbrev pub statusReads : Setting → Device → List Cycle
-statusReads s d = replicate (polls s 256 d) status
-
 -- an operation up to the status read that reports ready, from a line l: the first cycles, the confirm cycle, 70h, status reads
 abbrev pub confirmedCycles : Setting → Line → List Cycle → ℕ → List Cycle
 confirmedCycles s l first code =
@@ -61,42 +48,6 @@ programCycles s l row bytes = confirmedCycles s l (programData row bytes) 16
 
 abbrev pub eraseCycles : Setting → Line → ℕ → List Cycle
 eraseCycles s l row = confirmedCycles s l (eraseAddress row) 208
-
--- how an operation ended, read off the line it leaves
-unfoldable pub outcomeOf : Line → Outcome
-outcomeOf l =
-    cond (eqb (l .cut) 0)
-    (cond (eqb (l .chip .port .illegal) 0)
-    (cond (eqb (l .chip .port .phase) 8) Silent (cond (eqb (l .chip .port .failed) 0) Passed Failed))
-    Illegal)
-    Cut
-
-unfoldable pub isPassed : Outcome → Bool
-isPassed Passed = true
-isPassed Failed = false
-isPassed Silent = false
-isPassed Cut = false
-isPassed Illegal = false
-
--- how a run of cycles ended that asks for no status
-unfoldable pub endedAs : Line → Outcome
-endedAs l = cond (eqb (l .cut) 0) (cond (eqb (l .chip .port .illegal) 0) Passed Illegal) Cut
-
--- status bit 6, and bit 0 of a status that is ready
-unfoldable pub ready : ℕ → Bool
-ready byte = eqb (byte / 64 % 2) 1
-
-unfoldable pub judged : ℕ → Outcome
-judged byte = cond (eqb (byte % 2) 0) Passed Failed
-
--- status reads one by one: until ready, cut or refused, at most n
-unfoldable pub polled : Setting → ℕ → Line → Line
-polled s zero l = l
-polled s (suc n) l =
-    let more = polled s n (send s l status) in
-    cond (goesOn (send s l status))
-    (cond (eqb (send s l status .chip .port .phase) 8) more (send s l status))
-    (send s l status)
 
 -- a read: up to ready, and where it is ready 00h and n bytes out
 abbrev pub pageRead : Setting → Line → ℕ → ℕ → List Cycle

@@ -1,8 +1,7 @@
 -- `array::complete` meets its contract: the row and its block lie on the chip. Assumes nothing.
 use borrow.Author.Needs.{needs}
-use borrow.Author.Tests.{eq-eqb, ne-eqb}
-use Rattle.array.specs.Device.{completed}
-use Rattle.array.proofs.DeviceLaws.{block-below}
+use Rattle.array.specs.Device.{device}
+use Rattle.array.proofs.DeviceLaws.{block-below, read-completed, failure-completed, program-completed, erase-completed, none-completed}
 use Rattle.array.proofs.complete.Statement.{statement}
 use Rattle.array.proofs.complete.Tie as tie
 
@@ -10,15 +9,17 @@ page-loaded-requires : tie.Need-page-loaded-requires
 page-loaded-requires c κs = search needs
 
 returns : tie.Need-returns
-unfolding completed
-returns c = rw (c .page-loaded .ensures) (search eq-eqb)
+returns c =
+    let start = c .before .before .before .before .before .args in
+    read-completed (start .g) (device (start .i) (start .array .now) (start .register .now) (start .history .now)) (c .before .if1 .taken) (c .page-loaded .ensures)
 
 shows-status-requires : tie.Need-shows-status-requires
 shows-status-requires c κs = search needs
 
 returns-2 : tie.Need-returns-2
-unfolding completed
-returns-2 c = rw (c .shows-status .ensures) (search ne-eqb)
+returns-2 c =
+    let start = c .before .before .before .before .before .before .args in
+    failure-completed (start .g) (device (start .i) (start .array .now) (start .register .now) (start .history .now)) (c .before .before .if1 .left) (c .before .if2 .taken) (c .shows-status .ensures)
 
 row-of-address-requires : tie.Need-row-of-address-requires
 row-of-address-requires c κs = search needs
@@ -35,8 +36,9 @@ same-length : tie.Need-same-length
 same-length c = search needs
 
 returns-3 : tie.Need-returns-3
-unfolding completed
-returns-3 c = rw (c .shows-status2 .ensures, c .before .before .before .program-rest .ensures, c .before .before .before .before .before .before .row-of-address .ensures) (search (eq-eqb, ne-eqb))
+returns-3 c =
+    let start = c .before .before .before .before .before .before .before .before .before .before .before .before .args in
+    program-completed (start .g) (device (start .i) (start .array .now) (start .register .now) (start .history .now)) (c .before .before .before .before .before .before .row-of-address .ensures) (c .before .before .before .before .before .if3 .taken) (c .before .before .before .before .before .before .before .if2 .left) (c .shows-status2 .ensures) (c .before .before .before .program-rest .ensures)
 
 block-of-row-requires : tie.Need-block-of-row-requires
 block-of-row-requires c κs = search needs
@@ -61,15 +63,17 @@ same-length-3 : tie.Need-same-length-3
 same-length-3 c = search needs
 
 returns-4 : tie.Need-returns-4
-unfolding completed
-returns-4 c = rw (c .shows-status3 .ensures, c .before .before .before .erase-rest .ensures, c .before .before .before .before .before .block-of-row .ensures, c .before .before .before .before .before .before .before .before .row-of-address .ensures) (search (eq-eqb, ne-eqb))
+returns-4 c =
+    let start = c .before .before .before .before .before .before .before .before .before .before .before .before .before .before .args in
+    erase-completed (start .g) (device (start .i) (start .array .now) (start .register .now) (start .history .now)) (c .before .before .before .before .before .block-of-row .result) (c .before .before .before .before .before .before .before .before .row-of-address .ensures) (c .before .before .before .before .before .block-of-row .ensures) (c .before .before .before .before .before .before .if4 .taken) (c .before .before .before .before .before .before .before .before .before .if2 .left) (c .shows-status3 .ensures) (c .before .before .before .erase-rest .ensures)
 
 refuse-requires : tie.Need-refuse-requires
 refuse-requires c κs = search needs
 
 returns-5 : tie.Need-returns-5
-unfolding completed
-returns-5 c = rw (c .refuse .ensures) (search (eq-eqb, ne-eqb))
+returns-5 c =
+    let start = c .before .before .before .before .before .before .before .before .before .args in
+    none-completed (start .g) (device (start .i) (start .array .now) (start .register .now) (start .history .now)) (c .before .before .before .before .before .if1 .left) (c .before .before .before .before .if2 .left) (c .before .before .if3 .left) (c .before .if4 .left) (c .refuse .ensures)
 
 pub complete-spec : {M : Type 1} → statement M
 complete-spec =

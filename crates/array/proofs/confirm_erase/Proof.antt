@@ -1,8 +1,8 @@
 -- `array::confirm_erase` meets its contract: the row's block lies on the chip. Assumes nothing.
 use borrow.Author.Needs.{needs}
 use borrow.Author.Tests.{eq-eqb, ne-eqb}
-use Rattle.array.specs.Device.{eraseStarted}
-use Rattle.array.proofs.DeviceLaws.{block-below}
+use Rattle.array.specs.Device.{device, setting, eraseStarted}
+use Rattle.array.proofs.DeviceLaws.{block-below, erase-confirmed}
 use Rattle.array.proofs.confirm_erase.Statement.{statement}
 use Rattle.array.proofs.confirm_erase.Tie as tie
 
@@ -46,8 +46,9 @@ same-length-2 : tie.Need-same-length-2
 same-length-2 c = search needs
 
 returns-3 : tie.Need-returns-3
-unfolding eraseStarted
-returns-3 c = λ p. rw (c .start .ensures, c .before .before .before .erase-part .ensures, c .before .before .before .before .before .block-of-row .ensures, c .before .before .before .before .before .before .row-of-address .ensures) (search eq-eqb)
+returns-3 c = λ p.
+    let start = c .before .before .before .before .before .before .before .before .before .before .before .before .before .args in
+    erase-confirmed (setting (start .g) (start .mask .now) (start .fates .now)) (device (start .i) (start .array .now) p (start .history .now)) (c .before .before .before .before .before .before .row-of-address .ensures) (c .before .before .before .before .before .block-of-row .result) (c .before .before .before .before .before .block-of-row .ensures) (c .before .before .before .before .before .before .before .before .if1 .left) (c .before .before .before .before .before .before .before .if2 .left) (c .start .ensures) (c .before .before .before .erase-part .ensures)
 
 pub confirm-erase-spec : {M : Type 1} → statement M
 confirm-erase-spec =

@@ -2,10 +2,10 @@
 -- Assumes nothing.
 use native.Mathlib.Omega.{arith}
 use borrow.Author.Needs.{needs}
-use borrow.Author.Tests.{eq-eqb, ne-eqb, le-leb, lt-leb}
+use borrow.Author.Tests.{eq-eqb, ne-eqb, lt-leb}
 use Rattle.geometry.proofs.SizeLaws.{row-page-below}
-use Rattle.array.specs.Device.{programStarted}
-use Rattle.array.proofs.DeviceLaws.{block-below}
+use Rattle.array.specs.Device.{device, setting, programStarted}
+use Rattle.array.proofs.DeviceLaws.{block-below, program-confirmed}
 use Rattle.array.proofs.confirm_program.Statement.{statement}
 use Rattle.array.proofs.confirm_program.Tie as tie
 
@@ -87,8 +87,9 @@ same-length-2 : tie.Need-same-length-2
 same-length-2 c = search needs
 
 returns-5 : tie.Need-returns-5
-unfolding programStarted
-returns-5 c = rw (c .start .ensures, c .before .before .before .program-part .ensures, ← c .before .before .before .before .before .before .before .before .before .before .row-of-address .ensures, ← c .before .before .before .before .before .before .before .before .before .block-of-row .ensures, ← c .before .before .before .before .before .before .before .before .page-of-row .ensures, ← c .before .before .before .before .before .before .wide .ensures, ← c .before .before .before .before .before .before .before .before .before .before .before .before .page-size .ensures) (search (eq-eqb, le-leb))
+returns-5 c =
+    let start = c .before .before .before .before .before .before .before .before .before .before .before .before .before .before .before .before .before .before .before .before .args in
+    program-confirmed (setting (start .g) (start .mask .now) (start .fates .now)) (device (start .i) (start .array .now) (start .register .now) (start .history .now)) (c .before .before .before .before .before .before .before .before .before .before .row-of-address .ensures) (c .before .before .before .before .before .before .before .before .before .block-of-row .result) (c .before .before .before .before .before .before .before .before .page-of-row .result) (c .before .before .before .before .before .before .before .before .before .block-of-row .ensures) (c .before .before .before .before .before .before .before .before .page-of-row .ensures) (c .before .before .before .before .before .before .before .before .before .before .before .before .before .before .if1 .left) (c .before .before .before .before .before .before .before .before .before .before .before .before .before .if2 .left) (c .before .before .before .before .before .before .before .before .before .before .before .before .page-size .ensures) (c .before .before .before .before .before .before .before .before .before .before .before .if3 .left) (c .before .before .before .before .before .before .wide .ensures) (c .before .before .before .before .before .if4 .left) (c .start .ensures) (c .before .before .before .program-part .ensures)
 
 pub confirm-program-spec : {M : Type 1} → statement M
 confirm-program-spec =

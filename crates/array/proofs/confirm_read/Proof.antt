@@ -1,11 +1,13 @@
 -- `array::confirm_read` meets its contract: the row's bytes are copied over the register, which is as long.
 -- Assumes nothing.
+use mathlib.Core.Path.{_≡_, _∙_}
 use native.Mathlib.Omega.{arith}
 use borrow.Author.Needs.{needs}
 use borrow.Author.Tests.{eq-eqb, ne-eqb}
+use lib.ListN.{length}
 use Rattle.geometry.proofs.SizeLaws.{row-within, chip-size-most}
-use Rattle.array.specs.Device.{readStarted}
-use Rattle.array.proofs.DeviceLaws.{copied}
+use Rattle.array.specs.Device.{device, setting, readStarted}
+use Rattle.array.proofs.DeviceLaws.{copied, read-confirmed}
 use Rattle.array.proofs.confirm_read.Statement.{statement}
 use Rattle.array.proofs.confirm_read.Tie as tie
 
@@ -58,8 +60,10 @@ same-length : tie.Need-same-length
 same-length c = search needs
 
 returns-3 : tie.Need-returns-3
-unfolding readStarted
-returns-3 c = λ m h. rw (c .start .ensures, copied (c .before .before .before .before .before .before .before .row-start .result) (c .before .before .before .before .before .before .page-size .result) _ _ _ (part-copy-end (c .before .before .before .before .before .before)) (rw (c .before .before .before .before .before .before .page-size .ensures) (c .before .before .before .before .before .before .before .before .before .before .before .before .before .before .pre .1 .1 .0)) (c .before .before .before .copy .ensures), c .before .before .before .before .before .before .before .row-start .ensures, c .before .before .before .before .before .before .page-size .ensures, c .before .before .before .before .before .before .before .before .row-of-address .ensures) (search eq-eqb)
+returns-3 c = λ m h.
+    let start = c .before .before .before .before .before .before .before .before .before .before .before .before .before .before in
+    let long : length (start .args .register .now) ≡ c .before .before .before .before .before .before .page-size .result = rw (c .before .before .before .before .before .before .page-size .ensures) (start .pre .1 .1 .0) in
+    read-confirmed (setting (start .args .g) m (start .args .fates .now)) (device (start .args .i) (start .args .array .now) (start .args .register .now) h) (c .before .before .before .before .before .before .before .before .row-of-address .ensures) (c .before .before .before .before .before .before .before .before .before .before .if1 .left) (c .before .before .before .before .before .before .before .before .before .if2 .left) (c .start .ensures) (copied (c .before .before .before .before .before .before .before .row-start .result) (c .before .before .before .before .before .before .page-size .result) _ _ _ (part-copy-end (c .before .before .before .before .before .before)) long (c .before .before .before .copy .ensures) ∙ rw (c .before .before .before .before .before .before .before .row-start .ensures, c .before .before .before .before .before .before .page-size .ensures))
 
 pub confirm-read-spec : {M : Type 1} → statement M
 confirm-read-spec =

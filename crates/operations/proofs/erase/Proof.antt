@@ -2,8 +2,7 @@
 use mathlib.Core.Path.{_∙_}
 use borrow.Author.Needs.{needs}
 use Rattle.sequences.specs.Cycles.{eraseAddress}
-use Rattle.sequences.proofs.DataLaws.{onward}
-use Rattle.sequences.proofs.PollLaws.{confirmed-all}
+use Rattle.sequences.proofs.DataLaws.{onward, confirmed-all}
 use Rattle.operations.proofs.erase.Statement.{statement}
 use Rattle.operations.proofs.erase.Tie as tie
 

@@ -2,8 +2,7 @@
 use mathlib.Core.Path.{_∙_}
 use borrow.Author.Needs.{needs}
 use Rattle.sequences.specs.Cycles.{addressCycles, programData}
-use Rattle.sequences.proofs.DataLaws.{onward, joined}
-use Rattle.sequences.proofs.PollLaws.{confirmed-all}
+use Rattle.sequences.proofs.DataLaws.{onward, joined, confirmed-all}
 use Rattle.operations.proofs.program.Statement.{statement}
 use Rattle.operations.proofs.program.Tie as tie
 

@@ -5,9 +5,10 @@ use mathlib.Core.Path.{sym, ap, _∙_}
 use borrow.Author.Needs.{needs}
 use lib.ListN.{length}
 use Rattle.cells.specs.Cells.{over}
-use Rattle.sequences.specs.Cycles.{isPassed, readAddress}
-use Rattle.sequences.proofs.DataLaws.{onward, passed-by-tag, other-by-tag, read-stops, read-goes}
-use Rattle.sequences.proofs.PollLaws.{confirmed-all}
+use Rattle.polling.specs.Polling.{isPassed}
+use Rattle.sequences.specs.Cycles.{readAddress}
+use Rattle.polling.proofs.PollLaws.{passed-by-tag, other-by-tag}
+use Rattle.sequences.proofs.DataLaws.{onward, read-stops, read-goes, confirmed-all}
 use Rattle.operations.proofs.read.Statement.{statement}
 use Rattle.operations.proofs.read.Tie as tie
 

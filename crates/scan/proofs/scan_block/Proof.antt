@@ -9,7 +9,7 @@ use lib.ListN.{length}
 use Rattle.geometry.specs.Sizes.{pageSize}
 use Rattle.array.specs.Device.{setting}
 use Rattle.bus.specs.Line.{line}
-use Rattle.sequences.proofs.DataLaws.{passed-by-tag, other-by-tag}
+use Rattle.polling.proofs.PollLaws.{passed-by-tag, other-by-tag}
 use Rattle.scan.proofs.ReadOnLaws.{read-leaves, is-passed}
 use Rattle.scan.proofs.ScanLaws.{Middle, scan-begins, can-read, scan-goes, scan-stops, scan-same, ends-bits}
 use Rattle.scan.proofs.scan_block.Statement.{statement}

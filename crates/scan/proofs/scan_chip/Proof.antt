@@ -8,7 +8,7 @@ use denote.Ref.{now}
 use lib.ListN.{length}
 use Rattle.array.specs.Device.{setting}
 use Rattle.bus.specs.Line.{line}
-use Rattle.sequences.proofs.DataLaws.{passed-by-tag, other-by-tag}
+use Rattle.polling.proofs.PollLaws.{passed-by-tag, other-by-tag}
 use Rattle.found.specs.Contents.{contents}
 use Rattle.scan.proofs.ReadOnLaws.{is-passed}
 use Rattle.scan.proofs.ChipLaws.{Through, chip-begins, chip-goes, chip-stops}

@@ -1,5 +1,6 @@
 -- `bus::Bus::admits` meets its contract: the tests stand in the definition's order. Assumes nothing.
-use borrow.Author.Tests.{eq-eqb, ne-eqb, le-ltb}
+use mathlib.Core.Path.{refl}
+use borrow.Author.Tests.{eq-eqb, ne-eqb}
 use Rattle.bus.specs.Line.{mayGo}
 use Rattle.bus.proofs.Bus.admits.Statement.{statement}
 use Rattle.bus.proofs.Bus.admits.Tie as tie
@@ -14,7 +15,7 @@ returns-2 c = search (eq-eqb, ne-eqb)
 
 returns-3 : tie.Need-returns-3
 unfolding mayGo
-returns-3 c = search (eq-eqb, le-ltb)
+returns-3 c = rw (eq-eqb _ _ (c .before .before .if1 .left), eq-eqb _ _ (c .if2 .left)) refl
 
 pub admits-spec : {M : Type 1} → statement M
 admits-spec = tie.close (tie.spec returns returns-2 returns-3)

@@ -1,4 +1,4 @@
--- `sequences::poll` meets its contract: as many reads as are left, from the present line, leave what 256 leave from the first, and the chip is busy after the first of them. Assumes nothing.
+-- `polling::poll` meets its contract: as many reads as are left, from the present line, leave what 256 leave from the first, and the chip is busy after the first of them. Assumes nothing.
 use Prim.Native.Nat.{ℕ, _-_, _≤_, _<_}
 use mathlib.Core.List.{List}
 use mathlib.Core.Path.{_≡_, refl, sym, _∙_}
@@ -8,11 +8,11 @@ use borrow.Author.Tests.{not-true, not-false}
 use lib.ListN.{length}
 use Rattle.array.specs.Device.{setting}
 use Rattle.bus.specs.Line.{line}
-use Rattle.sequences.specs.Cycles.{polled, outcomeOf}
-use Rattle.sequences.specs.declared.Outcome.the-variants.{Silent}
-use Rattle.sequences.proofs.PollLaws.{poll-stops, poll-ready, poll-goes, poll-done, ended-stopped}
-use Rattle.sequences.proofs.poll.Statement.{statement}
-use Rattle.sequences.proofs.poll.Tie as tie
+use Rattle.polling.specs.Polling.{polled, outcomeOf}
+use Rattle.polling.specs.declared.Outcome.the-variants.{Silent}
+use Rattle.polling.proofs.PollLaws.{poll-stops, poll-ready, poll-goes, poll-done, ended-stopped}
+use Rattle.polling.proofs.poll.Statement.{statement}
+use Rattle.polling.proofs.poll.Tie as tie
 
 abbrev Inv-loop : tie.InvT-loop
 Inv-loop g array₀ register history₀ b₀ reads₀ array history b reads =

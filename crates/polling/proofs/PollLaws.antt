@@ -1,10 +1,12 @@
 -- Laws of status reads: what the status byte tells of the line, and which cycles a poll sends. Assumes nothing.
 use Prim.Native.Nat.{ℕ, zero, suc, _+_, _-_, _*_, _/_, _%_, _<_, _≤_}
 use mathlib.Core.Bool.{Bool, true, false, cond, not, true≢false, false≢true}
-use mathlib.Core.List.{List, [], _++_}
+use mathlib.Core.List.{List, [], _∷_}
 use mathlib.Core.Logic.{_⊎_, inl, inr, ⊎-elim}
 use mathlib.Core.Path.{_≡_, refl, sym, ap, _∙_, subst}
 use native.Mathlib.Omega.{arith}
+use denote.Enum.Declared.{tagOf}
+use types.Run.{OneOf}
 use borrow.Author.Tests.{eq-eqb, ne-eqb, eqb-true, eqb-false}
 use lib.Dec.{eqb}
 use lib.ListN.{replicate}
@@ -14,10 +16,28 @@ use Rattle.array.specs.Device.{Device, Setting, setting, completed}
 use Rattle.chip.specs.Chip.{Cycle, exec, finished, statusRead, statusShown}
 use Rattle.chip.specs.Chip.Cycle.{status}
 use Rattle.bus.specs.Line.{Line, admits, send, sendAll, statusOut, goesOn, Going}
-use Rattle.bus.proofs.LineLaws.{by-test, going, send-on, send-off, blocked-stops, sendAll-append, sendAll-stopped}
-use Rattle.sequences.specs.Cycles.{outcomeOf, endedAs, ready, judged, waiting, polls, statusReads, polled, confirmCycles, confirmedCycles}
-use Rattle.sequences.proofs.DataLaws.{joined}
-use Rattle.sequences.specs.declared.Outcome.the-variants.{Passed, Failed, Silent}
+use Rattle.bus.proofs.LineLaws.{by-test, going, send-on, send-off, blocked-stops, sendAll-stopped}
+use Rattle.polling.specs.Polling.{outcomeOf, isPassed, endedAs, ready, judged, waiting, polls, polled}
+use Rattle.polling.specs.declared.Outcome.{Outcome}
+use Rattle.polling.specs.declared.Outcome.the-variants.{Passed, Failed, Silent, Cut, Illegal}
+use Rattle.polling.proofs.Outcome.{the-type}
+
+-- the outcome's variant, by its number
+pub passed-by-tag : (o : Outcome) → tagOf the-type o ≡ 0 → isPassed o ≡ true
+unfolding isPassed
+passed-by-tag Passed h = refl
+passed-by-tag Failed h = absurd (omega (arith, h))
+passed-by-tag Silent h = absurd (omega (arith, h))
+passed-by-tag Cut h = absurd (omega (arith, h))
+passed-by-tag Illegal h = absurd (omega (arith, h))
+
+pub other-by-tag : (o : Outcome) → OneOf (1 ∷ 2 ∷ 3 ∷ 4 ∷ []) (tagOf the-type o) → isPassed o ≡ false
+unfolding isPassed
+other-by-tag Passed h = absurd (⊎-elim (λ e. omega (arith, e)) (⊎-elim (λ e. omega (arith, e)) (⊎-elim (λ e. omega (arith, e)) (λ e. omega (arith, e)))) h)
+other-by-tag Failed h = refl
+other-by-tag Silent h = refl
+other-by-tag Cut h = refl
+other-by-tag Illegal h = refl
 
 -- a chip that reports ready is in the status phase, and its fail bit is as it was
 pub record Settled (k : ℕ) (d : Device) : Type 0 where
@@ -179,13 +199,6 @@ module _ (s : Setting) where
       (λ p. polled-ends n l h p ∙ ap (λ (k : ℕ). sendAll s l (replicate k status)) (sym (rw p at (polls-on n l h)))))
       (λ h. let d = exec s (l .chip) status in
       polled-stops n l h ∙ sym (sendAll-stopped s (send s l status) (replicate (cond (waiting d) (polls s n d) zero) status) h))
-
-  -- an operation with a confirm cycle, up to the status read that reports ready
-  pub confirmed-all : {m n k : Line} (l : Line) (first : List Cycle) (code : ℕ) → m ≡ sendAll s l first → n ≡ sendAll s m (confirmCycles code) → k ≡ polled s 256 n → k ≡ sendAll s l (confirmedCycles s l first code)
-  confirmed-all l first code e f h =
-      let cs = first ++ confirmCycles code in
-      h ∙ ap (polled s 256) (joined s l first (confirmCycles code) e f) ∙ polled-all 256 (sendAll s l cs)
-      ∙ sym (sendAll-append s l cs (statusReads s (sendAll s l cs .chip)))
 
 -- a read that is ready, and one that is not, for every mask and all fates, which a status read does not ask
 module _ (g : Geometry) where

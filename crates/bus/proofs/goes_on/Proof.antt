@@ -1,8 +1,8 @@
--- `sequences::goes_on` meets its contract: the tests stand in the definition's order. Assumes nothing.
+-- `bus::goes_on` meets its contract: the tests stand in the definition's order. Assumes nothing.
 use borrow.Author.Tests.{eq-eqb, ne-eqb}
 use Rattle.bus.specs.Line.{goesOn}
-use Rattle.sequences.proofs.goes_on.Statement.{statement}
-use Rattle.sequences.proofs.goes_on.Tie as tie
+use Rattle.bus.proofs.goes_on.Statement.{statement}
+use Rattle.bus.proofs.goes_on.Tie as tie
 
 returns : tie.Need-returns
 unfolding goesOn

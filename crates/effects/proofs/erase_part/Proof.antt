@@ -1,13 +1,13 @@
--- `array::erase_part` meets its contract: the block's bytes are lent, and come back raised as far as the mask goes.
+-- `effects::erase_part` meets its contract: the block's bytes are lent, and come back raised as far as the mask goes.
 -- Assumes nothing.
 use native.Mathlib.Omega.{arith}
 use borrow.Author.Needs.{needs}
 use Rattle.geometry.proofs.SizeLaws.{block-within, chip-size-most}
 use Rattle.cells.specs.Cells.{raised}
 use Rattle.cells.proofs.CellLaws.{length-raised}
-use Rattle.array.proofs.DeviceLaws.{lent}
-use Rattle.array.proofs.erase_part.Statement.{statement}
-use Rattle.array.proofs.erase_part.Tie as tie
+use Rattle.effects.proofs.LentLaws.{lent}
+use Rattle.effects.proofs.erase_part.Statement.{statement}
+use Rattle.effects.proofs.erase_part.Tie as tie
 
 block-start-requires : tie.Need-block-start-requires
 block-start-requires c κs = search needs

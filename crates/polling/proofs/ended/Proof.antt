@@ -1,8 +1,8 @@
--- `sequences::ended` meets its contract: the tests stand in the definition's order. Assumes nothing.
+-- `polling::ended` meets its contract: the tests stand in the definition's order. Assumes nothing.
 use borrow.Author.Tests.{eq-eqb, ne-eqb}
-use Rattle.sequences.specs.Cycles.{endedAs}
-use Rattle.sequences.proofs.ended.Statement.{statement}
-use Rattle.sequences.proofs.ended.Tie as tie
+use Rattle.polling.specs.Polling.{endedAs}
+use Rattle.polling.proofs.ended.Statement.{statement}
+use Rattle.polling.proofs.ended.Tie as tie
 
 returns : tie.Need-returns
 unfolding endedAs

@@ -1,13 +1,13 @@
--- `array::erase_rest` meets its contract: the block's bytes are lent, and come back all 255. Assumes nothing.
+-- `effects::erase_rest` meets its contract: the block's bytes are lent, and come back all 255. Assumes nothing.
 use mathlib.Core.Path.{_∙_}
 use native.Mathlib.Omega.{arith}
 use lib.ListN.{length, replicate, length-replicate}
 use borrow.Author.Needs.{needs}
 use Rattle.geometry.proofs.SizeLaws.{block-within, chip-size-most}
 use Rattle.cells.proofs.PartLaws.{length-part}
-use Rattle.array.proofs.DeviceLaws.{lent}
-use Rattle.array.proofs.erase_rest.Statement.{statement}
-use Rattle.array.proofs.erase_rest.Tie as tie
+use Rattle.effects.proofs.LentLaws.{lent}
+use Rattle.effects.proofs.erase_rest.Statement.{statement}
+use Rattle.effects.proofs.erase_rest.Tie as tie
 
 block-start-requires : tie.Need-block-start-requires
 block-start-requires c κs = search needs

@@ -1,12 +1,12 @@
--- `sequences::is_ready` meets its contract: bit 6 is the remainder of the sixty-fourth part by 2. Assumes nothing.
+-- `polling::is_ready` meets its contract: bit 6 is the remainder of the sixty-fourth part by 2. Assumes nothing.
 use Prim.Native.Nat.{ℕ}
 use mathlib.Core.Bool.{not}
 use mathlib.Core.Path.{ap, _∙_}
 use lib.Dec.{eqb}
 use lib.Bits.{and-high}
-use Rattle.sequences.proofs.PollLaws.{ready-bit}
-use Rattle.sequences.proofs.is_ready.Statement.{statement}
-use Rattle.sequences.proofs.is_ready.Tie as tie
+use Rattle.polling.proofs.PollLaws.{ready-bit}
+use Rattle.polling.proofs.is_ready.Statement.{statement}
+use Rattle.polling.proofs.is_ready.Tie as tie
 
 returns : tie.Need-returns
 returns c = ap (λ (x : ℕ). not (eqb x 0)) (and-high (c .args .status) 1 6) ∙ ready-bit (c .args .status)

@@ -1,12 +1,12 @@
--- `array::program_rest` meets its contract: the row's bytes are lent, and come back programmed. Assumes nothing.
+-- `effects::program_rest` meets its contract: the row's bytes are lent, and come back programmed. Assumes nothing.
 use native.Mathlib.Omega.{arith}
 use borrow.Author.Needs.{needs}
 use Rattle.geometry.proofs.SizeLaws.{row-within, chip-size-most}
 use Rattle.cells.specs.Cells.{programmed}
 use Rattle.cells.proofs.CellLaws.{length-programmed}
-use Rattle.array.proofs.DeviceLaws.{lent}
-use Rattle.array.proofs.program_rest.Statement.{statement}
-use Rattle.array.proofs.program_rest.Tie as tie
+use Rattle.effects.proofs.LentLaws.{lent}
+use Rattle.effects.proofs.program_rest.Statement.{statement}
+use Rattle.effects.proofs.program_rest.Tie as tie
 
 row-start-requires : tie.Need-row-start-requires
 row-start-requires c κs = search needs
