@@ -17,7 +17,7 @@ pub struct Shown {
 }
 
 // Whether array, register and history have the lengths that a valid geometry asks.
-fn is_fitting(g: Geometry, array: usize, register: usize, history: usize) -> bool
+pub fn is_fitting(g: Geometry, array: usize, register: usize, history: usize) -> bool
     ensures { λ r. ⌜ r ≡ fitting g array register history ⌝ }
 {
     if geometry::is_valid(g) {

@@ -2,7 +2,9 @@
 pub mod contents;
 
 use copies::Summary;
+ghost use mathlib.Core.Bool.{cond};
 ghost use mathlib.Core.Path.{_≡_};
+ghost use lib.Dec.{eqb};
 ghost use Prim.Native.Nat.{_<_};
 ghost use Rattle.found.specs.Found.{blankFound, markNoted, aboveNoted, isNewer, tableNoted, noted};
 
@@ -109,5 +111,16 @@ impl Found {
         let marked = self.note_mark(block, summary);
         let counted = marked.note_above(block, summary);
         counted.note_table(block, summary, right, bits)
+    }
+
+    // The next number, 1 if there was no whole page.
+    pub fn next_number(self) -> u64
+        ensures { λ r. ⌜ r ≡ cond (eqb (self .above) 0) 1 (self .above) ⌝ }
+    {
+        let above = self.above;
+        if above == 0 {
+            return 1;
+        }
+        above
     }
 }

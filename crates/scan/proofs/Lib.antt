@@ -1,3 +1,4 @@
 pub mod ChipLaws
+pub mod CountLaws
 pub mod ReadOnLaws
 pub mod ScanLaws

@@ -4,9 +4,9 @@ use mathlib.Core.Bool.{cond}
 use mathlib.Core.List.{List, [], _++_}
 use Rattle.array.specs.Device.{Setting}
 use Rattle.chip.specs.Chip.{Cycle}
-use Rattle.bus.specs.Line.{Line, sendAll}
-use Rattle.polling.specs.Polling.{isPassed}
-use Rattle.sequences.specs.Cycles.{readCycles, readOutcome}
+use Rattle.bus.specs.Line.{Line, sendAll, sent}
+use Rattle.polling.specs.Polling.{isPassed, endedAs}
+use Rattle.sequences.specs.Cycles.{resetCycles, readCycles, readOutcome}
 use Rattle.polling.specs.declared.Outcome.{Outcome}
 use Rattle.operations.specs.Trace.{ArrayOperation, readSends, readStarts}
 
@@ -29,4 +29,15 @@ readOn s row column n p =
     (readOutcome s (p .line) row column n)
     (p .cycles ++ readSends s (p .line) row column n)
     (p .started ++ readStarts s (p .line) row column))
+    p
+
+-- the chip is reset
+unfoldable pub resetOn : Setting → Progress → Progress
+resetOn s p =
+    cond (isPassed (p .outcome))
+    (progress
+    (sendAll s (p .line) resetCycles)
+    (endedAs (sendAll s (p .line) resetCycles))
+    (p .cycles ++ sent s (p .line) resetCycles)
+    (p .started))
     p

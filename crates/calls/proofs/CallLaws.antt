@@ -1,0 +1,39 @@
+-- How a request is answered by the tag of the operation's outcome, and what sizes that go together mean. Assumes nothing.
+use Prim.Native.Nat.{ℕ}
+use mathlib.Core.Bool.{true, cond}
+use mathlib.Core.Path.{_≡_, refl}
+use native.Mathlib.Omega.{arith}
+use borrow.Author.Tests.{eqb-true}
+use denote.Enum.Declared.{tagOf}
+use lib.Dec.{eqb}
+use Rattle.geometry.specs.declared.Geometry.{Geometry}
+use Rattle.geometry.specs.Sizes.{blockSize}
+use Rattle.geometry.proofs.LimitLaws.{both}
+use Rattle.array.specs.Device.{fitting, Fitting}
+use Rattle.array.proofs.DeviceLaws.{fits}
+use Rattle.polling.specs.declared.Outcome.{Outcome}
+use Rattle.polling.specs.declared.Outcome.the-variants.{Passed, Failed, Silent, Cut, Illegal}
+use Rattle.polling.proofs.Outcome.{the-type}
+use Rattle.calls.specs.Call.{sized, stopAnswer}
+
+abbrev pub answerByTag : ℕ → ℕ
+answerByTag k = cond (eqb k 2) 10 (cond (eqb k 3) 11 255)
+
+pub by-tag : (o : Outcome) → answerByTag (tagOf the-type o) ≡ stopAnswer o
+unfolding stopAnswer
+by-tag Passed = refl
+by-tag Failed = refl
+by-tag Silent = refl
+by-tag Cut = refl
+by-tag Illegal = refl
+
+-- sizes that go together
+pub record Sized (g : Geometry) (a r h m : ℕ) : Type 0 where
+  pub chip-fits : Fitting g a r h
+  pub mask-long : m ≡ blockSize g
+
+pub sizes : (g : Geometry) (a r h m : ℕ) → sized g a r h m ≡ true → Sized g a r h m
+unfolding sized
+sizes g a r h m t =
+    let b = both (fitting g a r h) (eqb m (blockSize g)) t in
+    record { chip-fits = fits g a r h (b .0); mask-long = eqb-true m (blockSize g) (b .1) }
