@@ -147,6 +147,15 @@ module _ (g : Geometry) (two : 2 ≤ g .pages) (array : List ℕ) where
         greatest = λ h. ap (λ (x : ℕ). above g (blockIn g array x)) (last-next n) ∙ greatest-next n (aboveAll g array n) (foundTo g array n .last) (r .greatest) h;
       }
 
+-- where no number was found the last block is 0
+module _ (g : Geometry) (two : 2 ≤ g .pages) (array : List ℕ) where
+  pub last-none : (n : ℕ) → aboveAll g array n ≡ 0 → foundTo g array n .last ≡ 0
+  unfolding foundTo aboveAll
+  last-none zero h = refl
+  last-none (suc n) h =
+      let less : ltb (aboveAll g array n) (above g (blockIn g array n)) ≡ false = le-ltb (aboveAll g array n) (above g (blockIn g array n)) (omega (arith, h)) in
+      last-next g two array n ∙ rw less (last-none n (omega (arith, h)))
+
 -- what is known of the current table
 pub record Kept : Type 0 where
   pub tables : ℕ
@@ -266,3 +275,24 @@ module _ (g : Geometry) (two : 2 ≤ g .pages) (array : List ℕ) where
       let f = foundTo g array n in
       let same = others-keep n s f in
       table-next n (aboveNoted n s (markNoted n s f)) (subst (λ (k : Kept). Missing n k ⊎ Chosen n k) (sym same) (table-found n))
+
+-- the table kept is a block scanned
+module _ (g : Geometry) (array : List ℕ) where
+  small-arms : (b : Bool) (x y : Found) → x .table < 4096 → y .table < 4096 → cond b x y .table < 4096
+  small-arms true x y p q = p
+  small-arms false x y p q = q
+
+  pub table-small : (n : ℕ) → n ≤ 4096 → foundTo g array n .table < 4096
+  unfolding foundTo noted tableNoted aboveNoted markNoted
+  table-small zero h = omega arith
+  table-small (suc n) h =
+      let s = summaryAt g array n in
+      let f = foundTo g array n in
+      let m = markNoted n s f in
+      let a = aboveNoted n s m in
+      let less = table-small n (omega (arith, h)) in
+      let marked : m .table < 4096 = small-arms (eqb (s .marked) 0) f _ less less in
+      let counted : a .table < 4096 = small-arms (ltb (m .above) (saysAbove s)) _ m marked marked in
+      small-arms (saysComplete s) _ a
+      (small-arms (eqb (s .kind) 84) _ a (small-arms (isNewer s a) (withTable n s (rightAt g array n) (bitsAt g array n) a) a (omega (arith, h)) counted) counted)
+      counted

@@ -139,7 +139,7 @@ bitmap-long g v array long table below =
     length-part 8 (bitmapBytes (g .blocks)) (mainIn g (blockIn g array table) 0) (omega (arith, main, valid-roomy g v .room))
 
 module _ (g : Geometry) (v : Valid g) (array : List ℕ) (long : length array ≡ chipSize g) (c : Contents) (r : Told g array (g .blocks) c) (table : ℕ) (below : table < g .blocks) where
-  bit-is : (b : ℕ) → b < g .blocks → bitAt (bitsAt g array table) b ≡ lists g (blockIn g array table) b
+  pub bit-is : (b : ℕ) → b < g .blocks → bitAt (bitsAt g array table) b ≡ lists g (blockIn g array table) b
   bit-is b h = bit-put (bitmapOf (g .blocks) (mainIn g (blockIn g array table) 0)) (replicate 512 0) b (omega (arith, h, bitmap-long g v array long table below))
 
   kind-zero : (b : ℕ) → b < g .blocks → cond (eqb (getD (c .kinds) b 0) 0) false true ≡ isComplete g (blockIn g array b)

@@ -130,7 +130,7 @@ module _ (marked invalid named : List ℕ) (blocks b : ℕ) where
 set-named : (named : List ℕ) (b : ℕ) → length named ≡ 512 → b < 4096 → bitAt (withBit named b) b ≡ true
 set-named named b e h = bit-set named b (let g : byteOf b < 512 = omega arith in omega (arith, g, e))
 
-blank-clear : (b : ℕ) → b < 4096 → bitAt (replicate 512 0) b ≡ false
+pub blank-clear : (b : ℕ) → b < 4096 → bitAt (replicate 512 0) b ≡ false
 unfolding bitAt
 blank-clear b h =
     let g : byteOf b < 512 = omega arith in

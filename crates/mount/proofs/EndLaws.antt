@@ -1,0 +1,93 @@
+-- The ends of a mount: an operation that did not pass, a refusal, a mounted state; and the cycles left. Assumes nothing.
+use Prim.Native.Nat.{ℕ, _+_, _-_, _≤_}
+use mathlib.Core.Bool.{true, false}
+use mathlib.Core.List.{List, []}
+use mathlib.Core.Path.{_≡_, refl, sym, ap, ap₂, _∙_}
+use native.Mathlib.Omega.{arith}
+use borrow.Author.Tests.{eq-eqb, ne-eqb}
+use lib.ListN.{length, take, drop, replicate, length-replicate}
+use Rattle.cells.proofs.PartLaws.{length-part}
+use Rattle.geometry.specs.declared.Geometry.{Geometry}
+use Rattle.geometry.specs.Limits.{Valid}
+use Rattle.geometry.specs.Sizes.{chipSize}
+use Rattle.array.specs.Device.{Setting}
+use Rattle.bus.specs.Line.{Line}
+use Rattle.polling.specs.Polling.{isPassed}
+use Rattle.polling.specs.declared.Outcome.{Outcome}
+use Rattle.polling.specs.declared.Outcome.the-variants.{Passed}
+use Rattle.copies.specs.Current.{mountAnswer}
+use Rattle.state.specs.State.{blank}
+use Rattle.state.specs.declared.State.{State}
+use Rattle.found.specs.Contents.{Contents, contents, contentsTo}
+use Rattle.found.specs.Found.{foundTo}
+use Rattle.found.specs.declared.Found.{Found}
+use Rattle.scan.specs.Progress.{Progress, progress}
+use Rattle.scan.specs.Scan.{blocksRead}
+use Rattle.scan.proofs.CountLaws.{blocks-count}
+use Rattle.calls.specs.Call.{Result, endAt, stopAnswer}
+use Rattle.mount.specs.Mount.{mountEnd, stateAfter, mountedState, judgedBy, stateOf}
+use Rattle.mount.proofs.MountLaws.{judge-is, state-is}
+
+-- a scan leaves no more cycles than it found
+pub scan-left : (s : Setting) (l m : Line) (n : ℕ) → m ≡ blocksRead s n (progress l Passed [] []) .line → m .left ≤ l .left
+scan-left s l m n e =
+    let count = blocks-count s n (progress l Passed [] []) in
+    omega (arith, count, ap (λ (x : Line). x .left) e)
+
+-- a request that has come to line m with outcome o
+module _ (s : Setting) (n : ℕ) (p : Progress) (m : Line) (o : Outcome) (e : m ≡ p .line) (q : o ≡ p .outcome) where
+  pub stopped-end : (a : ℕ) (st : State) → isPassed o ≡ false → a ≡ stopAnswer o → st ≡ blank 2 → endAt n a st m ≡ mountEnd s n p
+  unfolding mountEnd
+  stopped-end a st f h k =
+      let stops : isPassed (p .outcome) ≡ false = sym (ap isPassed q) ∙ f in
+      let all : endAt n a st m ≡ endAt n (stopAnswer (p .outcome)) (blank 2) (p .line) = λ i. endAt n ((h ∙ ap stopAnswer q) i) (k i) (e i) in
+      rw stops all
+
+  module _ (t : isPassed o ≡ true) (a : ℕ) (h : a ≡ mountAnswer (s .geometry) (m .chip .array)) where
+    decided : endAt n (mountAnswer (s .geometry) (p .line .chip .array)) (stateAfter (s .geometry) (p .line .chip .array) (mountAnswer (s .geometry) (p .line .chip .array))) (p .line) ≡ mountEnd s n p
+    unfolding mountEnd
+    decided =
+        let goes : isPassed (p .outcome) ≡ true = sym (ap isPassed q) ∙ t in
+        rw goes
+
+    answer-is : a ≡ mountAnswer (s .geometry) (p .line .chip .array)
+    answer-is = h ∙ ap (λ (x : Line). mountAnswer (s .geometry) (x .chip .array)) e
+
+    refused-state : (a ≡ 0 → ⊥) → blank 0 ≡ stateAfter (s .geometry) (p .line .chip .array) (mountAnswer (s .geometry) (p .line .chip .array))
+    unfolding stateAfter
+    refused-state z = rw (ne-eqb (mountAnswer (s .geometry) (p .line .chip .array)) 0 (λ x. z (answer-is ∙ x)))
+
+    mounted-state-is : a ≡ 0 → mountedState (s .geometry) (m .chip .array) ≡ stateAfter (s .geometry) (p .line .chip .array) (mountAnswer (s .geometry) (p .line .chip .array))
+    unfolding stateAfter
+    mounted-state-is z =
+        rw (eq-eqb (mountAnswer (s .geometry) (p .line .chip .array)) 0 (sym answer-is ∙ z))
+        (ap (λ (x : Line). mountedState (s .geometry) (x .chip .array)) e)
+
+    pub refused-end : (st : State) → (a ≡ 0 → ⊥) → st ≡ blank 0 → endAt n a st m ≡ mountEnd s n p
+    refused-end st z k =
+        let all : endAt n a st m ≡ endAt n (mountAnswer (s .geometry) (p .line .chip .array)) (stateAfter (s .geometry) (p .line .chip .array) (mountAnswer (s .geometry) (p .line .chip .array))) (p .line) =
+        λ i. endAt n (answer-is i) ((k ∙ refused-state z) i) (e i) in
+        all ∙ decided
+
+    pub mounted-end : (st : State) → a ≡ 0 → st ≡ mountedState (s .geometry) (m .chip .array) → endAt n 0 st m ≡ mountEnd s n p
+    mounted-end st z k =
+        let all : endAt n 0 st m ≡ endAt n (mountAnswer (s .geometry) (p .line .chip .array)) (stateAfter (s .geometry) (p .line .chip .array) (mountAnswer (s .geometry) (p .line .chip .array))) (p .line) =
+        λ i. endAt n ((sym z ∙ answer-is) i) ((k ∙ mounted-state-is z) i) (e i) in
+        all ∙ decided
+
+-- what was found in a scan of the array, and the array as it is afterwards
+module _ (g : Geometry) (v : Valid g) (array after : List ℕ) (long : length array ≡ chipSize g) (same : after ≡ array) (found : Found) (c : Contents) (f : found ≡ foundTo g array (g .blocks))
+    (e : c ≡ contentsTo g array (contents (replicate 4096 0) (replicate 4096 0) (replicate 4096 0)) (g .blocks)) where
+  pub answer-found : judgedBy g found c ≡ mountAnswer g after
+  answer-found = ap₂ (judgedBy g) f e ∙ judge-is g v array long ∙ ap (mountAnswer g) (sym same)
+
+  pub state-found : mountAnswer g after ≡ 0 → stateOf g found c ≡ mountedState g after
+  state-found z =
+      ap₂ (stateOf g) f e ∙ state-is g v array long (ap (mountAnswer g) (sym same) ∙ z) ∙ ap (mountedState g) (sym same)
+
+-- the page buffer that is lent, and the buffers for what is found
+pub lent-page : (n k : ℕ) → n ≤ 4352 → n ≡ k → length (take (n - 0) (drop 0 (replicate {A = ℕ} 4352 0))) ≡ k
+lent-page n k h e = length-part 0 (n - 0) (replicate {A = ℕ} 4352 0) (omega (arith, h, length-replicate {A = ℕ} 4352 0)) ∙ omega (arith, e)
+
+pub room : (n : ℕ) → n ≤ 4096 → n ≤ length (replicate {A = ℕ} 4096 0)
+room n h = omega (arith, h, length-replicate {A = ℕ} 4096 0)

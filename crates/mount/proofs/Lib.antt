@@ -1,0 +1,4 @@
+pub mod EndLaws
+pub mod JudgeLaws
+pub mod MountLaws
+pub mod ResetLaws

@@ -1,0 +1,80 @@
+-- Mounting: a reset, a scan of the whole chip, and what the definitions on the array make of it.
+use Prim.Native.Nat.{ℕ}
+use mathlib.Core.Bool.{cond}
+use mathlib.Core.List.{List, []}
+use lib.Dec.{eqb}
+use lib.ListN.{replicate}
+use Rattle.geometry.specs.declared.Geometry.{Geometry}
+use Rattle.bitmaps.specs.Bitmap.{bitAt, neverBoth}
+use Rattle.array.specs.Device.{Device, Setting}
+use Rattle.bus.specs.Line.{Line}
+use Rattle.polling.specs.Polling.{isPassed}
+use Rattle.polling.specs.declared.Outcome.the-variants.{Passed}
+use Rattle.copies.specs.Current.{currentTable, filledLast, nextNumber, mountAnswer}
+use Rattle.copies.specs.Pick.{Pick, nothing, at, someBelow}
+use Rattle.state.specs.State.{blank}
+use Rattle.state.specs.declared.State.{State}
+use Rattle.found.specs.Contents.{Contents, clashing, mapTo, mapOf}
+use Rattle.found.specs.Found.{bitsAt, marksTo}
+use Rattle.found.specs.declared.Found.{Found}
+use Rattle.scan.specs.Progress.{Progress, progress, resetOn}
+use Rattle.scan.specs.Scan.{blocksRead}
+use Rattle.calls.specs.Call.{Result, result, sizedFor, callLine, stopAnswer, endAt}
+
+-- the block picked, 0 for none
+unfoldable pub blockOf : Pick → ℕ
+blockOf nothing = 0
+blockOf (at b) = b
+
+-- the state that a mount answered 0 gives
+unfoldable pub mountedState : Geometry → List ℕ → State
+mountedState g array =
+    record {
+      status = 1;
+      table = blockOf (currentTable g array);
+      last = blockOf (filledLast g array);
+      number = nextNumber g array;
+      marked = marksTo g array (g .blocks);
+      invalid = bitsAt g array (blockOf (currentTable g array));
+      map = mapOf g array (blockOf (currentTable g array));
+    }
+
+-- by the answer: not mounted, and 0 in all other fields, for 4 to 6
+unfoldable pub stateAfter : Geometry → List ℕ → ℕ → State
+stateAfter g array answer = cond (eqb answer 0) (mountedState g array) (blank 0)
+
+-- a reset, and every page of every block
+abbrev pub mountRun : Setting → Line → Progress
+mountRun s l = blocksRead s (s .geometry .blocks) (resetOn s (progress l Passed [] []))
+
+-- where it has come to: the definitions on the array decide, or the operation that did not pass
+unfoldable pub mountEnd : Setting → ℕ → Progress → Result
+mountEnd s n p =
+    cond (isPassed (p .outcome))
+    (endAt n (mountAnswer (s .geometry) (p .line .chip .array)) (stateAfter (s .geometry) (p .line .chip .array) (mountAnswer (s .geometry) (p .line .chip .array))) (p .line))
+    (endAt n (stopAnswer (p .outcome)) (blank 2) (p .line))
+
+-- the request: answer 1 where the sizes do not go together, with no cycle and nothing changed
+unfoldable pub mounting : Setting → Device → ℕ → State → Result
+mounting s d n state = cond (sizedFor s d) (mountEnd s n (mountRun s (callLine d n))) (result 1 state d 0)
+
+-- the same from what a scan found
+unfoldable pub judgedBy : Geometry → Found → Contents → ℕ
+judgedBy g f c =
+    cond (eqb (f .tables) 0) 4
+    (cond (eqb (f .right) 0) 5
+    (cond (neverBoth (f .marked) (f .bits) (g .blocks))
+    (cond (bitAt (f .bits) (f .table)) 5 (cond (someBelow (clashing c (f .bits) (g .logical)) (g .blocks)) 6 0))
+    5))
+
+abbrev pub stateOf : Geometry → Found → Contents → State
+stateOf g f c =
+    record {
+      status = 1;
+      table = f .table;
+      last = f .last;
+      number = cond (eqb (f .above) 0) 1 (f .above);
+      marked = f .marked;
+      invalid = f .bits;
+      map = mapTo c (f .bits) (g .blocks) (g .logical) (replicate 4096 65535) (g .blocks);
+    }

@@ -1,0 +1,170 @@
+// Mounting: a reset, a scan of the whole chip, and the state that it gives. Nothing on the chip changes.
+use bus::Bus;
+use calls::Returned;
+use found::Found;
+use geometry::Geometry;
+use interface::Interface;
+use polling::Outcome;
+use state::State;
+ghost use mathlib.Core.List.{List};
+ghost use mathlib.Core.Path.{_≡_};
+ghost use Prim.Native.Nat.{_<_, _≤_};
+ghost use Rattle.geometry.specs.Limits.{Valid};
+ghost use Rattle.array.specs.Device.{device, setting};
+ghost use Rattle.chip.specs.Chip.{Cycle};
+ghost use Rattle.bus.specs.Line.{line};
+ghost use Rattle.polling.specs.declared.Outcome.the-variants.{Passed};
+ghost use Rattle.operations.specs.Ends.{Called};
+ghost use Rattle.operations.specs.Trace.{ArrayOperation};
+ghost use Rattle.scan.specs.Progress.{progress};
+ghost use Rattle.scan.specs.Scan.{blocksRead};
+ghost use Rattle.found.specs.Contents.{contents};
+ghost use Rattle.calls.specs.Call.{result};
+ghost use Rattle.mount.specs.Mount.{mountEnd, mounting, judgedBy, stateOf};
+
+// The answer from what was found: 4 no table, 5 wrong table, 6 clash, or 0.
+fn judge(
+    found: Found,
+    g: Geometry,
+    kinds: &[usize; 4096],
+    logicals: &[usize; 4096],
+    numbers: &[u64; 4096],
+) -> usize
+    requires { ⌜ Valid g ⌝ }
+    requires { ⌜ found .table < 4096 ⌝ }
+    ensures { λ r. ⌜ r ≡ judgedBy g found (contents (now (kinds .entry)) (now (logicals .entry)) (now (numbers .entry))) ⌝ }
+{
+    let tables = found.tables;
+    if tables == 0 {
+        return 4;
+    }
+    let right = found.right;
+    if right == 0 {
+        return 5;
+    }
+    let bits = found.bits;
+    let marked = found.marked;
+    if !bitmaps::is_never_both(&marked, &bits, g.blocks) {
+        return 5;
+    }
+    if bitmaps::is_set(&bits, found.table) {
+        return 5;
+    }
+    if found::contents::is_clash(kinds, logicals, numbers, &bits, g.logical, g.blocks) {
+        return 6;
+    }
+    0
+}
+
+// The mounted state from what was found.
+fn mounted_state(
+    found: Found,
+    g: Geometry,
+    kinds: &[usize; 4096],
+    logicals: &[usize; 4096],
+    numbers: &[u64; 4096],
+) -> State
+    requires { ⌜ Valid g ⌝ }
+    ensures { λ r. ⌜ r ≡ stateOf g found (contents (now (kinds .entry)) (now (logicals .entry)) (now (numbers .entry))) ⌝ }
+{
+    let bits = found.bits;
+    let marked = found.marked;
+    let mut map = [65535u16; 4096];
+    found::contents::map_copies(
+        kinds,
+        logicals,
+        numbers,
+        &bits,
+        g.blocks,
+        g.logical,
+        &mut map,
+    );
+    State {
+        status: 1,
+        table: found.table,
+        last: found.last,
+        number: found.next_number(),
+        marked,
+        invalid: bits,
+        map,
+    }
+}
+
+// The scan, once the chip is reset, and its end.
+fn scan_and_judge(
+    from: Bus,
+    g: Geometry,
+    array: &mut [u8],
+    register: &mut [u8],
+    history: &mut [u8],
+    mask: &[u8],
+    fates: &[u32],
+    allowed: u32,
+) -> Returned
+    requires { ⌜ Called (setting g (now mask) (now fates)) (line from (now array) (now register) (now history)) ⌝ }
+    requires { ⌜ from .left ≤ allowed ⌝ }
+    ensures { λ r. ⌜ ((cs : List Cycle) (os : List ArrayOperation) → result (r .answer) (r .state) (device (r .interface) (now (array .exit)) (now (register .exit)) (now (history .exit))) (r .sent) ≡ mountEnd (setting g (now (mask .entry)) (now (fates .entry))) allowed (blocksRead (setting g (now (mask .entry)) (now (fates .entry))) (g .blocks) (progress (line from (now (array .entry)) (now (register .entry)) (now (history .entry))) Passed cs os))) ⌝ }
+{
+    let mut page = [0u8; 4352];
+    let mut kinds = [0usize; 4096];
+    let mut logicals = [0usize; 4096];
+    let mut numbers = [0u64; 4096];
+    let size = geometry::page_size(g);
+    let scanned = scan::scan_chip(
+        from,
+        g,
+        array,
+        register,
+        history,
+        mask,
+        fates,
+        &mut page[0..size],
+        &mut kinds,
+        &mut logicals,
+        &mut numbers,
+    );
+    let b = scanned.bus;
+    let outcome = scanned.outcome;
+    let Outcome::Passed = outcome else {
+        return calls::end(calls::stop_answer(outcome), State::blank(2), b, allowed);
+    };
+    let found = scanned.found;
+    let answer = judge(found, g, &kinds, &logicals, &numbers);
+    if answer != 0 {
+        return calls::end(answer, State::blank(0), b, allowed);
+    }
+    let state = mounted_state(found, g, &kinds, &logicals, &numbers);
+    calls::end(0, state, b, allowed)
+}
+
+// The request, on any state, chip, mask, fate words and allowance.
+pub fn mount(
+    state: State,
+    g: Geometry,
+    interface: Interface,
+    array: &mut [u8],
+    register: &mut [u8],
+    history: &mut [u8],
+    mask: &[u8],
+    fates: &[u32],
+    allowed: u32,
+) -> Returned
+    ensures { λ r. ⌜ result (r .answer) (r .state) (device (r .interface) (now (array .exit)) (now (register .exit)) (now (history .exit))) (r .sent) ≡ mounting (setting g (now (mask .entry)) (now (fates .entry))) (device interface (now (array .entry)) (now (register .entry)) (now (history .entry))) allowed state ⌝ }
+{
+    if !calls::is_sized(g, array.len(), register.len(), history.len(), mask.len()) {
+        return Returned {
+            answer: 1,
+            state,
+            interface,
+            sent: 0,
+        };
+    }
+    let start = calls::begin(interface, allowed);
+    let done = operations::reset(start, g, array, register, history, mask, fates);
+    let b = done.bus;
+    let outcome = done.outcome;
+    let Outcome::Passed = outcome else {
+        return calls::end(calls::stop_answer(outcome), State::blank(2), b, allowed);
+    };
+    scan_and_judge(b, g, array, register, history, mask, fates, allowed)
+}
