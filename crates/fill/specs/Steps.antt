@@ -1,0 +1,38 @@
+-- Erases and programs as steps of a request.
+use Prim.Native.Nat.{ℕ}
+use mathlib.Core.Bool.{cond}
+use mathlib.Core.List.{List, _++_}
+use Rattle.geometry.specs.Sizes.{rowOf}
+use Rattle.array.specs.Device.{Setting}
+use Rattle.bus.specs.Line.{sendAll}
+use Rattle.polling.specs.Polling.{isPassed, outcomeOf}
+use Rattle.polling.specs.declared.Outcome.the-variants.{Passed}
+use Rattle.sequences.specs.Cycles.{eraseCycles, programCycles}
+use Rattle.operations.specs.Trace.{eraseSends, eraseStarts, programSends, programStarts}
+use Rattle.scan.specs.Progress.{Progress, progress}
+
+-- a block is erased, if all before it passed
+unfoldable pub eraseOn : Setting → ℕ → Progress → Progress
+eraseOn s block p =
+    cond (isPassed (p .outcome))
+    (progress
+    (sendAll s (p .line) (eraseCycles s (p .line) (rowOf (s .geometry) block 0)))
+    (outcomeOf (sendAll s (p .line) (eraseCycles s (p .line) (rowOf (s .geometry) block 0))))
+    (p .cycles ++ eraseSends s (p .line) (rowOf (s .geometry) block 0))
+    (p .started ++ eraseStarts s (p .line) (rowOf (s .geometry) block 0)))
+    p
+
+-- a page is programmed, if all before it passed
+unfoldable pub programOn : Setting → ℕ → ℕ → List ℕ → Progress → Progress
+programOn s block page bytes p =
+    cond (isPassed (p .outcome))
+    (progress
+    (sendAll s (p .line) (programCycles s (p .line) (rowOf (s .geometry) block page) bytes))
+    (outcomeOf (sendAll s (p .line) (programCycles s (p .line) (rowOf (s .geometry) block page) bytes)))
+    (p .cycles ++ programSends s (p .line) (rowOf (s .geometry) block page) bytes)
+    (p .started ++ programStarts s (p .line) (rowOf (s .geometry) block page) bytes))
+    p
+
+-- the request goes on after an operation that failed
+abbrev pub resumed : Progress → Progress
+resumed p = progress (p .line) Passed (p .cycles) (p .started)
