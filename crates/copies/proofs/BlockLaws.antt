@@ -178,6 +178,11 @@ module _ (g : Geometry) (block : List ℕ) where
   above-after : (n : ℕ) → saysAbove (summed g block (suc (suc n))) ≡ cond (isMarked g block) 0 (aboveTo g block (suc (suc n)))
   above-after n = rw (marks n, sums (suc n) .above-is) (marked-arms (isMarked g block) (aboveTo g block (suc (suc n))))
 
+  -- of all pages, whatever the marks
+  pub summed-above : 2 ≤ g .pages → summed g block (g .pages) .above ≡ aboveTo g block (g .pages)
+  summed-above h =
+      subst (λ (k : ℕ). summed g block k .above ≡ aboveTo g block k) (more-than-one (g .pages) h) (sums (suc (g .pages - 2)) .above-is)
+
   -- a summary of all pages says what the definitions say
   pub says-complete : 2 ≤ g .pages → saysComplete (summed g block (g .pages)) ≡ isComplete g block
   unfolding isComplete

@@ -1,0 +1,200 @@
+-- The first round of erases on its way: one block after the other. Assumes nothing.
+use Prim.Native.Nat.{ℕ, zero, suc, _+_, _-_, _≤_, _<_, max}
+use mathlib.Core.Bool.{Bool, true, false, cond, false≢true}
+use mathlib.Core.List.{List, [], _∷_}
+use mathlib.Core.Logic.{⊎-elim}
+use mathlib.Core.Path.{_≡_, refl, sym, ap, subst, _∙_}
+use native.Mathlib.Nat.{zero-add}
+use native.Mathlib.Numerals.{add-one}
+use native.Mathlib.Omega.{arith}
+use denote.Enum.Declared.{tagOf}
+use lib.Dec.{eqb}
+use types.Run.{OneOf}
+use lib.ListN.{replicate}
+use Rattle.geometry.specs.Sizes.{rowOf}
+use Rattle.bitmaps.specs.Bitmap.{bitAt, withBit}
+use Rattle.array.specs.Device.{Setting}
+use Rattle.chip.specs.Chip.{Cycle}
+use Rattle.bus.specs.Line.{Line, sendAll}
+use Rattle.polling.specs.Polling.{isPassed, outcomeOf}
+use Rattle.polling.specs.declared.Outcome.{Outcome}
+use Rattle.polling.specs.declared.Outcome.the-variants.{Passed, Failed, Silent, Cut, Illegal}
+use Rattle.polling.proofs.Outcome.{the-type}
+use Rattle.sequences.specs.Cycles.{eraseCycles}
+use Rattle.operations.specs.Ends.{Called, CanErase, answered}
+use Rattle.operations.specs.Trace.{ArrayOperation}
+use Rattle.copies.specs.Blocks.{blockIn, aboveTo}
+use Rattle.scan.specs.Progress.{Progress, progress}
+use Rattle.scan.specs.Scan.{pagesRead}
+use Rattle.scan.proofs.ReadOnLaws.{is-passed}
+use Rattle.fill.specs.Steps.{eraseOn, resumed}
+use Rattle.fill.proofs.StepLaws.{passed-answered, erase-called, erase-on-line, erase-on-outcome}
+use Rattle.format.specs.Format.{isFailed, afterErase, blockErased, failedAt, aboveAt, Round, erasedTo, BlockDone, RoundDone}
+
+-- the outcome's variant, by its number
+pub failed-by-tag : (o : Outcome) → tagOf the-type o ≡ 1 → isFailed o ≡ true
+unfolding isFailed
+failed-by-tag Passed h = absurd (omega (arith, h))
+failed-by-tag Failed h = refl
+failed-by-tag Silent h = absurd (omega (arith, h))
+failed-by-tag Cut h = absurd (omega (arith, h))
+failed-by-tag Illegal h = absurd (omega (arith, h))
+
+pub unfailed-by-tag : (o : Outcome) → OneOf (0 ∷ 2 ∷ 3 ∷ 4 ∷ []) (tagOf the-type o) → isFailed o ≡ false
+unfolding isFailed
+unfailed-by-tag Passed h = refl
+unfailed-by-tag Failed h = absurd (⊎-elim (λ e. omega (arith, e)) (⊎-elim (λ e. omega (arith, e)) (⊎-elim (λ e. omega (arith, e)) (λ e. omega (arith, e)))) h)
+unfailed-by-tag Silent h = refl
+unfailed-by-tag Cut h = refl
+unfailed-by-tag Illegal h = refl
+
+failed-answered : (o : Outcome) → isFailed o ≡ true → answered o ≡ true
+unfolding isFailed answered
+failed-answered Passed t = absurd (false≢true t)
+failed-answered Failed t = refl
+failed-answered Silent t = absurd (false≢true t)
+failed-answered Cut t = absurd (false≢true t)
+failed-answered Illegal t = absurd (false≢true t)
+
+-- a block with a factory mark
+pub block-marked : (s : Setting) (marked : List ℕ) (l : Line) (block : ℕ) → bitAt marked block ≡ true → Called s l → BlockDone s marked l l Passed block 0 0
+unfolding isPassed blockErased failedAt aboveAt
+block-marked s marked l block t called =
+    record {
+      line-is = λ cs os. rw t;
+      outcome-is = λ cs os. rw t;
+      next = λ p. called;
+      failed-is = λ p cs os. rw t;
+      above-is = λ p cs os. rw t;
+    }
+
+-- a block whose erase leaves line m and outcome o
+module _ (s : Setting) (marked : List ℕ) (l : Line) (block : ℕ) (clear : bitAt marked block ≡ false) (can : CanErase s l block) (m : Line) (o : Outcome) (e : m ≡ sendAll s l (eraseCycles s l (rowOf (s .geometry) block 0))) (q : o ≡ outcomeOf m) where
+  line-on : (cs : List Cycle) (os : List ArrayOperation) → m ≡ eraseOn s block (progress l Passed cs os) .line
+  unfolding isPassed
+  line-on cs os = e ∙ sym (erase-on-line s block (progress l Passed cs os) l refl refl)
+
+  outcome-on : (cs : List Cycle) (os : List ArrayOperation) → o ≡ eraseOn s block (progress l Passed cs os) .outcome
+  unfolding isPassed
+  outcome-on cs os = q ∙ ap outcomeOf e ∙ sym (erase-on-outcome s block (progress l Passed cs os) l refl refl)
+
+  pub failed-called : isFailed o ≡ true → Called s m
+  failed-called t = erase-called s l block can m o e q (failed-answered o t)
+
+  -- it did not fail
+  pub block-unfailed : isFailed o ≡ false → BlockDone s marked l m o block 0 0
+  unfolding isPassed blockErased afterErase failedAt aboveAt
+  block-unfailed f =
+      let no : (cs : List Cycle) (os : List ArrayOperation) → isFailed (eraseOn s block (progress l Passed cs os) .outcome) ≡ false = λ cs os. sym (ap isFailed (outcome-on cs os)) ∙ f in
+      record {
+        line-is = λ cs os. line-on cs os ∙ rw (clear, no cs os);
+        outcome-is = λ cs os. outcome-on cs os ∙ rw (clear, no cs os);
+        next = λ t. erase-called s l block can m o e q (passed-answered o t);
+        failed-is = λ t cs os. rw (clear, no cs os);
+        above-is = λ t cs os. rw (clear, no cs os);
+      }
+
+  -- it failed, and the scan of the block leaves line m' and outcome o'
+  pub block-failed : isFailed o ≡ true → (m' : Line) (o' : Outcome) (above : ℕ)
+      → ((cs : List Cycle) (os : List ArrayOperation) → m' ≡ pagesRead s block (s .geometry .pages) (progress m Passed cs os) .line)
+      → ((cs : List Cycle) (os : List ArrayOperation) → o' ≡ pagesRead s block (s .geometry .pages) (progress m Passed cs os) .outcome)
+      → (isPassed o' ≡ true → Called s m') → (isPassed o' ≡ true → above ≡ aboveTo (s .geometry) (blockIn (s .geometry) (m .chip .array) block) (s .geometry .pages))
+      → BlockDone s marked l m' o' block 1 above
+  unfolding isPassed blockErased afterErase failedAt aboveAt
+  block-failed f m' o' above f₁ f₂ next f₃ =
+      let yes : (cs : List Cycle) (os : List ArrayOperation) → isFailed (eraseOn s block (progress l Passed cs os) .outcome) ≡ true = λ cs os. sym (ap isFailed (outcome-on cs os)) ∙ f in
+      let same : (cs : List Cycle) (os : List ArrayOperation) → progress m Passed (eraseOn s block (progress l Passed cs os) .cycles) (eraseOn s block (progress l Passed cs os) .started) ≡ resumed (eraseOn s block (progress l Passed cs os)) =
+      λ cs os. ap (λ (x : Line). progress x Passed (eraseOn s block (progress l Passed cs os) .cycles) (eraseOn s block (progress l Passed cs os) .started)) (line-on cs os) in
+      record {
+        line-is = λ cs os. f₁ _ _ ∙ ap (λ (x : Progress). pagesRead s block (s .geometry .pages) x .line) (same cs os) ∙ rw (clear, yes cs os);
+        outcome-is = λ cs os. f₂ _ _ ∙ ap (λ (x : Progress). pagesRead s block (s .geometry .pages) x .outcome) (same cs os) ∙ rw (clear, yes cs os);
+        next = next;
+        failed-is = λ t cs os. rw (clear, yes cs os);
+        above-is = λ t cs os. f₃ t ∙ ap (λ (x : Line). aboveTo (s .geometry) (blockIn (s .geometry) (x .chip .array) block) (s .geometry .pages)) (line-on cs os) ∙ rw (clear, yes cs os);
+      }
+
+-- a request at line m that goes on
+same-progress : (p : Progress) (m : Line) → m ≡ p .line → Passed ≡ p .outcome → progress m Passed (p .cycles) (p .started) ≡ p
+same-progress p m e q = λ i. record { line = e i; outcome = q i; cycles = p .cycles; started = p .started }
+
+-- once a block has not passed nothing more is sent
+block-stopped : (s : Setting) (marked : List ℕ) (b : ℕ) (p : Progress) → isPassed (p .outcome) ≡ false → blockErased s marked b p ≡ p
+unfolding blockErased
+block-stopped s marked b p f = rw f
+
+pub round-stopped : (s : Setting) (marked : List ℕ) (n : ℕ) (p : Progress) → isPassed (erasedTo s marked n p .progress .outcome) ≡ false → (k : ℕ) → erasedTo s marked (k + n) p .progress ≡ erasedTo s marked n p .progress
+unfolding erasedTo
+round-stopped s marked n p f zero = ap (λ (x : ℕ). erasedTo s marked x p .progress) (zero-add n)
+round-stopped s marked n p f (suc k) =
+    let less = round-stopped s marked n p f k in
+    let at : suc k + n ≡ suc (k + n) = omega arith in
+    ap (λ (x : ℕ). erasedTo s marked x p .progress) at
+    ∙ block-stopped s marked (k + n) (erasedTo s marked (k + n) p .progress) (ap (λ (x : Progress). isPassed (x .outcome)) less ∙ f)
+    ∙ less
+
+-- after the first n blocks
+pub record Rounding (s : Setting) (marked : List ℕ) (l m : Line) (n : ℕ) (invalid : List ℕ) (above : ℕ) : Type 0 where
+  pub reached : (cs : List Cycle) (os : List ArrayOperation) → m ≡ erasedTo s marked n (progress l Passed cs os) .progress .line
+  pub passing : (cs : List Cycle) (os : List ArrayOperation) → Passed ≡ erasedTo s marked n (progress l Passed cs os) .progress .outcome
+  pub called : Called s m
+  pub invalid-is : (cs : List Cycle) (os : List ArrayOperation) → invalid ≡ erasedTo s marked n (progress l Passed cs os) .invalid
+  pub above-is : (cs : List Cycle) (os : List ArrayOperation) → above ≡ erasedTo s marked n (progress l Passed cs os) .above
+
+pub round-begins : (s : Setting) (marked : List ℕ) (l : Line) → Called s l → Rounding s marked l l 0 (replicate 512 0) 0
+unfolding erasedTo
+round-begins s marked l called =
+    record { reached = λ cs os. refl; passing = λ cs os. refl; called = called; invalid-is = λ cs os. refl; above-is = λ cs os. refl }
+
+module _ (s : Setting) (marked : List ℕ) (l m : Line) (n : ℕ) (invalid : List ℕ) (above : ℕ) (below : n < s .geometry .blocks) (r : Rounding s marked l m n invalid above)
+    (m' : Line) (o : Outcome) (failed more : ℕ) (d : BlockDone s marked m m' o n failed more) where
+  at : (cs : List Cycle) (os : List ArrayOperation) → progress m Passed (erasedTo s marked n (progress l Passed cs os) .progress .cycles) (erasedTo s marked n (progress l Passed cs os) .progress .started) ≡ erasedTo s marked n (progress l Passed cs os) .progress
+  at cs os = same-progress (erasedTo s marked n (progress l Passed cs os) .progress) m (r .reached cs os) (r .passing cs os)
+
+  line-next : (cs : List Cycle) (os : List ArrayOperation) → m' ≡ erasedTo s marked (suc n) (progress l Passed cs os) .progress .line
+  unfolding erasedTo
+  line-next cs os = d .line-is _ _ ∙ ap (λ (x : Progress). blockErased s marked n x .line) (at cs os)
+
+  outcome-next : (cs : List Cycle) (os : List ArrayOperation) → o ≡ erasedTo s marked (suc n) (progress l Passed cs os) .progress .outcome
+  unfolding erasedTo
+  outcome-next cs os = d .outcome-is _ _ ∙ ap (λ (x : Progress). blockErased s marked n x .outcome) (at cs os)
+
+  -- block n stops the round: silent or cut
+  pub round-stops : isPassed o ≡ false → (any : List ℕ) (some : ℕ) → RoundDone s marked l m' o any some
+  round-stops f any some =
+      let k : s .geometry .blocks - suc n + suc n ≡ s .geometry .blocks = omega arith in
+      let all : (cs : List Cycle) (os : List ArrayOperation) → erasedTo s marked (s .geometry .blocks) (progress l Passed cs os) .progress ≡ erasedTo s marked (suc n) (progress l Passed cs os) .progress =
+      λ cs os. ap (λ (x : ℕ). erasedTo s marked x (progress l Passed cs os) .progress) (sym k) ∙ round-stopped s marked (suc n) (progress l Passed cs os) (sym (ap isPassed (outcome-next cs os)) ∙ f) (s .geometry .blocks - suc n) in
+      record {
+        line-is = λ cs os. line-next cs os ∙ sym (ap (λ (x : Progress). x .line) (all cs os));
+        outcome-is = λ cs os. outcome-next cs os ∙ sym (ap (λ (x : Progress). x .outcome) (all cs os));
+        next = λ t. absurd (false≢true (sym f ∙ t));
+        invalid-is = λ t. absurd (false≢true (sym f ∙ t));
+        above-is = λ t. absurd (false≢true (sym f ∙ t));
+      }
+
+  flag : (b : Bool) (x y : List ℕ) → cond (eqb (cond b 1 0) 0) x y ≡ cond b y x
+  flag true x y = refl
+  flag false x y = refl
+
+  pub round-goes : isPassed o ≡ true → {next : List ℕ} {most : ℕ} → next ≡ cond (eqb failed 0) invalid (withBit invalid n) → most ≡ max above more → Rounding s marked l m' (n + 1) next most
+  unfolding erasedTo
+  round-goes t {next} {most} f h =
+      subst (λ (k : ℕ). Rounding s marked l m' k next most) (sym (add-one n))
+      (record {
+        reached = line-next;
+        passing = λ cs os. sym (is-passed o t) ∙ outcome-next cs os;
+        called = d .next t;
+        invalid-is = λ cs os.
+            let p = erasedTo s marked n (progress l Passed cs os) .progress in
+            let flag-is : failed ≡ cond (failedAt s marked n p) 1 0 = d .failed-is t _ _ ∙ ap (λ (x : Progress). cond (failedAt s marked n x) 1 0) (at cs os) in
+            f ∙ rw (flag-is, r .invalid-is cs os) (flag (failedAt s marked n p) _ _);
+        above-is = λ cs os.
+            let p = erasedTo s marked n (progress l Passed cs os) .progress in
+            let more-is : more ≡ aboveAt s marked n p = d .above-is t _ _ ∙ ap (aboveAt s marked n) (at cs os) in
+            h ∙ rw (more-is, r .above-is cs os);
+      })
+
+pub round-ends : (s : Setting) (marked : List ℕ) (l m : Line) (n : ℕ) (invalid : List ℕ) (above : ℕ) → n ≡ s .geometry .blocks → Rounding s marked l m n invalid above → RoundDone s marked l m Passed invalid above
+round-ends s marked l m n invalid above e r₀ =
+    let r = subst (λ (k : ℕ). Rounding s marked l m k invalid above) e r₀ in
+    record { line-is = r .reached; outcome-is = r .passing; next = λ t. r .called; invalid-is = λ t. r .invalid-is; above-is = λ t. r .above-is }

@@ -1,0 +1,117 @@
+-- `format::erase_all` meets its contract: after each block the round is on its way as RoundLaws tells. Assumes nothing.
+use Prim.Native.Nat.{ℕ, _-_, _≤_}
+use mathlib.Core.Path.{_≡_, refl, sym, _∙_}
+use native.Mathlib.Omega.{arith}
+use borrow.Author.Needs.{needs}
+use denote.Ref.{now}
+use lib.ListN.{length}
+use Rattle.array.specs.Device.{setting}
+use Rattle.bus.specs.Line.{line}
+use Rattle.polling.proofs.PollLaws.{passed-by-tag, other-by-tag}
+use Rattle.format.proofs.RoundLaws.{Rounding, round-begins, round-stops, round-goes, round-ends}
+use Rattle.format.proofs.erase_all.Statement.{statement}
+use Rattle.format.proofs.erase_all.Tie as tie
+
+abbrev Inv-loop : tie.InvT-loop
+Inv-loop g array₀ register₀ history₀ mask fates marked page₀ b₀ invalid₀ above₀ block₀ blocks array register history page b invalid above block =
+    (block ≤ g .blocks) × (length array ≡ length array₀) × (length register ≡ length register₀) × (length history ≡ length history₀) × (length page ≡ length page₀)
+    × Rounding (setting g mask fates) marked (line b₀ array₀ register₀ history₀) (line b array register history) block invalid above
+
+abbrev μ-loop : tie.MeasureT-loop
+μ-loop g array₀ register₀ history₀ mask fates marked page₀ b₀ invalid₀ above₀ block₀ blocks array register history page b invalid above block =
+    g .blocks - block
+
+loop-holds : tie.Need-loop-holds Inv-loop μ-loop
+loop-holds c =
+    let s = c .before .before .before .before .before .before in
+    (omega arith, refl, refl, refl, refl, round-begins (setting (s .args .g) (now (s .args .mask)) (now (s .args .fates))) (now (s .args .marked)) (line (s .args .from) (now (s .args .array)) (now (s .args .register)) (now (s .args .history))) (s .pre .0))
+
+erase-block-requires : tie.Need-erase-block-requires Inv-loop μ-loop
+erase-block-requires c κs = (c .before .before .before .before .before .loop .inv .5 .called, (c .before .before .before .before .loop-test .taken, c .before .before .before .before .before .loop .inv .4 ∙ c .before .before .before .before .before .before .before .before .before .before .before .before .pre .1))
+
+enum-told : tie.Need-enum-told Inv-loop μ-loop
+enum-told c = search needs
+
+same-length : tie.Need-same-length Inv-loop μ-loop
+same-length c = c .before .before .before .before .before .before .before .before .before .array .given ∙ c .before .before .before .before .before .before .before .before .before .before .before .before .before .before .before .before .loop .inv .1
+
+same-length-2 : tie.Need-same-length-2 Inv-loop μ-loop
+same-length-2 c = c .before .before .before .before .before .before .before .register .given ∙ c .before .before .before .before .before .before .before .before .before .before .before .before .before .before .before .before .loop .inv .2
+
+same-length-3 : tie.Need-same-length-3 Inv-loop μ-loop
+same-length-3 c = c .before .before .before .before .before .history .given ∙ c .before .before .before .before .before .before .before .before .before .before .before .before .before .before .before .before .loop .inv .3
+
+same-length-4 : tie.Need-same-length-4 Inv-loop μ-loop
+same-length-4 c = c .before .before .before .page .given ∙ c .before .before .before .before .before .before .before .before .before .before .before .before .before .before .before .before .loop .inv .4
+
+returns : tie.Need-returns Inv-loop μ-loop
+returns c =
+    let s = c .before .before .before .before .before .before .before .before .before .before .before .before .before .before .before .before .before .before .before .before .before .before .before in
+    let lp = c .before .before .before .before .before .before .before .before .before .before .before .before .before .before .before .before .loop in
+    round-stops (setting (s .args .g) (now (s .args .mask)) (now (s .args .fates))) (now (s .args .marked)) (line (s .args .from) (now (s .args .array)) (now (s .args .register)) (now (s .args .history))) (line (lp .b) (lp .array) (lp .register) (lp .history)) (lp .block) (lp .invalid) (lp .above) (c .before .before .before .before .before .before .before .before .before .before .before .before .before .before .before .loop-test .taken) (lp .inv .5) _ (c .before .before .before .before .before .before .before .before .before .before .erase-block .result .outcome) _ _ (c .before .before .before .before .before .before .before .before .before .before .erase-block .ensures) (other-by-tag _ (c .match .keys2)) _ _
+
+note-failed-requires : tie.Need-note-failed-requires Inv-loop μ-loop
+note-failed-requires c κs = omega (arith, c .before .before .before .before .before .before .before .before .before .before .before .before .before .before .before .before .before .loop-test .taken, c .before .before .before .before .before .before .before .before .before .before .before .before .before .before .before .before .before .before .loop .inv .5 .called .is-valid .blocks-most)
+
+greater-requires : tie.Need-greater-requires Inv-loop μ-loop
+greater-requires c κs = search needs
+
+add-block : tie.Need-add-block Inv-loop μ-loop
+add-block c = search (needs, c .before .before .before .before .before .before .before .before .before .before .before .before .before .before .before .before .before .before .before .loop-test .taken, c .before .before .before .before .before .before .before .before .before .before .before .before .before .before .before .before .before .before .before .before .loop .inv .5 .called .is-valid .blocks-most)
+
+loop-less : tie.Need-loop-less Inv-loop μ-loop
+loop-less c = omega (arith, c .before .before .before .before .before .before .before .before .before .before .before .before .before .before .before .before .before .before .before .loop-test .taken)
+
+loop-again : tie.Need-loop-again Inv-loop μ-loop
+loop-again c =
+    let s = c .before .before .before .before .before .before .before .before .before .before .before .before .before .before .before .before .before .before .before .before .before .before .before .before .before .before .before in
+    let lp = c .before .before .before .before .before .before .before .before .before .before .before .before .before .before .before .before .before .before .before .before .loop in (
+      omega (arith, c .before .before .before .before .before .before .before .before .before .before .before .before .before .before .before .before .before .before .before .loop-test .taken),
+      c .before .before .before .before .before .before .before .before .before .before .before .before .before .array .given ∙ lp .inv .1,
+      c .before .before .before .before .before .before .before .before .before .before .before .register .given ∙ lp .inv .2,
+      c .before .before .before .before .before .before .before .before .before .history .given ∙ lp .inv .3,
+      c .before .before .before .before .before .before .before .page .given ∙ lp .inv .4,
+      round-goes (setting (s .args .g) (now (s .args .mask)) (now (s .args .fates))) (now (s .args .marked)) (line (s .args .from) (now (s .args .array)) (now (s .args .register)) (now (s .args .history))) (line (lp .b) (lp .array) (lp .register) (lp .history)) (lp .block) (lp .invalid) (lp .above) (c .before .before .before .before .before .before .before .before .before .before .before .before .before .before .before .before .before .before .before .loop-test .taken) (lp .inv .5) _ (c .before .before .before .before .before .before .before .before .before .before .before .before .before .before .erase-block .result .outcome) _ _ (c .before .before .before .before .before .before .before .before .before .before .before .before .before .before .erase-block .ensures) (passed-by-tag _ (c .before .before .before .before .match .keys1)) (c .before .note-failed .ensures) (c .greater .ensures),
+    )
+
+same-length-5 : tie.Need-same-length-5 Inv-loop μ-loop
+same-length-5 c = c .before .loop .inv .1
+
+same-length-6 : tie.Need-same-length-6 Inv-loop μ-loop
+same-length-6 c = c .before .loop .inv .2
+
+same-length-7 : tie.Need-same-length-7 Inv-loop μ-loop
+same-length-7 c = c .before .loop .inv .3
+
+same-length-8 : tie.Need-same-length-8 Inv-loop μ-loop
+same-length-8 c = c .before .loop .inv .4
+
+returns-2 : tie.Need-returns-2 Inv-loop μ-loop
+returns-2 c =
+    let lp = c .before .loop in
+    round-ends _ _ _ _ (lp .block) (lp .invalid) (lp .above) (omega arith) (lp .inv .5)
+
+pub erase-all-spec : {M : Type 1} → statement M
+erase-all-spec =
+    tie.close
+    (tie.spec
+    Inv-loop
+    μ-loop
+    loop-holds
+    erase-block-requires
+    enum-told
+    same-length
+    same-length-2
+    same-length-3
+    same-length-4
+    returns
+    note-failed-requires
+    greater-requires
+    add-block
+    loop-less
+    loop-again
+    same-length-5
+    same-length-6
+    same-length-7
+    same-length-8
+    returns-2)
