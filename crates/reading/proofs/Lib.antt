@@ -1,0 +1,3 @@
+pub mod EndLaws
+pub mod FetchLaws
+pub mod RefusalLaws
