@@ -106,7 +106,7 @@ module _ (s : Setting) (d : Device) (n : ℕ) (state : State) (logical page : �
     in-map = omega (arith, not-refused .logical-below, is-valid .logical-most, is-valid .blocks-most)
 
     module _ (block : ℕ) (entry : block ≡ getD (state .map) logical 0) where
-      goes-on : readingCopy s d n state block page buffer ≡ readingPage s d n state logical page buffer
+      pub goes-on : readingCopy s d n state block page buffer ≡ readingPage s d n state logical page buffer
       unfolding readingPage
       goes-on =
           rw (eq-eqb (refusalOf s d state logical page buffer) 0 (sym told ∙ none-refused))

@@ -1,3 +1,5 @@
 pub mod EndLaws
 pub mod FetchLaws
+pub mod ReadingLaws
 pub mod RefusalLaws
+pub mod SentLaws
