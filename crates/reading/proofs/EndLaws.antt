@@ -22,7 +22,7 @@ use Rattle.state.specs.declared.State.{State}
 use Rattle.state.proofs.MountedLaws.{mounted-facts}
 use Rattle.calls.specs.Call.{Result, result, sizedFor, callLine, stopAnswer, endAt}
 use Rattle.calls.proofs.CallLaws.{sizes}
-use Rattle.reading.specs.Reading.{ReadResult, readResult, refusalOf, fetched, pageRead, answerFor, stateFor, readingBlock, readingCopy, readingPage}
+use Rattle.reading.specs.Reading.{ReadResult, readResult, refusalOf, fetched, pageProgress, answerFor, stateFor, readingBlock, readingCopy, readingPage}
 use Rattle.reading.proofs.RefusalLaws.{Accepted, accepts}
 
 -- the trace of a page's read ends where the read of its row does
@@ -31,23 +31,23 @@ module _ (s : Setting) (d : Device) (n block page : ℕ) where
   unfolding isPassed
   passes-first = refl
 
-  pub page-line : pageRead s d n block page .line ≡ sendAll s (callLine d n) (readCycles s (callLine d n) (rowOf (s .geometry) block page) 0 (s .geometry .main))
+  pub page-line : pageProgress s d n block page .line ≡ sendAll s (callLine d n) (readCycles s (callLine d n) (rowOf (s .geometry) block page) 0 (s .geometry .main))
   page-line = read-line s (rowOf (s .geometry) block page) 0 (s .geometry .main) (progress (callLine d n) Passed [] []) (callLine d n) refl passes-first
 
-  pub page-outcome : pageRead s d n block page .outcome ≡ readOutcome s (callLine d n) (rowOf (s .geometry) block page) 0 (s .geometry .main)
+  pub page-outcome : pageProgress s d n block page .outcome ≡ readOutcome s (callLine d n) (rowOf (s .geometry) block page) 0 (s .geometry .main)
   page-outcome = read-outcome s (rowOf (s .geometry) block page) 0 (s .geometry .main) (progress (callLine d n) Passed [] []) (callLine d n) refl passes-first
 
 -- a page of a block was read
 module _ (s : Setting) (d : Device) (n : ℕ) (state : State) (block page : ℕ) (buffer : List ℕ) (l m : Line) (o : Outcome) (row : ℕ) (bytes : List ℕ) (begun : l ≡ callLine d n) (row-is : row ≡ rowOf (s .geometry) block page)
     (reached : m ≡ sendAll s l (readCycles s l row 0 (s .geometry .main))) (ended : o ≡ readOutcome s l row 0 (s .geometry .main)) (left-in : bytes ≡ fetched s l row buffer) where
-  line-is : m ≡ pageRead s d n block page .line
+  line-is : m ≡ pageProgress s d n block page .line
   line-is =
       reached
       ∙ ap (λ (x : Line). sendAll s x (readCycles s x row 0 (s .geometry .main))) begun
       ∙ ap (λ (x : ℕ). sendAll s (callLine d n) (readCycles s (callLine d n) x 0 (s .geometry .main))) row-is
       ∙ sym (page-line s d n block page)
 
-  outcome-is : o ≡ pageRead s d n block page .outcome
+  outcome-is : o ≡ pageProgress s d n block page .outcome
   outcome-is =
       ended
       ∙ ap (λ (x : Line). readOutcome s x row 0 (s .geometry .main)) begun
@@ -75,8 +75,8 @@ module _ (s : Setting) (d : Device) (n : ℕ) (state : State) (block page : ℕ)
       ap (λ (x : Result). readResult x bytes)
       (e
       ∙ ap (endAt n (answerFor o) (stateFor o state)) line-is
-      ∙ ap (λ (x : Outcome). endAt n (answerFor x) (stateFor x state) (pageRead s d n block page .line)) outcome-is)
-      ∙ ap (readResult (endAt n (answerFor (pageRead s d n block page .outcome)) (stateFor (pageRead s d n block page .outcome) state) (pageRead s d n block page .line))) bytes-are
+      ∙ ap (λ (x : Outcome). endAt n (answerFor x) (stateFor x state) (pageProgress s d n block page .line)) outcome-is)
+      ∙ ap (readResult (endAt n (answerFor (pageProgress s d n block page .outcome)) (stateFor (pageProgress s d n block page .outcome) state) (pageProgress s d n block page .line))) bytes-are
 
   pub ends-passed : {r : Result} → isPassed o ≡ true → r ≡ endAt n 0 state m → readResult r bytes ≡ readingBlock s d n state block page buffer
   ends-passed t e = ends-so (e ∙ sym (rw t))

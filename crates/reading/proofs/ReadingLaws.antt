@@ -6,7 +6,7 @@ use mathlib.Core.Logic.{_⊎_, inl, inr}
 use mathlib.Core.Path.{_≡_, refl, sym, ap, subst, _∙_}
 use native.Mathlib.Omega.{arith}
 use borrow.Table.Steps.{cases}
-use borrow.Author.Tests.{eq-eqb, ne-eqb, eqb-true, eqb-false, lt-ltb}
+use borrow.Author.Tests.{eq-eqb, ne-eqb, lt-ltb, le-ltb}
 use lib.Dec.{eqb, ltb}
 use lib.ListN.{length, getD, take, drop, replicate}
 use lib.Seq.{take-take}
@@ -14,13 +14,12 @@ use Rattle.geometry.specs.declared.Geometry.{Geometry}
 use Rattle.geometry.specs.Limits.{Valid}
 use Rattle.geometry.specs.Sizes.{pageSize, rowOf}
 use Rattle.geometry.proofs.SizeLaws.{row-below}
-use Rattle.cells.specs.Part.{part}
 use Rattle.array.specs.Device.{Device, Setting}
-use Rattle.bus.specs.Line.{Line, sendAll}
+use Rattle.bus.specs.Line.{Line}
 use Rattle.polling.specs.Polling.{isPassed}
 use Rattle.polling.specs.declared.Outcome.{Outcome}
-use Rattle.polling.specs.declared.Outcome.the-variants.{Passed, Failed, Silent, Cut, Illegal}
-use Rattle.sequences.specs.Cycles.{readCycles, readOutcome, readOutputs}
+use Rattle.polling.specs.declared.Outcome.the-variants.{Passed}
+use Rattle.sequences.specs.Cycles.{readOutcome, readOutputs}
 use Rattle.interface.specs.Interface.{busyOf}
 use Rattle.operations.specs.Ends.{Called, CanRead, End, readEnd, endOfRead, readTotal, wordFor}
 use Rattle.operations.proofs.ReadLaws as operation
@@ -31,11 +30,11 @@ use Rattle.copies.proofs.PickLaws.{pick-is}
 use Rattle.found.specs.Contents.{entryOf, mapOf}
 use Rattle.found.proofs.MapLaws.{getD-tabulate}
 use Rattle.scan.proofs.ScanLaws.{row-is-page}
-use Rattle.state.specs.State.{blank, none}
+use Rattle.state.specs.State.{none}
 use Rattle.state.specs.declared.State.{State}
 use Rattle.calls.specs.Call.{result, sized, sizedFor, callLine, stopAnswer}
-use Rattle.calls.proofs.CallLaws.{Sized, sizes}
-use Rattle.reading.specs.Reading.{ReadResult, readResult, refusalOf, fetched, pageRead, answerFor, stateFor, readingBlock, readingCopy, readingPage}
+use Rattle.calls.proofs.CallLaws.{sizes}
+use Rattle.reading.specs.Reading.{ReadResult, readResult, refusalOf, fetched, pageProgress, answerFor, stateFor, readingBlock, readingCopy, readingPage}
 use Rattle.reading.proofs.EndLaws.{page-line, page-outcome, goes-on, is-valid, in-map, block-below}
 use Rattle.reading.proofs.RefusalLaws.{Accepted, accepted}
 
@@ -57,6 +56,14 @@ pub record Ends (s : Setting) (d : Device) (n : ℕ) (state : State) (r : ReadRe
   pub same-array : r .returned .chip .array ≡ d .array
   pub same-history : r .returned .chip .history ≡ d .history
   pub legal : r .returned .chip .port .illegal ≡ 0
+
+-- a read passes if its fate word has fewer than 256 busy reads and the allowance covers the longest read
+pub read-passes : (s : Setting) (l : Line) (n : ℕ) → busyOf (wordFor s (l .chip)) < 256 → 6 + 2 + 256 + 1 + n ≤ l .left → readEnd s l n .outcome ≡ Passed
+unfolding readEnd
+read-passes s l n b h =
+    let t = lt-ltb (busyOf (wordFor s (l .chip))) 256 b in
+    let few : readTotal s (l .chip) n ≤ l .left = rw t (omega (arith, b, h)) in
+    rw (le-ltb (l .left) (readTotal s (l .chip) n) few, t)
 
 -- a current copy is picked among the blocks of the chip
 abbrev copyTest : Geometry → List ℕ → ℕ → ℕ → ℕ → Bool
@@ -119,15 +126,15 @@ module _ (s : Setting) (d : Device) (n : ℕ) (state : State) (logical page : �
       end-is : endOfRead s start (row b) 0 (s .geometry .main) ≡ readEnd s start (s .geometry .main)
       end-is = operation.read-ends s start (row b) 0 (s .geometry .main) (can-read b below)
 
-      outcome-is : pageRead s d n b page .outcome ≡ readEnd s start (s .geometry .main) .outcome
+      outcome-is : pageProgress s d n b page .outcome ≡ readEnd s start (s .geometry .main) .outcome
       unfolding endOfRead
       outcome-is = page-outcome s d n b page ∙ ap (λ (e : End). e .outcome) end-is
 
-      array-is : pageRead s d n b page .line .chip .array ≡ d .array
+      array-is : pageProgress s d n b page .line .chip .array ≡ d .array
       unfolding endOfRead readEnd
       array-is = ap (λ (x : Line). x .chip .array) (page-line s d n b page) ∙ ap (λ (e : End). e .array) end-is
 
-      history-is : pageRead s d n b page .line .chip .history ≡ d .history
+      history-is : pageProgress s d n b page .line .chip .history ≡ d .history
       unfolding endOfRead readEnd
       history-is = ap (λ (x : Line). x .chip .history) (page-line s d n b page) ∙ ap (λ (e : End). e .history) end-is
 
@@ -143,14 +150,14 @@ module _ (s : Setting) (d : Device) (n : ℕ) (state : State) (logical page : �
           }
 
       module _ (p : isPassed (readEnd s start (s .geometry .main) .outcome) ≡ true) where
-        after : Called s (pageRead s d n b page .line)
+        after : Called s (pageProgress s d n b page .line)
         after =
             subst (Called s) (sym (page-line s d n b page)) (operation.read-next s start (row b) 0 (s .geometry .main) (can-read b below) p)
 
-        sized-after : sizedFor s (pageRead s d n b page .line .chip) ≡ true
+        sized-after : sizedFor s (pageProgress s d n b page .line .chip) ≡ true
         sized-after =
-            ap (λ (x : List ℕ). sized (s .geometry) (length x) (length (pageRead s d n b page .line .chip .register)) (length (pageRead s d n b page .line .chip .history)) (length (s .mask))) array-is
-            ∙ ap (λ (x : List ℕ). sized (s .geometry) (length (d .array)) (length (pageRead s d n b page .line .chip .register)) (length x) (length (s .mask))) history-is
+            ap (λ (x : List ℕ). sized (s .geometry) (length x) (length (pageProgress s d n b page .line .chip .register)) (length (pageProgress s d n b page .line .chip .history)) (length (s .mask))) array-is
+            ∙ ap (λ (x : List ℕ). sized (s .geometry) (length (d .array)) (length (pageProgress s d n b page .line .chip .register)) (length x) (length (s .mask))) history-is
             ∙ ap (λ (k : ℕ). sized (s .geometry) (length (d .array)) k (length (d .history)) (length (s .mask))) (after .register-long ∙ sym (called .register-long))
             ∙ a .sizes-fit
 

@@ -1,11 +1,9 @@
 -- The cycles that a read sends, counted. Assumes nothing.
-use Prim.Native.Nat.{ℕ, zero, suc, _+_, _-_, _≤_}
-use mathlib.Core.Bool.{Bool, true, false, cond}
+use Prim.Native.Nat.{ℕ, zero, suc, _+_, _≤_}
 use mathlib.Core.List.{List, [], _∷_, _++_}
-use mathlib.Core.Path.{_≡_, refl, sym, ap, _∙_}
+use mathlib.Core.Path.{_≡_, ap, _∙_}
 use native.Mathlib.Omega.{arith}
 use borrow.Table.Steps.{cases}
-use borrow.Author.Tests.{eqb-true, eqb-false}
 use lib.Dec.{eqb}
 use lib.ListN.{length, getD, replicate, length-append, length-replicate}
 use Rattle.geometry.specs.Sizes.{rowOf}
@@ -22,7 +20,7 @@ use Rattle.scan.proofs.CountLaws.{read-counts}
 use Rattle.state.specs.State.{none}
 use Rattle.state.specs.declared.State.{State}
 use Rattle.calls.specs.Call.{sizedFor, callLine}
-use Rattle.reading.specs.Reading.{ReadResult, refusalOf, pageRead, readingBlock, readingCopy, readingPage}
+use Rattle.reading.specs.Reading.{ReadResult, refusalOf, pageProgress, readingBlock, readingCopy, readingPage}
 use Rattle.reading.proofs.EndLaws.{page-line}
 use Rattle.reading.proofs.ReadingLaws.{no-copy, one-copy}
 use Rattle.reading.proofs.RefusalLaws.{Accepted}
@@ -53,7 +51,7 @@ read-most s l row column n =
     (λ t. rw t (omega (arith, length-append (first ++ replicate polled status) [], begun)))
 
 module _ (s : Setting) (d : Device) (n : ℕ) (state : State) where
-  block-sent : (block page : ℕ) (buffer : List ℕ) → readingBlock s d n state block page buffer .returned .sent ≡ length (pageRead s d n block page .cycles)
+  block-sent : (block page : ℕ) (buffer : List ℕ) → readingBlock s d n state block page buffer .returned .sent ≡ length (pageProgress s d n block page .cycles)
   unfolding readingBlock
   block-sent block page buffer =
       omega (arith, read-counts s (rowOf (s .geometry) block page) 0 (s .geometry .main) (progress (callLine d n) Passed [] []))
@@ -73,7 +71,7 @@ module _ (s : Setting) (d : Device) (n : ℕ) (state : State) where
   module _ (logical page : ℕ) (buffer : List ℕ) where
     -- as many as the trace of the page's read has, and none where there is no copy
     pub read-sent : Accepted (s .geometry) (sizedFor s d) state logical page (length buffer) → (getD (state .map) logical 0 ≡ none → ⊥)
-        → readingPage s d n state logical page buffer .returned .sent ≡ length (pageRead s d n (getD (state .map) logical 0) page .cycles)
+        → readingPage s d n state logical page buffer .returned .sent ≡ length (pageProgress s d n (getD (state .map) logical 0) page .cycles)
     read-sent a x =
         ap (λ (r : ReadResult). r .returned .sent) (one-copy s d n state logical page buffer a x)
         ∙ block-sent (getD (state .map) logical 0) page buffer

@@ -41,8 +41,8 @@ fetched s l row buffer =
     cond (isPassed (readOutcome s l row 0 (s .geometry .main))) (readOutputs s l row 0 (s .geometry .main)) buffer
 
 -- the main bytes of a page of a block are read, as the only operation of a call that may send n cycles
-abbrev pub pageRead : Setting → Device → ℕ → ℕ → ℕ → Progress
-pageRead s d n block page =
+abbrev pub pageProgress : Setting → Device → ℕ → ℕ → ℕ → Progress
+pageProgress s d n block page =
     readOn s (rowOf (s .geometry) block page) 0 (s .geometry .main) (progress (callLine d n) Passed [] [])
 
 -- the answer and the state where the operation ended so
@@ -55,8 +55,8 @@ stateFor o state = cond (isPassed o) state (blank 2)
 unfoldable pub readingBlock : Setting → Device → ℕ → State → ℕ → ℕ → List ℕ → ReadResult
 readingBlock s d n state block page buffer =
     readResult
-    (endAt n (answerFor (pageRead s d n block page .outcome)) (stateFor (pageRead s d n block page .outcome) state)
-    (pageRead s d n block page .line))
+    (endAt n (answerFor (pageProgress s d n block page .outcome)) (stateFor (pageProgress s d n block page .outcome) state)
+    (pageProgress s d n block page .line))
     (fetched s (callLine d n) (rowOf (s .geometry) block page) buffer)
 
 -- a logical block without a copy reads FFh

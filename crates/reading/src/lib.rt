@@ -98,8 +98,8 @@ fn fetch(
         0,
         bytes,
     );
-    let outcome = done.outcome;
-    let Outcome::Passed = outcome else {
+    let ended = done.outcome;
+    let Outcome::Passed = ended else {
         return done;
     };
     cells::copy(bytes, buffer);
