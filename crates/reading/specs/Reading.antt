@@ -35,7 +35,7 @@ refusal g fits state logical page long =
     7)
     1
 
--- the bytes of a buffer after a read into it that leaves it alone unless it passes
+-- a buffer after the main bytes of a row were read: those that the chip put out if the read passed, else as it was
 unfoldable pub fetched : Setting → Line → ℕ → List ℕ → List ℕ
 fetched s l row buffer =
     cond (isPassed (readOutcome s l row 0 (s .geometry .main))) (readOutputs s l row 0 (s .geometry .main)) buffer
@@ -52,6 +52,7 @@ answerFor o = cond (isPassed o) 0 (stopAnswer o)
 abbrev pub stateFor : Outcome → State → State
 stateFor o state = cond (isPassed o) state (blank 2)
 
+-- a page of a block
 unfoldable pub readingBlock : Setting → Device → ℕ → State → ℕ → ℕ → List ℕ → ReadResult
 readingBlock s d n state block page buffer =
     readResult
