@@ -1,0 +1,6 @@
+pub mod EndLaws
+pub mod FetchLaws
+pub mod ReadingLaws
+pub mod ReadingTests
+pub mod RefusalLaws
+pub mod SentLaws
