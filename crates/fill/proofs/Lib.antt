@@ -1,3 +1,5 @@
 pub mod FillLaws
+pub mod OutcomeLaws
 pub mod PageLaws
 pub mod StepLaws
+pub mod TryLaws

@@ -1,10 +1,12 @@
 // The mounted state, and the choice of a block for the next fill.
 pub mod choose;
 
+use choose::Choice;
 ghost use mathlib.Core.Path.{_≡_};
 ghost use Prim.Native.Nat.{_+_, _-_, _<_, _≤_};
 ghost use lib.ListN.{replicate};
 ghost use Rattle.bitmaps.specs.Bitmap.{withBit};
+ghost use Rattle.state.specs.Choose.{chosen};
 ghost use Rattle.state.specs.State.{blank, spent, withNumber, withInvalid, withCopy, withTable, heldBits, emptyFrom, countPermitted, soundBlock, soundFrom, soundEntries, mounted, freeBlocks};
 
 // What a mount found and the fills since changed. It goes in by value and comes back.
@@ -119,6 +121,17 @@ impl State {
         self.map[logical] = block as u16;
         self.last = block;
         self
+    }
+
+    // The next block after the one filled last that may be filled; held has a bit for each block that holds something current.
+    pub fn choose_block(self, held: &[u8; 512], blocks: usize) -> Choice
+        requires { ⌜ (self .last < blocks) × (blocks ≤ 4096) ⌝ }
+        ensures { λ r. ⌜ r ≡ chosen (self .marked) (self .invalid) (now (held .entry)) blocks (self .last) ⌝ }
+    {
+        let marked = self.marked;
+        let invalid = self.invalid;
+        let last = self.last;
+        choose::choose(&marked, &invalid, held, blocks, last)
     }
 
     // The blocks that hold something current, one bit a block.

@@ -1,0 +1,64 @@
+-- One table fill tried: no block was left, or the block chosen was filled. Assumes nothing.
+use Prim.Native.Nat.{ℕ, suc, _+_, _<_}
+use mathlib.Core.Bool.{true}
+use mathlib.Core.List.{List}
+use mathlib.Core.Path.{_≡_, refl, sym, ap, subst, _∙_}
+use native.Mathlib.Omega.{arith}
+use denote.Enum.Declared.{tagOf}
+use Rattle.array.specs.Device.{Setting}
+use Rattle.chip.specs.Chip.{Cycle}
+use Rattle.bus.specs.Line.{Line}
+use Rattle.polling.specs.declared.Outcome.{Outcome}
+use Rattle.polling.specs.declared.Outcome.the-variants.{Passed}
+use Rattle.operations.specs.Ends.{Called, answered}
+use Rattle.operations.specs.Trace.{ArrayOperation}
+use Rattle.state.specs.Choose.{chosen, permitted}
+use Rattle.state.specs.State.{withNumber}
+use Rattle.state.specs.declared.State.{State}
+use Rattle.state.specs.declared.choose.Choice.{Choice}
+use Rattle.state.specs.declared.choose.Choice.the-variants.{Block, Worn}
+use Rattle.state.proofs.choose.Choice.{the-type}
+use Rattle.state.proofs.ChooseLaws.{found, after-below}
+use Rattle.scan.specs.Progress.{Progress, progress}
+use Rattle.fill.specs.Fill.{tableFilled}
+use Rattle.fill.specs.Tables.{Tried, tried, stateAfter, tryBlock, tryTable, TriedAs}
+
+pub worn-by-tag : (x : Choice) → tagOf the-type x ≡ 1 → x ≡ Worn
+worn-by-tag (Block b) h = absurd (omega (arith, h))
+worn-by-tag Worn h = refl
+
+-- a block chosen is on the chip
+pub chosen-below : (marked invalid held : List ℕ) (blocks last b : ℕ) → last < blocks → chosen marked invalid held blocks last ≡ Block b → b < blocks
+chosen-below marked invalid held blocks last b h e =
+    let f = found (permitted marked invalid held) blocks blocks last b h e in
+    subst (λ (x : ℕ). x < blocks) (f .is) (after-below blocks last (suc (f .steps)) (omega (arith, h)))
+
+module _ (s : Setting) (held : List ℕ) (st : State) (l : Line) where
+  abbrev choice : Choice
+  choice = chosen (st .marked) (st .invalid) held (s .geometry .blocks) (st .last)
+
+  pub worn-tried : choice ≡ Worn → Called s l → TriedAs s held st l l Passed st 1
+  unfolding tryTable tryBlock
+  worn-tried e called =
+      record {
+        line-is = λ cs os. ap (λ (x : Choice). tryBlock s st (progress l Passed cs os) x .progress .line) (sym e);
+        outcome-is = λ cs os. ap (λ (x : Choice). tryBlock s st (progress l Passed cs os) x .progress .outcome) (sym e);
+        state-is = λ cs os. ap (λ (x : Choice). tryBlock s st (progress l Passed cs os) x .state) (sym e);
+        worn-is = λ cs os. ap (λ (x : Choice). tryBlock s st (progress l Passed cs os) x .worn) (sym e);
+        next-called = λ t. called;
+      }
+
+  pub block-tried : (b : ℕ) → choice ≡ Block b → (m : Line) (o : Outcome) (next : State)
+      → ((cs : List Cycle) (os : List ArrayOperation) → m ≡ tableFilled s b (st .number) (st .invalid) (progress l Passed cs os) .line)
+      → ((cs : List Cycle) (os : List ArrayOperation) → o ≡ tableFilled s b (st .number) (st .invalid) (progress l Passed cs os) .outcome)
+      → (answered o ≡ true → Called s m) → next ≡ stateAfter b o (withNumber (st .number + 1) st) → TriedAs s held st l m o next 0
+  unfolding tryTable tryBlock
+  block-tried b e m o next f₁ f₂ called g =
+      record {
+        line-is = λ cs os. f₁ cs os ∙ ap (λ (x : Choice). tryBlock s st (progress l Passed cs os) x .progress .line) (sym e);
+        outcome-is = λ cs os. f₂ cs os ∙ ap (λ (x : Choice). tryBlock s st (progress l Passed cs os) x .progress .outcome) (sym e);
+        state-is = λ cs os.
+            g ∙ ap (λ (x : Outcome). stateAfter b x (withNumber (st .number + 1) st)) (f₂ cs os) ∙ ap (λ (x : Choice). tryBlock s st (progress l Passed cs os) x .state) (sym e);
+        worn-is = λ cs os. ap (λ (x : Choice). tryBlock s st (progress l Passed cs os) x .worn) (sym e);
+        next-called = called;
+      }

@@ -1,0 +1,80 @@
+-- `fill::try_table` meets its contract. Assumes nothing.
+use mathlib.Core.Path.{sym, ap, _∙_}
+use native.Mathlib.Omega.{arith}
+use denote.Ref.{now}
+use Rattle.array.specs.Device.{setting}
+use Rattle.bus.specs.Line.{line}
+use Rattle.fill.specs.Tables.{stateAfter}
+use Rattle.fill.proofs.TryLaws.{worn-by-tag, chosen-below, worn-tried, block-tried}
+use borrow.Author.Needs.{needs}
+use Rattle.fill.proofs.try_table.Statement.{statement}
+use Rattle.fill.proofs.try_table.Tie as tie
+
+choose-block-requires : tie.Need-choose-block-requires
+choose-block-requires c κs = search needs
+
+enum-known-choice : tie.Need-enum-known-choice
+enum-known-choice c = search needs
+
+enum-told : tie.Need-enum-told
+enum-told c = search needs
+
+returns : tie.Need-returns
+returns c =
+    let s = c .before .before .before .before .before .before .before .before .before .before in
+    let set = setting (s .args .g) (now (s .args .mask)) (now (s .args .fates)) in
+    let l = line (s .args .from) (now (s .args .array)) (now (s .args .register)) (now (s .args .history)) in
+    worn-tried set (now (s .args .held)) (s .args .state) l (sym (c .before .before .choose-block .ensures) ∙ worn-by-tag _ (c .before .match .keys2)) (s .pre .0)
+
+fill-table-requires : tie.Need-fill-table-requires
+fill-table-requires c κs =
+    let s = c .before .before .before .before .before .before .before .before .before .before .before .before .before .before .before .before in
+    let e = sym (c .before .before .before .before .before .before .before .before .choose-block .ensures) ∙ c .before .before .before .before .before .before .choice .given .1 in
+    (s .pre .0, (chosen-below (s .args .state .marked) (s .args .state .invalid) (now (s .args .held)) (s .args .g .blocks) (s .args .state .last) _ (s .pre .1 .1 .1) e, (s .pre .1 .1 .0, s .pre .1 .0)))
+
+take-number-requires : tie.Need-take-number-requires
+take-number-requires c κs = omega (arith, c .before .before .before .before .before .before .before .before .before .before .before .before .before .before .before .before .before .before .before .before .before .before .before .before .before .before .pre .1 .1 .0)
+
+state-after-requires : tie.Need-state-after-requires
+state-after-requires c κs =
+    let s = c .before .before .before .before .before .before .before .before .before .before .before .before .before .before .before .before .before .before .before .before .before .before .before .before .before .before .before in
+    let e = sym (c .before .before .before .before .before .before .before .before .before .before .before .before .before .before .before .before .before .before .before .choose-block .ensures) ∙ c .before .before .before .before .before .before .before .before .before .before .before .before .before .before .before .before .before .choice .given .1 in
+    omega (arith, s .pre .0 .is-valid .blocks-most, chosen-below (s .args .state .marked) (s .args .state .invalid) (now (s .args .held)) (s .args .g .blocks) (s .args .state .last) _ (s .pre .1 .1 .1) e)
+
+same-length : tie.Need-same-length
+same-length c = search needs
+
+same-length-2 : tie.Need-same-length-2
+same-length-2 c = search needs
+
+same-length-3 : tie.Need-same-length-3
+same-length-3 c = search needs
+
+same-length-4 : tie.Need-same-length-4
+same-length-4 c = search needs
+
+returns-2 : tie.Need-returns-2
+returns-2 c =
+    let s = c .before .before .before .before .before .before .before .before .before .before .before .before .before .before .before .before .before .before .before .before .before .before .before .before .before .before .before .before in
+    let set = setting (s .args .g) (now (s .args .mask)) (now (s .args .fates)) in
+    let l = line (s .args .from) (now (s .args .array)) (now (s .args .register)) (now (s .args .history)) in
+    let e = sym (c .before .before .before .before .before .before .before .before .before .before .before .before .before .before .before .before .before .before .before .before .choose-block .ensures) ∙ c .before .before .before .before .before .before .before .before .before .before .before .before .before .before .before .before .before .before .choice .given .1 in
+    let f = c .before .before .before .before .before .before .before .before .before .before .before .fill-table .ensures in
+    block-tried set (now (s .args .held)) (s .args .state) l (c .before .before .before .before .before .before .before .before .before .before .before .before .before .before .before .before .before .before .choice .given .0 .0) e _ (c .before .before .before .before .before .before .before .before .before .before .before .fill-table .result .outcome) _ (f .0) (f .1 .0) (f .1 .1) (c .state-after .ensures ∙ ap (stateAfter (c .before .before .before .before .before .before .before .before .before .before .before .before .before .before .before .before .before .before .choice .given .0 .0) (c .before .before .before .before .before .before .before .before .before .before .before .fill-table .result .outcome)) (c .before .take-number .ensures))
+
+pub try-table-spec : {M : Type 1} → statement M
+try-table-spec =
+    tie.close
+    (tie.spec
+    choose-block-requires
+    enum-known-choice
+    enum-told
+    returns
+    fill-table-requires
+    take-number-requires
+    state-after-requires
+    same-length
+    same-length-2
+    same-length-3
+    same-length-4
+    returns-2)

@@ -1,0 +1,56 @@
+-- Table fills until one passes: each takes the next number, then the next permitted block; a failure makes that block invalid.
+use Prim.Native.Nat.{ℕ, zero, suc, _+_}
+use mathlib.Core.Bool.{Bool, true, false, cond}
+use mathlib.Core.List.{List}
+use mathlib.Core.Path.{_≡_}
+use lib.Dec.{eqb}
+use Rattle.array.specs.Device.{Setting}
+use Rattle.chip.specs.Chip.{Cycle}
+use Rattle.bus.specs.Line.{Line}
+use Rattle.operations.specs.Ends.{Called, answered}
+use Rattle.operations.specs.Trace.{ArrayOperation}
+use Rattle.polling.specs.declared.Outcome.{Outcome}
+use Rattle.polling.specs.declared.Outcome.the-variants.{Passed, Failed, Silent, Cut, Illegal}
+use Rattle.state.specs.Choose.{chosen}
+use Rattle.state.specs.State.{blank, withNumber, withInvalid, withTable}
+use Rattle.state.specs.declared.State.{State}
+use Rattle.state.specs.declared.choose.Choice.{Choice}
+use Rattle.state.specs.declared.choose.Choice.the-variants.{Block, Worn}
+use Rattle.scan.specs.Progress.{Progress, progress}
+use Rattle.fill.specs.Fill.{tableFilled}
+use Rattle.fill.specs.Steps.{resumed}
+
+-- one fill tried; worn is 1 where no block was left for it
+pub record Tried : Type 0 where
+  pub progress : Progress
+  pub state : State
+  pub worn : ℕ
+
+abbrev pub tried : Progress → State → ℕ → Tried
+tried p s w = record { progress = p; state = s; worn = w }
+
+-- the state by how the fill of a block ended
+unfoldable pub stateAfter : ℕ → Outcome → State → State
+stateAfter b Passed s = withTable b s
+stateAfter b Failed s = withInvalid b s
+stateAfter b Silent s = s
+stateAfter b Cut s = s
+stateAfter b Illegal s = s
+
+unfoldable pub tryBlock : Setting → State → Progress → Choice → Tried
+tryBlock s st p Worn = tried p st 1
+tryBlock s st p (Block b) =
+    tried (tableFilled s b (st .number) (st .invalid) p)
+    (stateAfter b (tableFilled s b (st .number) (st .invalid) p .outcome) (withNumber (st .number + 1) st)) 0
+
+-- held has a bit for each block that holds something current
+unfoldable pub tryTable : Setting → List ℕ → State → Progress → Tried
+tryTable s held st p = tryBlock s st p (chosen (st .marked) (st .invalid) held (s .geometry .blocks) (st .last))
+
+-- a fill tried from line l, which comes to line m
+pub record TriedAs (s : Setting) (held : List ℕ) (st : State) (l m : Line) (o : Outcome) (next : State) (worn : ℕ) : Type 0 where
+  pub line-is : (cs : List Cycle) (os : List ArrayOperation) → m ≡ tryTable s held st (progress l Passed cs os) .progress .line
+  pub outcome-is : (cs : List Cycle) (os : List ArrayOperation) → o ≡ tryTable s held st (progress l Passed cs os) .progress .outcome
+  pub state-is : (cs : List Cycle) (os : List ArrayOperation) → next ≡ tryTable s held st (progress l Passed cs os) .state
+  pub worn-is : (cs : List Cycle) (os : List ArrayOperation) → worn ≡ tryTable s held st (progress l Passed cs os) .worn
+  pub next-called : answered o ≡ true → Called s m
