@@ -2,4 +2,5 @@ pub mod FillLaws
 pub mod OutcomeLaws
 pub mod PageLaws
 pub mod StepLaws
+pub mod TablesLaws
 pub mod TryLaws

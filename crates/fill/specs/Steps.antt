@@ -1,12 +1,13 @@
 -- Erases and programs as steps of a request.
 use Prim.Native.Nat.{ℕ}
-use mathlib.Core.Bool.{cond}
+use mathlib.Core.Bool.{Bool, true, false, cond}
 use mathlib.Core.List.{List, _++_}
 use Rattle.geometry.specs.Sizes.{rowOf}
 use Rattle.array.specs.Device.{Setting}
 use Rattle.bus.specs.Line.{sendAll}
 use Rattle.polling.specs.Polling.{isPassed, outcomeOf}
-use Rattle.polling.specs.declared.Outcome.the-variants.{Passed}
+use Rattle.polling.specs.declared.Outcome.{Outcome}
+use Rattle.polling.specs.declared.Outcome.the-variants.{Passed, Failed, Silent, Cut, Illegal}
 use Rattle.sequences.specs.Cycles.{eraseCycles, programCycles}
 use Rattle.operations.specs.Trace.{eraseSends, eraseStarts, programSends, programStarts}
 use Rattle.scan.specs.Progress.{Progress, progress}
@@ -36,3 +37,10 @@ programOn s block page bytes p =
 -- the request goes on after an operation that failed
 abbrev pub resumed : Progress → Progress
 resumed p = progress (p .line) Passed (p .cycles) (p .started)
+
+unfoldable pub isFailed : Outcome → Bool
+isFailed Passed = false
+isFailed Failed = true
+isFailed Silent = false
+isFailed Cut = false
+isFailed Illegal = false

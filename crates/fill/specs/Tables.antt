@@ -1,6 +1,6 @@
 -- Table fills until one passes: each takes the next number, then the next permitted block; a failure makes that block invalid.
-use Prim.Native.Nat.{ℕ, zero, suc, _+_}
-use mathlib.Core.Bool.{Bool, true, false, cond}
+use Prim.Native.Nat.{ℕ, zero, suc, _+_, _-_}
+use mathlib.Core.Bool.{true, cond}
 use mathlib.Core.List.{List}
 use mathlib.Core.Path.{_≡_}
 use lib.Dec.{eqb}
@@ -9,6 +9,7 @@ use Rattle.chip.specs.Chip.{Cycle}
 use Rattle.bus.specs.Line.{Line}
 use Rattle.operations.specs.Ends.{Called, answered}
 use Rattle.operations.specs.Trace.{ArrayOperation}
+use Rattle.polling.specs.Polling.{isPassed}
 use Rattle.polling.specs.declared.Outcome.{Outcome}
 use Rattle.polling.specs.declared.Outcome.the-variants.{Passed, Failed, Silent, Cut, Illegal}
 use Rattle.state.specs.Choose.{chosen}
@@ -16,9 +17,10 @@ use Rattle.state.specs.State.{blank, withNumber, withInvalid, withTable}
 use Rattle.state.specs.declared.State.{State}
 use Rattle.state.specs.declared.choose.Choice.{Choice}
 use Rattle.state.specs.declared.choose.Choice.the-variants.{Block, Worn}
+use Rattle.calls.specs.Call.{stopAnswer}
 use Rattle.scan.specs.Progress.{Progress, progress}
 use Rattle.fill.specs.Fill.{tableFilled}
-use Rattle.fill.specs.Steps.{resumed}
+use Rattle.fill.specs.Steps.{resumed, isFailed}
 
 -- one fill tried; worn is 1 where no block was left for it
 pub record Tried : Type 0 where
@@ -54,3 +56,41 @@ pub record TriedAs (s : Setting) (held : List ℕ) (st : State) (l m : Line) (o 
   pub state-is : (cs : List Cycle) (os : List ArrayOperation) → next ≡ tryTable s held st (progress l Passed cs os) .state
   pub worn-is : (cs : List Cycle) (os : List ArrayOperation) → worn ≡ tryTable s held st (progress l Passed cs os) .worn
   pub next-called : answered o ≡ true → Called s m
+
+-- how table fills ended: 0 with the next state, or 8 worn, 9 spent, 10 silent, 11 cut with a stopped one
+pub record Tabled : Type 0 where
+  pub progress : Progress
+  pub answer : ℕ
+  pub state : State
+
+abbrev pub tabled : Progress → ℕ → State → Tabled
+tabled p a s = record { progress = p; answer = a; state = s }
+
+-- a fill that passed, or one that was silent or cut
+unfoldable pub endAnswer : Outcome → ℕ
+endAnswer o = cond (isPassed o) 0 (stopAnswer o)
+
+unfoldable pub endState : Outcome → State → State
+endState o st = cond (isPassed o) st (blank 2)
+
+abbrev pub endedBy : Progress → State → Tabled
+endedBy p st = tabled p (endAnswer (p .outcome)) (endState (p .outcome) st)
+
+-- k numbers are left
+unfoldable pub tablesFilled : Setting → List ℕ → ℕ → State → Progress → Tabled
+tablesFilled s held zero st p = tabled p 9 (blank 2)
+tablesFilled s held (suc k) st p =
+    let t = tryTable s held st p in
+    let more = tablesFilled s held k (t .state) (resumed (t .progress)) in
+    cond (eqb (t .worn) 0) (cond (isFailed (t .progress .outcome)) more (endedBy (t .progress) (t .state)))
+    (tabled (t .progress) 8 (blank 2))
+
+-- the numbers from a state's next one up to 4,294,967,295
+abbrev pub numbersLeft : State → ℕ
+numbersLeft st = 4294967296 - st .number
+
+-- table fills from line l, which come to line m
+pub record TabledAs (s : Setting) (held : List ℕ) (st : State) (l m : Line) (answer : ℕ) (next : State) : Type 0 where
+  pub line-is : (cs : List Cycle) (os : List ArrayOperation) → m ≡ tablesFilled s held (numbersLeft st) st (progress l Passed cs os) .progress .line
+  pub answer-is : (cs : List Cycle) (os : List ArrayOperation) → answer ≡ tablesFilled s held (numbersLeft st) st (progress l Passed cs os) .answer
+  pub state-is : (cs : List Cycle) (os : List ArrayOperation) → next ≡ tablesFilled s held (numbersLeft st) st (progress l Passed cs os) .state

@@ -21,7 +21,7 @@ ghost use Rattle.sequences.specs.Cycles.{programCycles};
 ghost use Rattle.operations.specs.Ends.{Called, answered};
 ghost use Rattle.operations.specs.Trace.{ArrayOperation};
 ghost use Rattle.scan.specs.Progress.{progress};
-ghost use Rattle.fill.specs.Tables.{stateAfter, TriedAs};
+ghost use Rattle.fill.specs.Tables.{stateAfter, TriedAs, endAnswer, endState, TabledAs};
 ghost use Rattle.fill.specs.Fill.{copy, pageOf, Fillable, tableMain, tableFilled};
 
 // Finishes a page whose main bytes are in the buffer, and programs it.
@@ -201,5 +201,80 @@ pub fn try_table(
         outcome,
         state: next,
         worn: 0,
+    }
+}
+
+// How table fills ended: the bus, the answer by its number, and the next state, a stopped one where it is not 0.
+pub struct Tabled {
+    pub bus: Bus,
+    pub answer: usize,
+    pub state: State,
+}
+
+// The answer after a fill that passed, or one that was silent or cut.
+fn end_answer(outcome: Outcome) -> usize
+    ensures { λ r. ⌜ r ≡ endAnswer outcome ⌝ }
+{
+    let Outcome::Passed = outcome else {
+        return calls::stop_answer(outcome);
+    };
+    0
+}
+
+// The state handed back after it.
+fn end_state(outcome: Outcome, state: State) -> State
+    ensures { λ r. ⌜ r ≡ endState outcome state ⌝ }
+{
+    let Outcome::Passed = outcome else {
+        return State::blank(2);
+    };
+    state
+}
+
+// Fills tables until one passes, no number or no block is left, or an operation is silent or cut.
+pub fn fill_tables(
+    from: Bus,
+    g: Geometry,
+    array: &mut [u8],
+    register: &mut [u8],
+    history: &mut [u8],
+    mask: &[u8],
+    fates: &[u32],
+    state: State,
+    held: &[u8; 512],
+    page: &mut [u8],
+) -> Tabled
+    requires { ⌜ Called (setting g (now mask) (now fates)) (line from (now array) (now register) (now history)) ⌝ }
+    requires { ⌜ length (now page) ≡ pageSize g ⌝ }
+    requires { ⌜ state .last < g .blocks ⌝ }
+    ensures { λ r. ⌜ TabledAs (setting g (now (mask .entry)) (now (fates .entry))) (now (held .entry)) state (line from (now (array .entry)) (now (register .entry)) (now (history .entry))) (line (r .bus) (now (array .exit)) (now (register .exit)) (now (history .exit))) (r .answer) (r .state) ⌝ }
+{
+    let mut b = from;
+    let mut st = state;
+    while !st.is_spent() {
+        let tried = try_table(b, g, array, register, history, mask, fates, st, held, page);
+        b = tried.bus;
+        st = tried.state;
+        let worn = tried.worn;
+        let outcome = tried.outcome;
+        if worn != 0 {
+            return Tabled {
+                bus: b,
+                answer: 8,
+                state: State::blank(2),
+            };
+        }
+        let Outcome::Failed = outcome else {
+            return Tabled {
+                bus: b,
+                answer: end_answer(outcome),
+                state: end_state(outcome, st),
+            };
+        };
+    }
+    Tabled {
+        bus: b,
+        answer: 9,
+        state: State::blank(2),
     }
 }

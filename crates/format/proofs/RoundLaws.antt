@@ -27,34 +27,10 @@ use Rattle.copies.specs.Blocks.{blockIn, aboveTo}
 use Rattle.scan.specs.Progress.{Progress, progress}
 use Rattle.scan.specs.Scan.{pagesRead}
 use Rattle.scan.proofs.ReadOnLaws.{is-passed}
-use Rattle.fill.specs.Steps.{eraseOn, resumed}
+use Rattle.fill.specs.Steps.{eraseOn, resumed, isFailed}
+use Rattle.fill.proofs.OutcomeLaws.{failed-answered}
 use Rattle.fill.proofs.StepLaws.{passed-answered, erase-called, erase-on-line, erase-on-outcome}
-use Rattle.format.specs.Format.{isFailed, afterErase, blockErased, failedAt, aboveAt, Round, erasedTo, BlockDone, RoundDone}
-
--- the outcome's variant, by its number
-pub failed-by-tag : (o : Outcome) → tagOf the-type o ≡ 1 → isFailed o ≡ true
-unfolding isFailed
-failed-by-tag Passed h = absurd (omega (arith, h))
-failed-by-tag Failed h = refl
-failed-by-tag Silent h = absurd (omega (arith, h))
-failed-by-tag Cut h = absurd (omega (arith, h))
-failed-by-tag Illegal h = absurd (omega (arith, h))
-
-pub unfailed-by-tag : (o : Outcome) → OneOf (0 ∷ 2 ∷ 3 ∷ 4 ∷ []) (tagOf the-type o) → isFailed o ≡ false
-unfolding isFailed
-unfailed-by-tag Passed h = refl
-unfailed-by-tag Failed h = absurd (⊎-elim (λ e. omega (arith, e)) (⊎-elim (λ e. omega (arith, e)) (⊎-elim (λ e. omega (arith, e)) (λ e. omega (arith, e)))) h)
-unfailed-by-tag Silent h = refl
-unfailed-by-tag Cut h = refl
-unfailed-by-tag Illegal h = refl
-
-failed-answered : (o : Outcome) → isFailed o ≡ true → answered o ≡ true
-unfolding isFailed answered
-failed-answered Passed t = absurd (false≢true t)
-failed-answered Failed t = refl
-failed-answered Silent t = absurd (false≢true t)
-failed-answered Cut t = absurd (false≢true t)
-failed-answered Illegal t = absurd (false≢true t)
+use Rattle.format.specs.Format.{afterErase, blockErased, failedAt, aboveAt, Round, erasedTo, BlockDone, RoundDone}
 
 -- a block with a factory mark
 pub block-marked : (s : Setting) (marked : List ℕ) (l : Line) (block : ℕ) → bitAt marked block ≡ true → Called s l → BlockDone s marked l l Passed block 0 0

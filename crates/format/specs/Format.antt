@@ -20,20 +20,13 @@ use Rattle.copies.specs.Blocks.{blockIn, aboveTo, markByte}
 use Rattle.scan.specs.Progress.{Progress, progress, readOn}
 use Rattle.found.specs.Found.{marksTo}
 use Rattle.scan.specs.Scan.{pagesRead}
-use Rattle.fill.specs.Steps.{eraseOn, resumed}
+use Rattle.fill.specs.Steps.{eraseOn, resumed, isFailed}
 
 -- the mark bytes of pages 0 and 1 of the first n blocks, one byte each
 unfoldable pub marksRead : Setting → ℕ → Progress → Progress
 marksRead s zero p = p
 marksRead s (suc n) p =
     readOn s (rowOf (s .geometry) n 1) (s .geometry .main) 1 (readOn s (rowOf (s .geometry) n 0) (s .geometry .main) 1 (marksRead s n p))
-
-unfoldable pub isFailed : Outcome → Bool
-isFailed Passed = false
-isFailed Failed = true
-isFailed Silent = false
-isFailed Cut = false
-isFailed Illegal = false
 
 -- after an erase that failed every page of its block is read whole
 unfoldable pub afterErase : Setting → ℕ → Progress → Progress

@@ -8,7 +8,8 @@ use Rattle.bus.specs.Line.{line, sendAll}
 use Rattle.sequences.specs.Cycles.{eraseCycles}
 use Rattle.copies.specs.declared.Summary.{Summary}
 use Rattle.copies.proofs.BlockLaws.{summed-above}
-use Rattle.format.proofs.RoundLaws.{failed-by-tag, unfailed-by-tag, block-marked, block-unfailed, failed-called, block-failed}
+use Rattle.fill.proofs.OutcomeLaws.{failed-by-tag, unfailed-by-tag}
+use Rattle.format.proofs.RoundLaws.{block-marked, block-unfailed, failed-called, block-failed}
 use borrow.Author.Needs.{needs}
 use Rattle.format.proofs.erase_block.Statement.{statement}
 use Rattle.format.proofs.erase_block.Tie as tie
