@@ -1,14 +1,16 @@
 -- How a request is answered by the tag of the operation's outcome, and what sizes that go together mean. Assumes nothing.
-use Prim.Native.Nat.{ℕ}
+use Prim.Native.Nat.{ℕ, _-_, _≤_}
 use mathlib.Core.Bool.{true, cond}
-use mathlib.Core.Path.{_≡_, refl}
+use mathlib.Core.Path.{_≡_, refl, _∙_}
 use native.Mathlib.Omega.{arith}
 use borrow.Author.Tests.{eqb-true}
 use denote.Enum.Declared.{tagOf}
 use lib.Dec.{eqb}
+use lib.ListN.{length, take, drop, replicate, length-replicate}
 use Rattle.geometry.specs.declared.Geometry.{Geometry}
 use Rattle.geometry.specs.Sizes.{blockSize}
 use Rattle.geometry.proofs.LimitLaws.{both}
+use Rattle.cells.proofs.PartLaws.{length-part}
 use Rattle.array.specs.Device.{fitting, Fitting}
 use Rattle.array.proofs.DeviceLaws.{fits}
 use Rattle.polling.specs.declared.Outcome.{Outcome}
@@ -37,3 +39,7 @@ unfolding sized
 sizes g a r h m t =
     let b = both (fitting g a r h) (eqb m (blockSize g)) t in
     record { chip-fits = fits g a r h (b .0); mask-long = eqb-true m (blockSize g) (b .1) }
+
+-- a page buffer that is lent as long as a page
+pub lent-page : (n k : ℕ) → n ≤ 4352 → n ≡ k → length (take (n - 0) (drop 0 (replicate {A = ℕ} 4352 0))) ≡ k
+lent-page n k h e = length-part 0 (n - 0) (replicate {A = ℕ} 4352 0) (omega (arith, h, length-replicate {A = ℕ} 4352 0)) ∙ omega (arith, e)

@@ -1,2 +1,5 @@
+pub mod EndLaws
 pub mod MarkLaws
+pub mod ResetLaws
 pub mod RoundLaws
+pub mod WholeLaws

@@ -17,9 +17,13 @@ use Rattle.bus.specs.Line.{Line}
 use Rattle.operations.specs.Ends.{Called}
 use Rattle.operations.specs.Trace.{ArrayOperation}
 use Rattle.copies.specs.Blocks.{blockIn, aboveTo, markByte}
-use Rattle.scan.specs.Progress.{Progress, progress, readOn}
+use Rattle.scan.specs.Progress.{Progress, progress, readOn, resetOn}
 use Rattle.found.specs.Found.{marksTo}
 use Rattle.scan.specs.Scan.{pagesRead}
+use Rattle.state.specs.State.{blank, countPermitted}
+use Rattle.state.specs.declared.State.{State}
+use Rattle.calls.specs.Call.{Result, result, sizedFor, callLine, stopAnswer, endAt}
+use Rattle.fill.specs.Tables.{Tabled, tablesFilled, numbersLeft}
 use Rattle.fill.specs.Steps.{eraseOn, resumed, isFailed}
 
 -- the mark bytes of pages 0 and 1 of the first n blocks, one byte each
@@ -96,3 +100,43 @@ pub record RoundDone (s : Setting) (marked : List ℕ) (l m : Line) (o : Outcome
   pub next : isPassed o ≡ true → Called s m
   pub invalid-is : isPassed o ≡ true → (cs : List Cycle) (os : List ArrayOperation) → invalid ≡ erasedTo s marked (s .geometry .blocks) (progress l Passed cs os) .invalid
   pub above-is : isPassed o ≡ true → (cs : List Cycle) (os : List ArrayOperation) → above ≡ erasedTo s marked (s .geometry .blocks) (progress l Passed cs os) .above
+
+-- the state before the first table: formatting starts at block 0, and no logical block has a copy
+unfoldable pub firstState : Geometry → List ℕ → List ℕ → ℕ → State
+firstState g marked invalid above =
+    record { status = 1; table = 0; last = g .blocks - 1; number = cond (eqb above 0) 1 above; marked = marked; invalid = invalid; map = replicate 4096 65535 }
+
+-- under N + 2 blocks are unmarked and valid
+unfoldable pub tooFew : Geometry → List ℕ → List ℕ → Bool
+tooFew g marked invalid = ltb (countPermitted marked invalid (replicate 512 0) (g .blocks)) (g .logical + 2)
+
+-- an operation was silent or cut
+abbrev pub stopAt : ℕ → Progress → Result
+stopAt n p = endAt n (stopAnswer (p .outcome)) (blank 2) (p .line)
+
+-- the count of blocks, then table fills
+abbrev pub tablesOf : Setting → List ℕ → List ℕ → ℕ → Progress → Tabled
+tablesOf s marked invalid above p =
+    tablesFilled s (replicate 512 0) (numbersLeft (firstState (s .geometry) marked invalid above)) (firstState (s .geometry) marked invalid above) p
+
+unfoldable pub tablesEnd : Setting → ℕ → List ℕ → List ℕ → ℕ → Progress → Result
+tablesEnd s n marked invalid above p =
+    cond (tooFew (s .geometry) marked invalid) (endAt n 8 (blank 2) (p .line))
+    (endAt n (tablesOf s marked invalid above p .answer) (tablesOf s marked invalid above p .state) (tablesOf s marked invalid above p .progress .line))
+
+-- the first round of erases and what follows it
+unfoldable pub roundEnd : Setting → ℕ → List ℕ → Progress → Result
+roundEnd s n marked p =
+    let r = erasedTo s marked (s .geometry .blocks) p in
+    cond (isPassed (r .progress .outcome)) (tablesEnd s n marked (r .invalid) (r .above) (r .progress)) (stopAt n (r .progress))
+
+-- the marks and what follows them
+unfoldable pub marksEnd : Setting → ℕ → Progress → Result
+marksEnd s n p =
+    let q = marksRead s (s .geometry .blocks) p in
+    cond (isPassed (q .outcome)) (roundEnd s n (marksTo (s .geometry) (q .line .chip .array) (s .geometry .blocks)) q) (stopAt n q)
+
+-- the request: a reset, and all of that
+unfoldable pub formatting : Setting → Device → ℕ → State → Result
+formatting s d n state =
+    cond (sizedFor s d) (marksEnd s n (resetOn s (progress (callLine d n) Passed [] []))) (result 1 state d 0)

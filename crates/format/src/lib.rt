@@ -1,15 +1,19 @@
 // Formatting: marks are read, every unmarked block is erased, and a table is filled.
 use bus::Bus;
+use calls::Returned;
 use geometry::Geometry;
+use interface::Interface;
 use polling::Outcome;
+use state::State;
 ghost use mathlib.Core.Bool.{true, false, cond};
 ghost use lib.Dec.{eqb};
 ghost use mathlib.Core.List.{List};
 ghost use mathlib.Core.Path.{_≡_};
-ghost use Prim.Native.Nat.{_<_, max};
+ghost use Prim.Native.Nat.{_<_, _≤_, max};
 ghost use lib.ListN.{length};
 ghost use Rattle.geometry.specs.Sizes.{pageSize};
-ghost use Rattle.array.specs.Device.{setting};
+ghost use Rattle.geometry.specs.Limits.{Valid};
+ghost use Rattle.array.specs.Device.{device, setting};
 ghost use Rattle.chip.specs.Chip.{Cycle};
 ghost use Rattle.bus.specs.Line.{line};
 ghost use Rattle.polling.specs.Polling.{isPassed};
@@ -17,8 +21,9 @@ ghost use Rattle.polling.specs.declared.Outcome.the-variants.{Passed};
 ghost use Rattle.operations.specs.Ends.{Called};
 ghost use Rattle.operations.specs.Trace.{ArrayOperation};
 ghost use Rattle.scan.specs.Progress.{progress};
+ghost use Rattle.calls.specs.Call.{result};
 ghost use Rattle.bitmaps.specs.Bitmap.{withBit};
-ghost use Rattle.format.specs.Format.{MarkRead, MarksFound, BlockDone, RoundDone};
+ghost use Rattle.format.specs.Format.{MarkRead, MarksFound, BlockDone, RoundDone, firstState, tablesEnd, roundEnd, marksEnd, formatting};
 
 // The bus after the mark bytes were read, how the last read ended, and the marks if all passed.
 struct Marks {
@@ -290,4 +295,178 @@ fn erase_all(
         invalid,
         above,
     }
+}
+
+// The state before the first table: the search starts at block 0, and no logical block has a copy.
+fn first_state(g: Geometry, marked: [u8; 512], invalid: [u8; 512], above: u64) -> State
+    requires { ⌜ Valid g ⌝ }
+    ensures { λ r. ⌜ r ≡ firstState g marked invalid above ⌝ }
+{
+    let last = g.blocks - 1;
+    let mut number = above;
+    if above == 0 {
+        number = 1;
+    }
+    State {
+        status: 1,
+        table: 0,
+        last,
+        number,
+        marked,
+        invalid,
+        map: [65535; 4096],
+    }
+}
+
+// The count of blocks, and table fills until one passes.
+fn fill_first(
+    from: Bus,
+    g: Geometry,
+    array: &mut [u8],
+    register: &mut [u8],
+    history: &mut [u8],
+    mask: &[u8],
+    fates: &[u32],
+    marked: [u8; 512],
+    invalid: [u8; 512],
+    above: u64,
+    page: &mut [u8],
+    allowed: u32,
+) -> Returned
+    requires { ⌜ Called (setting g (now mask) (now fates)) (line from (now array) (now register) (now history)) ⌝ }
+    requires { ⌜ length (now page) ≡ pageSize g ⌝ }
+    requires { ⌜ from .left ≤ allowed ⌝ }
+    ensures { λ r. ⌜ ((cs : List Cycle) (os : List ArrayOperation) → result (r .answer) (r .state) (device (r .interface) (now (array .exit)) (now (register .exit)) (now (history .exit))) (r .sent) ≡ tablesEnd (setting g (now (mask .entry)) (now (fates .entry))) allowed marked invalid above (progress (line from (now (array .entry)) (now (register .entry)) (now (history .entry))) Passed cs os)) ⌝ }
+{
+    let held = [0u8; 512];
+    if state::count_permitted(&marked, &invalid, &held, g.blocks) < g.logical + 2 {
+        return calls::end(8, State::blank(2), from, allowed);
+    }
+    let first = first_state(g, marked, invalid, above);
+    let tabled = fill::fill_tables(
+        from,
+        g,
+        array,
+        register,
+        history,
+        mask,
+        fates,
+        first,
+        &held,
+        page,
+    );
+    let bus = tabled.bus;
+    let next = tabled.state;
+    let answer = tabled.answer;
+    calls::end(answer, next, bus, allowed)
+}
+
+// The first round of erases and the table fills.
+fn erase_and_fill(
+    from: Bus,
+    g: Geometry,
+    array: &mut [u8],
+    register: &mut [u8],
+    history: &mut [u8],
+    mask: &[u8],
+    fates: &[u32],
+    marked: [u8; 512],
+    allowed: u32,
+) -> Returned
+    requires { ⌜ Called (setting g (now mask) (now fates)) (line from (now array) (now register) (now history)) ⌝ }
+    requires { ⌜ from .left ≤ allowed ⌝ }
+    ensures { λ r. ⌜ ((cs : List Cycle) (os : List ArrayOperation) → result (r .answer) (r .state) (device (r .interface) (now (array .exit)) (now (register .exit)) (now (history .exit))) (r .sent) ≡ roundEnd (setting g (now (mask .entry)) (now (fates .entry))) allowed marked (progress (line from (now (array .entry)) (now (register .entry)) (now (history .entry))) Passed cs os)) ⌝ }
+{
+    let mut page = [0u8; 4352];
+    let size = geometry::page_size(g);
+    let erased = erase_all(
+        from,
+        g,
+        array,
+        register,
+        history,
+        mask,
+        fates,
+        &marked,
+        &mut page[0..size],
+    );
+    let b = erased.bus;
+    let outcome = erased.outcome;
+    let Outcome::Passed = outcome else {
+        return calls::end(calls::stop_answer(outcome), State::blank(2), b, allowed);
+    };
+    let invalid = erased.invalid;
+    let above = erased.above;
+    let mut first = [0u8; 4352];
+    fill_first(
+        b,
+        g,
+        array,
+        register,
+        history,
+        mask,
+        fates,
+        marked,
+        invalid,
+        above,
+        &mut first[0..size],
+        allowed,
+    )
+}
+
+// The marks, the first round of erases and the table fills, once the chip is reset.
+fn mark_and_erase(
+    from: Bus,
+    g: Geometry,
+    array: &mut [u8],
+    register: &mut [u8],
+    history: &mut [u8],
+    mask: &[u8],
+    fates: &[u32],
+    allowed: u32,
+) -> Returned
+    requires { ⌜ Called (setting g (now mask) (now fates)) (line from (now array) (now register) (now history)) ⌝ }
+    requires { ⌜ from .left ≤ allowed ⌝ }
+    ensures { λ r. ⌜ ((cs : List Cycle) (os : List ArrayOperation) → result (r .answer) (r .state) (device (r .interface) (now (array .exit)) (now (register .exit)) (now (history .exit))) (r .sent) ≡ marksEnd (setting g (now (mask .entry)) (now (fates .entry))) allowed (progress (line from (now (array .entry)) (now (register .entry)) (now (history .entry))) Passed cs os)) ⌝ }
+{
+    let marks = read_marks(from, g, array, register, history, mask, fates);
+    let b = marks.bus;
+    let outcome = marks.outcome;
+    let Outcome::Passed = outcome else {
+        return calls::end(calls::stop_answer(outcome), State::blank(2), b, allowed);
+    };
+    let marked = marks.marked;
+    erase_and_fill(b, g, array, register, history, mask, fates, marked, allowed)
+}
+
+// The request, of any state, chip, mask, fate words and allowance.
+pub fn format(
+    state: State,
+    g: Geometry,
+    interface: Interface,
+    array: &mut [u8],
+    register: &mut [u8],
+    history: &mut [u8],
+    mask: &[u8],
+    fates: &[u32],
+    allowed: u32,
+) -> Returned
+    ensures { λ r. ⌜ result (r .answer) (r .state) (device (r .interface) (now (array .exit)) (now (register .exit)) (now (history .exit))) (r .sent) ≡ formatting (setting g (now (mask .entry)) (now (fates .entry))) (device interface (now (array .entry)) (now (register .entry)) (now (history .entry))) allowed state ⌝ }
+{
+    if !calls::is_sized(g, array.len(), register.len(), history.len(), mask.len()) {
+        return Returned {
+            answer: 1,
+            state,
+            interface,
+            sent: 0,
+        };
+    }
+    let start = calls::begin(interface, allowed);
+    let done = operations::reset(start, g, array, register, history, mask, fates);
+    let b = done.bus;
+    let outcome = done.outcome;
+    let Outcome::Passed = outcome else {
+        return calls::end(calls::stop_answer(outcome), State::blank(2), b, allowed);
+    };
+    mark_and_erase(b, g, array, register, history, mask, fates, allowed)
 }

@@ -5,8 +5,7 @@ use mathlib.Core.List.{List, []}
 use mathlib.Core.Path.{_≡_, refl, sym, ap, ap₂, _∙_}
 use native.Mathlib.Omega.{arith}
 use borrow.Author.Tests.{eq-eqb, ne-eqb}
-use lib.ListN.{length, take, drop, replicate, length-replicate}
-use Rattle.cells.proofs.PartLaws.{length-part}
+use lib.ListN.{length, replicate, length-replicate}
 use Rattle.geometry.specs.declared.Geometry.{Geometry}
 use Rattle.geometry.specs.Limits.{Valid}
 use Rattle.geometry.specs.Sizes.{chipSize}
@@ -85,9 +84,6 @@ module _ (g : Geometry) (v : Valid g) (array after : List ℕ) (long : length ar
   state-found z =
       ap₂ (stateOf g) f e ∙ state-is g v array long (ap (mountAnswer g) (sym same) ∙ z) ∙ ap (mountedState g) (sym same)
 
--- the page buffer that is lent, and the buffers for what is found
-pub lent-page : (n k : ℕ) → n ≤ 4352 → n ≡ k → length (take (n - 0) (drop 0 (replicate {A = ℕ} 4352 0))) ≡ k
-lent-page n k h e = length-part 0 (n - 0) (replicate {A = ℕ} 4352 0) (omega (arith, h, length-replicate {A = ℕ} 4352 0)) ∙ omega (arith, e)
-
+-- the buffers for what is found
 pub room : (n : ℕ) → n ≤ 4096 → n ≤ length (replicate {A = ℕ} 4096 0)
 room n h = omega (arith, h, length-replicate {A = ℕ} 4096 0)

@@ -1,25 +1,17 @@
 -- The reset with which a mount begins: its sizes, its line, and what follows it. Assumes nothing.
-use Prim.Native.Nat.{ℕ, _+_, _≤_}
-use mathlib.Core.Bool.{true, false, cond, false≢true}
+use Prim.Native.Nat.{ℕ}
+use mathlib.Core.Bool.{true, false}
 use mathlib.Core.List.{List, []}
-use mathlib.Core.Path.{_≡_, refl, sym, ap, subst, _∙_}
+use mathlib.Core.Path.{_≡_, refl, sym, ap, _∙_}
 use native.Mathlib.Nat.{add-zero}
-use native.Mathlib.Omega.{arith}
-use borrow.Table.Steps.{cases}
-use borrow.Author.Tests.{ltb-false}
-use lib.Dec.{ltb}
-use lib.ListN.{length}
 use Rattle.array.specs.Device.{Device, Setting}
 use Rattle.chip.specs.Chip.{Cycle}
 use Rattle.bus.specs.Line.{Line, sendAll, sent}
-use Rattle.bus.proofs.LineLaws.{sent-counts}
 use Rattle.polling.specs.Polling.{isPassed, endedAs}
 use Rattle.polling.specs.declared.Outcome.{Outcome}
-use Rattle.polling.specs.declared.Outcome.the-variants.{Passed, Cut}
+use Rattle.polling.specs.declared.Outcome.the-variants.{Passed}
 use Rattle.sequences.specs.Cycles.{resetCycles}
-use Rattle.operations.specs.Ends.{Called, End, endOfReset, resetEnd}
 use Rattle.operations.specs.Trace.{ArrayOperation}
-use Rattle.operations.proofs.ResetLaws.{reset-ends, reset-next}
 use Rattle.state.specs.State.{blank}
 use Rattle.state.specs.declared.State.{State}
 use Rattle.scan.specs.Progress.{Progress, progress, resetOn}
@@ -27,7 +19,7 @@ use Rattle.scan.specs.Scan.{blocksRead}
 use Rattle.scan.proofs.ChipLaws.{blocks-stopped}
 use Rattle.scan.proofs.ReadOnLaws.{is-passed}
 use Rattle.calls.specs.Call.{Result, result, sizedFor, callLine, endAt, stopAnswer}
-use Rattle.calls.proofs.CallLaws.{Sized, sizes}
+use Rattle.calls.proofs.ResetLaws.{reset-outcome}
 use Rattle.mount.specs.Mount.{mountRun, mountEnd, mounting}
 use Rattle.mount.proofs.EndLaws.{stopped-end}
 
@@ -37,37 +29,14 @@ unfolding mounting
 not-sized s d n state f = rw f
 
 module _ (s : Setting) (d : Device) (n : ℕ) (t : sizedFor s d ≡ true) where
-  all-sizes : Sized (s .geometry) (length (d .array)) (length (d .register)) (length (d .history)) (length (s .mask))
-  all-sizes = sizes (s .geometry) (length (d .array)) (length (d .register)) (length (d .history)) (length (s .mask)) t
-
   -- the reset as a step of the request
   reset-is : resetOn s (progress (callLine d n) Passed [] []) ≡ progress (sendAll s (callLine d n) resetCycles) (endedAs (sendAll s (callLine d n) resetCycles)) (sent s (callLine d n) resetCycles) []
   unfolding resetOn isPassed
   reset-is = refl
 
   module _ (m : Line) (o : Outcome) (e : m ≡ sendAll s (callLine d n) resetCycles) (q : o ≡ endedAs m) where
-    pub reset-left : m .left ≤ n
-    reset-left = omega (arith, sent-counts s (callLine d n) resetCycles, ap (λ (x : Line). x .left) e)
-
     outcome-is : o ≡ endedAs (sendAll s (callLine d n) resetCycles)
-    outcome-is = q ∙ ap endedAs e
-
-    enough : isPassed o ≡ true → 3 ≤ n
-    unfolding endOfReset resetEnd isPassed
-    enough p =
-        let ends : o ≡ cond (ltb n 3) Cut Passed = outcome-is ∙ ap (λ (x : End). x .outcome) (reset-ends s (callLine d n) refl refl) in
-        cases (ltb n 3)
-        (λ u.
-        let cut : o ≡ Cut = ends ∙ rw u in
-        absurd (false≢true (sym (ap isPassed cut) ∙ p)))
-        (λ u. ltb-false n 3 u)
-
-    -- it passed: the chip takes the next operation
-    pub reset-called : isPassed o ≡ true → Called s m
-    reset-called p =
-        let z = all-sizes in
-        subst (Called s) (sym e)
-        (reset-next s (callLine d n) refl refl (enough p) (z .chip-fits .is-valid) (z .chip-fits .array-long) (z .chip-fits .register-long) (z .chip-fits .history-long) (z .mask-long))
+    outcome-is = reset-outcome s d n t m o e q
 
     -- it did not
     pub reset-stopped : (state : State) (a : ℕ) (st : State) → isPassed o ≡ false → a ≡ stopAnswer o → st ≡ blank 2 → endAt n a st m ≡ mounting s d n state

@@ -48,7 +48,7 @@ fn is_empty_from(map: &[u16; 4096], logical: usize) -> bool
 }
 
 // How many blocks may be filled.
-fn count_permitted(
+pub fn count_permitted(
     marked: &[u8; 512],
     invalid: &[u8; 512],
     held: &[u8; 512],

@@ -7,7 +7,8 @@ use Rattle.bus.specs.Line.{line, sendAll}
 use Rattle.bus.specs.declared.Bus.{Bus}
 use Rattle.polling.proofs.PollLaws.{passed-by-tag, other-by-tag}
 use Rattle.sequences.specs.Cycles.{resetCycles}
-use Rattle.mount.proofs.ResetLaws.{not-sized, reset-left, reset-called, reset-stopped, reset-passed}
+use Rattle.mount.proofs.ResetLaws.{not-sized, reset-stopped, reset-passed}
+use Rattle.calls.proofs.ResetLaws.{reset-left, reset-called}
 use borrow.Author.Needs.{needs}
 use Rattle.mount.proofs.mount.Statement.{statement}
 use Rattle.mount.proofs.mount.Tie as tie

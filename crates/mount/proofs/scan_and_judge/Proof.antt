@@ -15,7 +15,8 @@ use Rattle.scan.specs.Progress.{progress}
 use Rattle.scan.specs.Scan.{blocksRead}
 use Rattle.found.specs.Contents.{contents}
 use Rattle.found.proofs.FoundLaws.{table-small}
-use Rattle.mount.proofs.EndLaws.{scan-left, stopped-end, refused-end, mounted-end, answer-found, state-found, lent-page, room}
+use Rattle.mount.proofs.EndLaws.{scan-left, stopped-end, refused-end, mounted-end, answer-found, state-found, room}
+use Rattle.calls.proofs.CallLaws.{lent-page}
 use borrow.Author.Needs.{needs}
 use Rattle.mount.proofs.scan_and_judge.Statement.{statement}
 use Rattle.mount.proofs.scan_and_judge.Tie as tie

@@ -1,0 +1,77 @@
+-- The cycles of fills: those in a request's trace and those still allowed are as many as were allowed. Assumes nothing.
+use Prim.Native.Nat.{ℕ, zero, suc, _+_}
+use mathlib.Core.Bool.{true, false}
+use mathlib.Core.List.{List, _++_}
+use mathlib.Core.Path.{_≡_, refl, ap, _∙_}
+use native.Mathlib.Omega.{arith}
+use borrow.Table.Steps.{cases}
+use lib.Dec.{eqb}
+use lib.ListN.{length, length-append}
+use Rattle.geometry.specs.Sizes.{rowOf}
+use Rattle.array.specs.Device.{Setting}
+use Rattle.chip.specs.Chip.{Cycle}
+use Rattle.bus.specs.Line.{Line, sendAll, sent}
+use Rattle.bus.proofs.LineLaws.{sent-counts}
+use Rattle.polling.specs.Polling.{isPassed}
+use Rattle.sequences.specs.Cycles.{eraseCycles, programCycles}
+use Rattle.state.specs.Choose.{chosen}
+use Rattle.state.specs.declared.State.{State}
+use Rattle.state.specs.declared.choose.Choice.{Choice}
+use Rattle.state.specs.declared.choose.Choice.the-variants.{Block, Worn}
+use Rattle.scan.specs.Progress.{Progress, readOn}
+use Rattle.scan.proofs.CountLaws.{allowance, read-counts}
+use Rattle.fill.specs.Fill.{Copy, Source, given, kept, pageOf, pageFilled, pagesFilled, tableFilled, tableCopy, tableSource}
+use Rattle.fill.specs.Steps.{eraseOn, programOn, isFailed}
+use Rattle.fill.specs.Tables.{tryBlock, tryTable, tablesFilled}
+
+more : (s : Setting) (l : Line) (before cs : List Cycle) → length (before ++ sent s l cs) + sendAll s l cs .left ≡ length before + l .left
+more s l before cs = omega (arith, length-append before (sent s l cs), sent-counts s l cs)
+
+module _ (s : Setting) where
+  pub erase-counts : (block : ℕ) (p : Progress) → allowance (eraseOn s block p) ≡ allowance p
+  unfolding eraseOn
+  erase-counts block p =
+      cases (isPassed (p .outcome))
+      (λ t. rw t (more s (p .line) (p .cycles) (eraseCycles s (p .line) (rowOf (s .geometry) block 0))))
+      (λ t. rw t)
+
+  pub program-counts : (block page : ℕ) (bytes : List ℕ) (p : Progress) → allowance (programOn s block page bytes p) ≡ allowance p
+  unfolding programOn
+  program-counts block page bytes p =
+      cases (isPassed (p .outcome))
+      (λ t. rw t (more s (p .line) (p .cycles) (programCycles s (p .line) (rowOf (s .geometry) block page) bytes)))
+      (λ t. rw t)
+
+  page-counts : (block : ℕ) (c : Copy) (n : ℕ) (source : Source) (p : Progress) → allowance (pageFilled s block c n source p) ≡ allowance p
+  unfolding pageFilled
+  page-counts block c n (given main) p = program-counts block n _ p
+  page-counts block c n (kept old) p =
+      program-counts block n _ (readOn s (rowOf (s .geometry) old n) 0 (s .geometry .main) p) ∙ read-counts s (rowOf (s .geometry) old n) 0 (s .geometry .main) p
+
+  pub fill-counts : (block : ℕ) (c : Copy) (source : ℕ → Source) (n : ℕ) (p : Progress) → allowance (pagesFilled s block c source n p) ≡ allowance p
+  unfolding pagesFilled
+  fill-counts block c source zero p = refl
+  fill-counts block c source (suc n) p = page-counts block c n (source n) (pagesFilled s block c source n p) ∙ fill-counts block c source n p
+
+  block-counts : (st : State) (p : Progress) (c : Choice) → allowance (tryBlock s st p c .progress) ≡ allowance p
+  unfolding tryBlock
+  block-counts st p Worn = refl
+  block-counts st p (Block b) =
+      fill-counts b (tableCopy (st .number)) (tableSource (s .geometry) (st .invalid)) (s .geometry .pages) (eraseOn s b p) ∙ erase-counts b p
+
+  pub try-counts : (held : List ℕ) (st : State) (p : Progress) → allowance (tryTable s held st p .progress) ≡ allowance p
+  unfolding tryTable
+  try-counts held st p = block-counts st p (chosen (st .marked) (st .invalid) held (s .geometry .blocks) (st .last))
+
+  pub tables-count : (held : List ℕ) (k : ℕ) (st : State) (p : Progress) → allowance (tablesFilled s held k st p .progress) ≡ allowance p
+  unfolding tablesFilled
+  tables-count held zero st p = refl
+  tables-count held (suc k) st p =
+      let t = tryTable s held st p in
+      let here = try-counts held st p in
+      cases (eqb (t .worn) 0)
+      (λ w.
+      cases (isFailed (t .progress .outcome))
+      (λ f. rw (w, f) (tables-count held k (t .state) _ ∙ here))
+      (λ f. rw (w, f) here))
+      (λ w. rw w here)

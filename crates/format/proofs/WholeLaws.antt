@@ -1,0 +1,114 @@
+-- A formatting from its marks on: where it stops, and what the first round hands to the table fills. Assumes nothing.
+use Prim.Native.Nat.{ℕ, zero, suc, _+_, _-_, _≤_}
+use mathlib.Core.Bool.{true, false}
+use mathlib.Core.List.{List, []}
+use mathlib.Core.Path.{_≡_, refl, sym, ap, _∙_}
+use native.Mathlib.Omega.{arith}
+use borrow.Table.Steps.{cases}
+use lib.ListN.{length}
+use Rattle.geometry.specs.Sizes.{rowOf}
+use Rattle.bitmaps.specs.Bitmap.{bitAt}
+use Rattle.array.specs.Device.{Setting}
+use Rattle.chip.specs.Chip.{Cycle}
+use Rattle.bus.specs.Line.{Line}
+use Rattle.polling.specs.Polling.{isPassed}
+use Rattle.polling.specs.declared.Outcome.{Outcome}
+use Rattle.polling.specs.declared.Outcome.the-variants.{Passed}
+use Rattle.operations.specs.Trace.{ArrayOperation}
+use Rattle.state.specs.State.{blank}
+use Rattle.state.specs.declared.State.{State}
+use Rattle.calls.specs.Call.{Result, endAt, stopAnswer}
+use Rattle.scan.specs.Progress.{Progress, progress, readOn}
+use Rattle.scan.proofs.CountLaws.{allowance, read-counts, pages-count}
+use Rattle.scan.proofs.ReadOnLaws.{is-passed}
+use Rattle.found.specs.Found.{marksTo}
+use Rattle.fill.specs.Steps.{eraseOn, isFailed, resumed}
+use Rattle.fill.proofs.CountLaws.{erase-counts}
+use Rattle.format.specs.Format.{marksRead, afterErase, blockErased, erasedTo, Round, round, MarksFound, RoundDone, stopAt, tablesEnd, roundEnd, marksEnd}
+
+-- the cycles of marks and of the first round
+module _ (s : Setting) where
+  marks-count : (n : ℕ) (p : Progress) → allowance (marksRead s n p) ≡ allowance p
+  unfolding marksRead
+  marks-count zero p = refl
+  marks-count (suc n) p =
+      read-counts s (rowOf (s .geometry) n 1) (s .geometry .main) 1 (readOn s (rowOf (s .geometry) n 0) (s .geometry .main) 1 (marksRead s n p))
+      ∙ read-counts s (rowOf (s .geometry) n 0) (s .geometry .main) 1 (marksRead s n p)
+      ∙ marks-count n p
+
+  after-count : (b : ℕ) (q : Progress) → allowance (afterErase s b q) ≡ allowance q
+  unfolding afterErase
+  after-count b q = cases (isFailed (q .outcome)) (λ f. rw f (pages-count s b (s .geometry .pages) (resumed q))) (λ f. rw f)
+
+  block-count : (marked : List ℕ) (b : ℕ) (p : Progress) → allowance (blockErased s marked b p) ≡ allowance p
+  unfolding blockErased
+  block-count marked b p =
+      cases (isPassed (p .outcome))
+      (λ t. cases (bitAt marked b) (λ u. rw (t, u)) (λ u. rw (t, u) (after-count b (eraseOn s b p) ∙ erase-counts s b p)))
+      (λ t. rw t)
+
+  round-count : (marked : List ℕ) (n : ℕ) (p : Progress) → allowance (erasedTo s marked n p .progress) ≡ allowance p
+  unfolding erasedTo
+  round-count marked zero p = refl
+  round-count marked (suc n) p = block-count marked n (erasedTo s marked n p .progress) ∙ round-count marked n p
+
+pub marks-left : (s : Setting) (l m : Line) (o : Outcome) (marked : List ℕ) → MarksFound s l m o marked → m .left ≤ l .left
+marks-left s l m o marked d =
+    omega (arith, marks-count s (s .geometry .blocks) (progress l Passed [] []), ap (λ (x : Line). x .left) (d .line-is [] []))
+
+pub round-left : (s : Setting) (marked : List ℕ) (l m : Line) (o : Outcome) (invalid : List ℕ) (above : ℕ) → RoundDone s marked l m o invalid above → m .left ≤ l .left
+round-left s marked l m o invalid above d =
+    omega (arith, round-count s marked (s .geometry .blocks) (progress l Passed [] []), ap (λ (x : Line). x .left) (d .line-is [] []))
+
+-- the end after an operation that did not pass
+pub stop-is : (n : ℕ) (p : Progress) (m : Line) (o : Outcome) (a : ℕ) (st : State) → m ≡ p .line → o ≡ p .outcome → a ≡ stopAnswer o → st ≡ blank 2 → endAt n a st m ≡ stopAt n p
+stop-is n p m o a st e q h k = λ i. endAt n ((h ∙ ap stopAnswer q) i) (k i) (e i)
+
+module _ (s : Setting) (n : ℕ) (l m : Line) (o : Outcome) (marked : List ℕ) (d : MarksFound s l m o marked) where
+  pub marks-stop : isPassed o ≡ false → (a : ℕ) (st : State) → a ≡ stopAnswer o → st ≡ blank 2 → (cs : List Cycle) (os : List ArrayOperation) → endAt n a st m ≡ marksEnd s n (progress l Passed cs os)
+  unfolding marksEnd
+  marks-stop f a st h k cs os =
+      let q = marksRead s (s .geometry .blocks) (progress l Passed cs os) in
+      let stops : isPassed (q .outcome) ≡ false = sym (ap isPassed (d .outcome-is cs os)) ∙ f in
+      rw stops (stop-is n q m o a st (d .line-is cs os) (d .outcome-is cs os) h k)
+
+  module _ (t : isPassed o ≡ true) where
+    -- the marks that the definition has
+    goes : (cs : List Cycle) (os : List ArrayOperation) → progress m Passed (marksRead s (s .geometry .blocks) (progress l Passed cs os) .cycles) (marksRead s (s .geometry .blocks) (progress l Passed cs os) .started) ≡ marksRead s (s .geometry .blocks) (progress l Passed cs os)
+    goes cs os =
+        let q = marksRead s (s .geometry .blocks) (progress l Passed cs os) in
+        λ i. record { line = d .line-is cs os i; outcome = (sym (is-passed o t) ∙ d .outcome-is cs os) i; cycles = q .cycles; started = q .started }
+
+    marked-is : (cs : List Cycle) (os : List ArrayOperation) → marked ≡ marksTo (s .geometry) (marksRead s (s .geometry .blocks) (progress l Passed cs os) .line .chip .array) (s .geometry .blocks)
+    marked-is cs os =
+        d .marked-are t ∙ ap (λ (x : List ℕ). marksTo (s .geometry) x (s .geometry .blocks)) (sym (d .same-array)) ∙ ap (λ (x : Line). marksTo (s .geometry) (x .chip .array) (s .geometry .blocks)) (d .line-is cs os)
+
+    -- what follows the marks, from line m on
+    pub marks-goes : (r : Result) → ((cs : List Cycle) (os : List ArrayOperation) → r ≡ roundEnd s n marked (progress m Passed cs os)) → (cs : List Cycle) (os : List ArrayOperation) → r ≡ marksEnd s n (progress l Passed cs os)
+    unfolding marksEnd
+    marks-goes r f cs os =
+        let q = marksRead s (s .geometry .blocks) (progress l Passed cs os) in
+        let passed : isPassed (q .outcome) ≡ true = sym (ap isPassed (d .outcome-is cs os)) ∙ t in
+        f (q .cycles) (q .started)
+        ∙ ap (roundEnd s n marked) (goes cs os)
+        ∙ ap (λ (x : List ℕ). roundEnd s n x q) (marked-is cs os)
+        ∙ rw passed
+
+module _ (s : Setting) (n : ℕ) (marked : List ℕ) (l m : Line) (o : Outcome) (invalid : List ℕ) (above : ℕ) (d : RoundDone s marked l m o invalid above) where
+  pub round-stop : isPassed o ≡ false → (a : ℕ) (st : State) → a ≡ stopAnswer o → st ≡ blank 2 → (cs : List Cycle) (os : List ArrayOperation) → endAt n a st m ≡ roundEnd s n marked (progress l Passed cs os)
+  unfolding roundEnd
+  round-stop f a st h k cs os =
+      let q = erasedTo s marked (s .geometry .blocks) (progress l Passed cs os) .progress in
+      let stops : isPassed (q .outcome) ≡ false = sym (ap isPassed (d .outcome-is cs os)) ∙ f in
+      rw stops (stop-is n q m o a st (d .line-is cs os) (d .outcome-is cs os) h k)
+
+  pub round-goes-on : isPassed o ≡ true → (r : Result) → ((cs : List Cycle) (os : List ArrayOperation) → r ≡ tablesEnd s n marked invalid above (progress m Passed cs os)) → (cs : List Cycle) (os : List ArrayOperation) → r ≡ roundEnd s n marked (progress l Passed cs os)
+  unfolding roundEnd
+  round-goes-on t r f cs os =
+      let e = erasedTo s marked (s .geometry .blocks) (progress l Passed cs os) in
+      let q = e .progress in
+      let passed : isPassed (q .outcome) ≡ true = sym (ap isPassed (d .outcome-is cs os)) ∙ t in
+      let same : progress m Passed (q .cycles) (q .started) ≡ q = λ i. record { line = d .line-is cs os i; outcome = (sym (is-passed o t) ∙ d .outcome-is cs os) i; cycles = q .cycles; started = q .started } in
+      let all : tablesEnd s n marked invalid above (progress m Passed (q .cycles) (q .started)) ≡ tablesEnd s n marked (e .invalid) (e .above) q =
+      λ i. tablesEnd s n marked (d .invalid-is t cs os i) (d .above-is t cs os i) (same i) in
+      f (q .cycles) (q .started) ∙ all ∙ rw passed

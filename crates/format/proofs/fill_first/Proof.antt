@@ -1,0 +1,79 @@
+-- `format::fill_first` meets its contract. Assumes nothing.
+use Prim.Native.Nat.{_<_}
+use mathlib.Core.Path.{sym, subst, _∙_}
+use native.Mathlib.Omega.{arith}
+use denote.Ref.{now}
+use Rattle.array.specs.Device.{setting}
+use Rattle.bus.specs.Line.{line}
+use Rattle.state.specs.declared.State.{State}
+use Rattle.format.specs.Format.{firstState}
+use Rattle.format.proofs.EndLaws.{few-end, tables-end, tables-left, last-small, tabled-from}
+use borrow.Author.Needs.{needs}
+use Rattle.format.proofs.fill_first.Statement.{statement}
+use Rattle.format.proofs.fill_first.Tie as tie
+
+count-permitted-requires : tie.Need-count-permitted-requires
+count-permitted-requires c κs = search needs
+
+add-if1 : tie.Need-add-if1
+add-if1 c = search needs
+
+blank-requires : tie.Need-blank-requires
+blank-requires c κs = search needs
+
+end-requires : tie.Need-end-requires
+end-requires c κs = search needs
+
+returns : tie.Need-returns
+returns c =
+    let s = c .before .before .before .before .before .before .before .before .before .before .before .before .before .before in
+    λ cs os. c .end .ensures _ _ _ ∙ few-end (setting (s .args .g) (now (s .args .mask)) (now (s .args .fates))) (s .args .allowed) (s .args .t8) (s .args .t9) (s .args .above) (c .before .before .before .before .count-permitted .result) (c .before .before .before .before .count-permitted .ensures) (c .before .before .if1 .taken) (line (s .args .from) (now (s .args .array)) (now (s .args .register)) (now (s .args .history))) _ (c .before .blank .ensures) cs os
+
+first-state-requires : tie.Need-first-state-requires
+first-state-requires c κs = search needs
+
+fill-tables-requires : tie.Need-fill-tables-requires
+fill-tables-requires c κs =
+    let s = c .before .before .before .before .before .before .before .before .before .before .before .before .before .before .before .before .before .before in
+    (s .pre .0, (s .pre .1 .0, subst (λ (x : State). x .last < s .args .g .blocks) (sym (c .before .before .before .before .before .first-state .ensures)) (last-small (s .args .g) (s .args .t8) (s .args .t9) (s .args .above) (s .pre .0 .is-valid))))
+
+end-requires-2 : tie.Need-end-requires-2
+end-requires-2 c κs =
+    let s = c .before .before .before .before .before .before .before .before .before .before .before .before .before .before .before .before .before .before .before .before .before .before .before .before .before .before .before .before .before in
+    omega (arith, s .pre .1 .1, tables-left (setting (s .args .g) (now (s .args .mask)) (now (s .args .fates))) _ _ (line (s .args .from) (now (s .args .array)) (now (s .args .register)) (now (s .args .history))) _ _ _ (c .before .before .before .before .before .before .before .before .before .before .fill-tables .ensures))
+
+same-length : tie.Need-same-length
+same-length c = search needs
+
+same-length-2 : tie.Need-same-length-2
+same-length-2 c = search needs
+
+same-length-3 : tie.Need-same-length-3
+same-length-3 c = search needs
+
+same-length-4 : tie.Need-same-length-4
+same-length-4 c = search needs
+
+returns-2 : tie.Need-returns-2
+returns-2 c =
+    let s = c .before .before .before .before .before .before .before .before .before .before .before .before .before .before .before .before .before .before .before .before .before .before .before .before .before .before .before .before .before .before in
+    let d = tabled-from (firstState (s .args .g) (s .args .t8) (s .args .t9) (s .args .above)) (c .before .before .before .before .before .before .before .before .before .before .before .before .before .before .before .before .before .first-state .ensures) (c .before .before .before .before .before .before .before .before .before .before .before .fill-tables .ensures) in
+    λ cs os. c .end2 .ensures _ _ _ ∙ tables-end (setting (s .args .g) (now (s .args .mask)) (now (s .args .fates))) (s .args .allowed) (s .args .t8) (s .args .t9) (s .args .above) (c .before .before .before .before .before .before .before .before .before .before .before .before .before .before .before .before .before .before .before .before .count-permitted .result) (c .before .before .before .before .before .before .before .before .before .before .before .before .before .before .before .before .before .before .before .before .count-permitted .ensures) (c .before .before .before .before .before .before .before .before .before .before .before .before .before .before .before .before .before .before .if1 .left) (line (s .args .from) (now (s .args .array)) (now (s .args .register)) (now (s .args .history))) _ _ _ d cs os
+
+pub fill-first-spec : {M : Type 1} → statement M
+fill-first-spec =
+    tie.close
+    (tie.spec
+    count-permitted-requires
+    add-if1
+    blank-requires
+    end-requires
+    returns
+    first-state-requires
+    fill-tables-requires
+    end-requires-2
+    same-length
+    same-length-2
+    same-length-3
+    same-length-4
+    returns-2)

@@ -1,0 +1,80 @@
+-- `format::mark_and_erase` meets its contract. Assumes nothing.
+use mathlib.Core.Path.{_∙_}
+use native.Mathlib.Omega.{arith}
+use denote.Ref.{now}
+use Rattle.array.specs.Device.{setting}
+use Rattle.bus.specs.Line.{line}
+use Rattle.polling.proofs.PollLaws.{passed-by-tag, other-by-tag}
+use Rattle.format.proofs.WholeLaws.{marks-left, marks-stop, marks-goes}
+use borrow.Author.Needs.{needs}
+use Rattle.format.proofs.mark_and_erase.Statement.{statement}
+use Rattle.format.proofs.mark_and_erase.Tie as tie
+
+read-marks-requires : tie.Need-read-marks-requires
+read-marks-requires c κs = search needs
+
+enum-told : tie.Need-enum-told
+enum-told c = search needs
+
+stop-answer-requires : tie.Need-stop-answer-requires
+stop-answer-requires c κs = search needs
+
+blank-requires : tie.Need-blank-requires
+blank-requires c κs = search needs
+
+end-requires : tie.Need-end-requires
+end-requires c κs =
+    let s = c .before .before .before .before .before .before .before .before .before .before .before .before .before .before .before .before .before .before .before in
+    omega (arith, s .pre .1, marks-left (setting (s .args .g) (now (s .args .mask)) (now (s .args .fates))) (line (s .args .from) (now (s .args .array)) (now (s .args .register)) (now (s .args .history))) _ _ _ (c .before .before .before .before .before .before .before .before .before .before .read-marks .ensures))
+
+same-length : tie.Need-same-length
+same-length c = search needs
+
+same-length-2 : tie.Need-same-length-2
+same-length-2 c = search needs
+
+same-length-3 : tie.Need-same-length-3
+same-length-3 c = search needs
+
+returns : tie.Need-returns
+returns c =
+    let s = c .before .before .before .before .before .before .before .before .before .before .before .before .before .before .before .before .before .before .before .before in
+    λ cs os. c .end .ensures _ _ _ ∙ marks-stop (setting (s .args .g) (now (s .args .mask)) (now (s .args .fates))) (s .args .allowed) (line (s .args .from) (now (s .args .array)) (now (s .args .register)) (now (s .args .history))) _ (c .before .before .before .before .before .before .before .before .before .before .before .read-marks .result .outcome) _ (c .before .before .before .before .before .before .before .before .before .before .before .read-marks .ensures) (other-by-tag _ (c .before .before .before .match .keys2)) _ _ (c .before .before .stop-answer .ensures) (c .before .blank .ensures) cs os
+
+erase-and-fill-requires : tie.Need-erase-and-fill-requires
+erase-and-fill-requires c κs =
+    let s = c .before .before .before .before .before .before .before .before .before .before .before .before .before .before .before .before .before .before .before .before .before .before in
+    (c .before .before .before .before .before .before .before .before .before .before .before .before .before .read-marks .ensures .next (passed-by-tag _ (c .before .before .before .before .before .match .keys1)), omega (arith, s .pre .1, marks-left (setting (s .args .g) (now (s .args .mask)) (now (s .args .fates))) (line (s .args .from) (now (s .args .array)) (now (s .args .register)) (now (s .args .history))) _ _ _ (c .before .before .before .before .before .before .before .before .before .before .before .before .before .read-marks .ensures)))
+
+same-length-4 : tie.Need-same-length-4
+same-length-4 c = search needs
+
+same-length-5 : tie.Need-same-length-5
+same-length-5 c = search needs
+
+same-length-6 : tie.Need-same-length-6
+same-length-6 c = search needs
+
+returns-2 : tie.Need-returns-2
+returns-2 c =
+    let s = c .before .before .before .before .before .before .before .before .before .before .before .before .before .before .before .before .before .before .before .before .before .before .before .before .before .before .before .before .before in
+    λ cs os. marks-goes (setting (s .args .g) (now (s .args .mask)) (now (s .args .fates))) (s .args .allowed) (line (s .args .from) (now (s .args .array)) (now (s .args .register)) (now (s .args .history))) _ (c .before .before .before .before .before .before .before .before .before .before .before .before .before .before .before .before .before .before .before .before .read-marks .result .outcome) _ (c .before .before .before .before .before .before .before .before .before .before .before .before .before .before .before .before .before .before .before .before .read-marks .ensures) (passed-by-tag _ (c .before .before .before .before .before .before .before .before .before .before .before .before .match .keys1)) _ (c .before .before .before .before .before .before .erase-and-fill .ensures) cs os
+
+pub mark-and-erase-spec : {M : Type 1} → statement M
+mark-and-erase-spec =
+    tie.close
+    (tie.spec
+    read-marks-requires
+    enum-told
+    stop-answer-requires
+    blank-requires
+    end-requires
+    same-length
+    same-length-2
+    same-length-3
+    returns
+    erase-and-fill-requires
+    same-length-4
+    same-length-5
+    same-length-6
+    returns-2)
