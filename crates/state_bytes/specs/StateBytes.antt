@@ -42,10 +42,10 @@ bytesState xs =
 
 -- each field is in the range of its type
 pub record Ranged (s : State) : Type 0 where
-  pub status-fits : s .status < 256 ^ 8
-  pub table-fits : s .table < 256 ^ 8
-  pub last-fits : s .last < 256 ^ 8
-  pub number-fits : s .number < 256 ^ 8
+  pub status-fits : s .status < 2 ^ 64
+  pub table-fits : s .table < 2 ^ 64
+  pub last-fits : s .last < 2 ^ 64
+  pub number-fits : s .number < 2 ^ 64
   pub marked-long : length (s .marked) ≡ 512
   pub marked-bytes : Bytes (s .marked)
   pub invalid-long : length (s .invalid) ≡ 512
