@@ -1,5 +1,5 @@
 -- The pieces of a state in a buffer, as they are written and read: numbers, bitmaps, the map. Assumes nothing.
-use Prim.Native.Nat.{ℕ, zero, suc, _+_, _-_, _*_, _/_, _≤_, _<_, zero-le}
+use Prim.Native.Nat.{ℕ, zero, suc, _+_, _*_, _/_, _≤_, _<_, zero-le}
 use mathlib.Core.List.{List, [], _∷_, _++_, append-nil, append-assoc}
 use mathlib.Core.Path.{_≡_, refl, sym, ap, ap₂, _∙_}
 use native.Mathlib.Nat.{zero-add, div-div-eq-div-mul}
@@ -192,17 +192,16 @@ next n m zs ys xs p q k l e f = (
 )
 
 -- the pieces of a state, written in their order
-pub stored : (s : State) (xs p₁ p₂ p₃ p₄ p₅ p₆ p₇ : List ℕ) → length xs ≡ 9248 → length (s .marked) ≡ 512 → length (s .invalid) ≡ 512 → length (s .map) ≡ 4096
+pub stored : (s : State) (xs p₁ p₂ p₃ p₄ p₅ p₆ : List ℕ) → length xs ≡ 9248 → length (s .marked) ≡ 512 → length (s .invalid) ≡ 512 → length (s .map) ≡ 4096
     → p₁ ≡ put 0 (bytesOf 8 (s .status)) xs
     → p₂ ≡ put 8 (bytesOf 8 (s .table)) p₁
     → p₃ ≡ put 16 (bytesOf 8 (s .last)) p₂
     → p₄ ≡ put 24 (bytesOf 8 (s .number)) p₃
-    → p₅ ≡ put 32 (s .marked) p₄
-    → p₆ ≡ put 544 (s .invalid) p₅
-    → p₇ ≡ put 1056 (pairs (s .map)) p₆
-    → p₇ ≡ stateBytes s
+    → p₅ ≡ put 544 (s .invalid) (put 32 (s .marked) p₄)
+    → p₆ ≡ put 1056 (pairs (s .map)) p₅
+    → p₆ ≡ stateBytes s
 unfolding stateBytes
-stored s xs p₁ p₂ p₃ p₄ p₅ p₆ p₇ long k₅ k₆ k₇ e₁ e₂ e₃ e₄ e₅ e₆ e₇ =
+stored s xs p₁ p₂ p₃ p₄ p₅ p₆ long k₅ k₆ k₇ e₁ e₂ e₃ e₄ e₅ e₆ =
     let f₁ : List ℕ = bytesOf 8 (s .status) in
     let f₂ : List ℕ = bytesOf 8 (s .table) in
     let f₃ : List ℕ = bytesOf 8 (s .last) in
@@ -211,9 +210,9 @@ stored s xs p₁ p₂ p₃ p₄ p₅ p₆ p₇ long k₅ k₆ k₇ e₁ e₂ e�
     let q₂ = next 8 8 f₂ f₁ xs p₁ p₂ (length-bytesOf 8 (s .status)) (length-bytesOf 8 (s .table)) e₁ e₂ in
     let q₃ = next 16 8 f₃ (f₁ ++ f₂) xs p₂ p₃ (q₂ .0) (length-bytesOf 8 (s .last)) (q₂ .1) e₃ in
     let q₄ = next 24 8 f₄ ((f₁ ++ f₂) ++ f₃) xs p₃ p₄ (q₃ .0) (length-bytesOf 8 (s .number)) (q₃ .1) e₄ in
-    let q₅ = next 32 512 (s .marked) (((f₁ ++ f₂) ++ f₃) ++ f₄) xs p₄ p₅ (q₄ .0) k₅ (q₄ .1) e₅ in
-    let q₆ = next 544 512 (s .invalid) ((((f₁ ++ f₂) ++ f₃) ++ f₄) ++ s .marked) xs p₅ p₆ (q₅ .0) k₆ (q₅ .1) e₆ in
-    let q₇ = next 1056 8192 f₇ (((((f₁ ++ f₂) ++ f₃) ++ f₄) ++ s .marked) ++ s .invalid) xs p₆ p₇ (q₆ .0) (length-pairs (s .map) ∙ omega (arith, k₇)) (q₆ .1) e₇ in
+    let q₅ = next 32 512 (s .marked) (((f₁ ++ f₂) ++ f₃) ++ f₄) xs p₄ (put 32 (s .marked) p₄) (q₄ .0) k₅ (q₄ .1) refl in
+    let q₆ = next 544 512 (s .invalid) ((((f₁ ++ f₂) ++ f₃) ++ f₄) ++ s .marked) xs (put 32 (s .marked) p₄) p₅ (q₅ .0) k₆ (q₅ .1) e₅ in
+    let q₇ = next 1056 8192 f₇ (((((f₁ ++ f₂) ++ f₃) ++ f₄) ++ s .marked) ++ s .invalid) xs p₅ p₆ (q₆ .0) (length-pairs (s .map) ∙ omega (arith, k₇)) (q₆ .1) e₆ in
     q₇ .1 ∙ put-whole _ xs (omega (arith, long, q₇ .0)) ∙ simp append-assoc
 
 -- the pieces of a state, read

@@ -49,6 +49,17 @@ fn write_bits(bytes: &mut [u8], at: usize, bits: &[u8])
     cells::copy(bits, &mut bytes[at..end]);
 }
 
+// Writes the factory marks and the invalid blocks.
+fn write_bitmaps(bytes: &mut [u8], marked: &[u8], invalid: &[u8])
+    requires { ⌜ length (now bytes) ≡ 9248 ⌝ }
+    requires { ⌜ length (now marked) ≡ 512 ⌝ }
+    requires { ⌜ length (now invalid) ≡ 512 ⌝ }
+    ensures { λ _. ⌜ now (bytes .exit) ≡ put 544 (now (invalid .entry)) (put 32 (now (marked .entry)) (now (bytes .entry))) ⌝ }
+{
+    write_bits(bytes, 32, marked);
+    write_bits(bytes, 544, invalid);
+}
+
 // A bitmap.
 fn bits_at(bytes: &[u8], at: usize) -> [u8; 512]
     requires { ⌜ at + 512 ≤ length (now bytes) ⌝ }
@@ -99,8 +110,7 @@ pub fn store(state: State, bytes: &mut [u8])
     write_number(bytes, 8, state.table);
     write_number(bytes, 16, state.last);
     write_number(bytes, 24, number);
-    write_bits(bytes, 32, &marked);
-    write_bits(bytes, 544, &invalid);
+    write_bitmaps(bytes, &marked, &invalid);
     write_map(bytes, &map);
 }
 

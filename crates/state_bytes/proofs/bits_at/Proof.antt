@@ -2,7 +2,6 @@
 use Prim.Native.Nat.{_+_, _-_}
 use mathlib.Core.Path.{refl}
 use native.Mathlib.Omega.{arith}
-use lib.ListN.{replicate}
 use Rattle.state_bytes.proofs.PieceLaws.{bits-read}
 use borrow.Author.Needs.{needs}
 use Rattle.state_bytes.proofs.bits_at.Statement.{statement}

@@ -1,5 +1,4 @@
 -- `state_bytes::load` meets its contract. Assumes nothing.
-use native.Mathlib.Omega.{arith}
 use Rattle.state_bytes.proofs.PieceLaws.{loaded}
 use borrow.Author.Needs.{needs}
 use Rattle.state_bytes.proofs.load.Statement.{statement}
@@ -31,8 +30,15 @@ read-map-requires c κs = search needs
 
 returns : tie.Need-returns
 returns c =
-    let s = c .before .before .before .before .before .before .before .before .before .before in
-    loaded (s .args .bytes .now) (c .before .before .before .before .before .before .before .before .number-at .ensures) (c .before .before .before .before .before .before .before .number-at2 .ensures) (c .before .before .before .before .before .before .number-at3 .ensures) (c .before .before .before .before .before .number-at4 .ensures) (c .before .before .before .before .bits-at .ensures) (c .before .before .before .bits-at2 .ensures) (c .before .read-map .ensures)
+    let map = c .before in
+    let invalid = map .before .before in
+    let marked = invalid .before in
+    let number = marked .before in
+    let last = number .before in
+    let table = last .before in
+    let status = table .before in
+    loaded (status .before .before .args .bytes .now) (status .number-at .ensures) (table .number-at2 .ensures) (last .number-at3 .ensures) (number .number-at4 .ensures)
+    (marked .bits-at .ensures) (invalid .bits-at2 .ensures) (map .read-map .ensures)
 
 pub load-spec : {M : Type 1} → statement M
 load-spec =

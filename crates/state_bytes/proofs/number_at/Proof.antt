@@ -1,6 +1,5 @@
 -- `state_bytes::number_at` meets its contract. Assumes nothing.
 use Prim.Native.Nat.{_+_, _<_}
-use mathlib.Core.Path.{_≡_}
 use native.Mathlib.Omega.{arith}
 use Rattle.pages.proofs.ByteLaws.{pair-lt}
 use Rattle.state_bytes.proofs.PieceLaws.{number-read}

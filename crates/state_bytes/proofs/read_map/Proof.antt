@@ -1,7 +1,6 @@
 -- `state_bytes::read_map` meets its contract. Assumes nothing.
 use Prim.Native.Nat.{_+_, _-_, _*_, _<_}
 use native.Mathlib.Omega.{arith}
-use borrow.Author.Needs.{needs}
 use Rattle.pages.proofs.ByteLaws.{pair-lt}
 use Rattle.state_bytes.proofs.PieceLaws.{Loaded, loaded-none, loaded-more, loaded-all}
 use Rattle.state_bytes.proofs.read_map.Statement.{statement}

@@ -29,33 +29,39 @@ write-number-requires-3 c κs = search needs
 write-number-requires-4 : tie.Need-write-number-requires-4
 write-number-requires-4 c κs = search needs
 
-slice-aggregate-write-bits : tie.Need-slice-aggregate-write-bits
-slice-aggregate-write-bits c = search needs
+slice-aggregate-write-bitmaps : tie.Need-slice-aggregate-write-bitmaps
+slice-aggregate-write-bitmaps c = search needs
 
-write-bits-requires : tie.Need-write-bits-requires
-write-bits-requires c κs = search needs
+slice-aggregate-write-bitmaps-2 : tie.Need-slice-aggregate-write-bitmaps-2
+slice-aggregate-write-bitmaps-2 c = search needs
 
-slice-aggregate-write-bits-2 : tie.Need-slice-aggregate-write-bits-2
-slice-aggregate-write-bits-2 c = search needs
-
-write-bits-requires-2 : tie.Need-write-bits-requires-2
-write-bits-requires-2 c κs = (omega arith, invalid-long (c .before .before .before .before .before .before .before .before .before .before .before .before .before .before .before .before .before .before .before .before .before .before .before .before .before .before .before))
+write-bitmaps-requires : tie.Need-write-bitmaps-requires
+write-bitmaps-requires c κs = search needs
 
 slice-aggregate-write-map : tie.Need-slice-aggregate-write-map
-slice-aggregate-write-map c = sym (map-long (c .before .before .before .before .before .before .before .before .before .before .before .before .before .before .before .before .before .before .before .before .before .before .before .before .before .before .before .before .before .before .before .before))
+slice-aggregate-write-map c = sym (map-long (c .before .before .before .before .before .before .before .before .before .before .before .before .before .before .before .before .before .before .before .before .before .before .before .before .before .before .before .before))
 
 write-map-requires : tie.Need-write-map-requires
-write-map-requires c κs = (omega arith, map-long (c .before .before .before .before .before .before .before .before .before .before .before .before .before .before .before .before .before .before .before .before .before .before .before .before .before .before .before .before .before .before .before .before))
+write-map-requires c κs = (omega arith, map-long (c .before .before .before .before .before .before .before .before .before .before .before .before .before .before .before .before .before .before .before .before .before .before .before .before .before .before .before .before))
 
 same-length : tie.Need-same-length
 same-length c = search needs
 
 returns : tie.Need-returns
 returns c =
-    let s = c .before .before .before .before .before .before .before .before .before .before .before .before .before .before .before .before .before .before .before .before .before .before .before .before .before .before .before .before .before .before .before .before .before .before .before in
-    stored (s .args .state) (s .args .bytes .now) (c .before .before .before .before .before .before .before .before .before .before .before .before .before .before .before .before .before .before .before .before .before .before .before .before .before .before .before .before .before .write-number .last .0) (c .before .before .before .before .before .before .before .before .before .before .before .before .before .before .before .before .before .before .before .before .before .before .before .before .before .write-number2 .last .0) (c .before .before .before .before .before .before .before .before .before .before .before .before .before .before .before .before .before .before .before .before .before .write-number3 .last .0) (c .before .before .before .before .before .before .before .before .before .before .before .before .before .before .before .before .before .write-number4 .last .0) (c .before .before .before .before .before .before .before .before .before .before .before .before .write-bits .last .0) (c .before .before .before .before .before .before .before .write-bits2 .last .0) (c .before .before .write-map .last .0)
+    let entries = c .before .before in
+    let bitmaps = entries .before .before .before .before .before in
+    let number = bitmaps .before .before .before .before .before .before in
+    let last = number .before .before .before .before in
+    let table = last .before .before .before .before in
+    let status = table .before .before .before .before in
+    let s = status .before .before .before .before .before .before in
+    stored (s .args .state) (s .args .bytes .now)
+    (status .write-number .last .0) (table .write-number2 .last .0) (last .write-number3 .last .0) (number .write-number4 .last .0)
+    (bitmaps .write-bitmaps .last .0) (entries .write-map .last .0)
     (s .pre) (marked-long s) (invalid-long s) (map-long s)
-    (c .before .before .before .before .before .before .before .before .before .before .before .before .before .before .before .before .before .before .before .before .before .before .before .before .before .before .before .before .before .write-number .ensures) (c .before .before .before .before .before .before .before .before .before .before .before .before .before .before .before .before .before .before .before .before .before .before .before .before .before .write-number2 .ensures) (c .before .before .before .before .before .before .before .before .before .before .before .before .before .before .before .before .before .before .before .before .before .write-number3 .ensures) (c .before .before .before .before .before .before .before .before .before .before .before .before .before .before .before .before .before .write-number4 .ensures) (c .before .before .before .before .before .before .before .before .before .before .before .before .write-bits .ensures) (c .before .before .before .before .before .before .before .write-bits2 .ensures) (c .before .before .write-map .ensures)
+    (status .write-number .ensures) (table .write-number2 .ensures) (last .write-number3 .ensures) (number .write-number4 .ensures)
+    (bitmaps .write-bitmaps .ensures) (entries .write-map .ensures)
 
 pub store-spec : {M : Type 1} → statement M
 store-spec =
@@ -65,10 +71,9 @@ store-spec =
     write-number-requires-2
     write-number-requires-3
     write-number-requires-4
-    slice-aggregate-write-bits
-    write-bits-requires
-    slice-aggregate-write-bits-2
-    write-bits-requires-2
+    slice-aggregate-write-bitmaps
+    slice-aggregate-write-bitmaps-2
+    write-bitmaps-requires
     slice-aggregate-write-map
     write-map-requires
     same-length

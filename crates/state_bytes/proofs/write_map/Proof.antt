@@ -41,8 +41,12 @@ loop-less c = omega arith
 
 loop-again : tie.Need-loop-again Inv-loop μ-loop
 loop-again c =
-    let s = c .before .before .before .before .before .before .before .before .before .before in
-    stored-more (c .before .before .before .wide .result) (c .before .before .write-pair .last .0) (c .before .before .before .before .before .before .before .loop .inv) (c .before .before .before .before .before .before .loop-test .taken) (s .pre .1) (omega (arith, s .pre .0)) (c .before .before .before .wide .ensures) (c .before .before .write-pair .kept .0) (c .before .before .write-pair .ensures)
+    let pair = c .before .before in
+    let entry = pair .before in
+    let turn = entry .before .before .before in
+    let s = turn .before .before .before .before in
+    stored-more (entry .wide .result) (pair .write-pair .last .0) (turn .before .loop .inv) (turn .loop-test .taken) (s .pre .1) (omega (arith, s .pre .0))
+    (entry .wide .ensures) (pair .write-pair .kept .0) (pair .write-pair .ensures)
 
 same-length : tie.Need-same-length Inv-loop μ-loop
 same-length c = c .before .loop .inv .same

@@ -31,9 +31,15 @@ same-length c = search needs
 
 returns : tie.Need-returns
 returns c =
-    let s = c .before .before .before .before .before .before .before .before .before .before .before .before .before .before .before .before .before in
-    number-written (s .args .at) (s .args .number) (s .args .bytes .now) (c .before .before .before .before .before .before .before .before .before .before .before .before .before .before .write-pair .last .0) (c .before .before .before .before .before .before .before .before .before .before .write-pair2 .last .0) (c .before .before .before .before .before .before .write-pair3 .last .0) (c .before .before .write-pair4 .last .0)
-    (omega (arith, s .pre)) (c .before .before .before .before .before .before .before .before .before .before .before .before .before .before .write-pair .ensures) (c .before .before .before .before .before .before .before .before .before .before .write-pair2 .ensures) (c .before .before .before .before .before .before .write-pair3 .ensures) (c .before .before .write-pair4 .ensures)
+    let fourth = c .before .before in
+    let third = fourth .before .before .before .before in
+    let second = third .before .before .before .before in
+    let first = second .before .before .before .before in
+    let s = first .before .before .before in
+    number-written (s .args .at) (s .args .number) (s .args .bytes .now)
+    (first .write-pair .last .0) (second .write-pair2 .last .0) (third .write-pair3 .last .0) (fourth .write-pair4 .last .0)
+    (omega (arith, s .pre))
+    (first .write-pair .ensures) (second .write-pair2 .ensures) (third .write-pair3 .ensures) (fourth .write-pair4 .ensures)
 
 pub write-number-spec : {M : Type 1} → statement M
 write-number-spec =
