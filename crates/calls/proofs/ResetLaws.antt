@@ -1,6 +1,6 @@
 -- The reset with which a call begins: its sizes, its line, and the chip ready for the next operation. Assumes nothing.
-use Prim.Native.Nat.{ℕ, _+_, _≤_}
-use mathlib.Core.Bool.{true, false, cond, false≢true}
+use Prim.Native.Nat.{ℕ, _≤_}
+use mathlib.Core.Bool.{true, cond, false≢true}
 use mathlib.Core.Path.{_≡_, refl, sym, ap, subst, _∙_}
 use native.Mathlib.Omega.{arith}
 use borrow.Table.Steps.{cases}
@@ -17,7 +17,7 @@ use Rattle.sequences.specs.Cycles.{resetCycles}
 use Rattle.operations.specs.Ends.{Called, End, endOfReset, resetEnd}
 use Rattle.operations.proofs.ResetLaws.{reset-ends, reset-next}
 use Rattle.calls.specs.Call.{sizedFor, callLine}
-use Rattle.calls.proofs.CallLaws.{Sized, sizes}
+use Rattle.calls.proofs.CallLaws.{sizes}
 
 module _ (s : Setting) (d : Device) (n : ℕ) (t : sizedFor s d ≡ true) (m : Line) (o : Outcome) (e : m ≡ sendAll s (callLine d n) resetCycles) (q : o ≡ endedAs m) where
   pub reset-left : m .left ≤ n

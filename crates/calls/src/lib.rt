@@ -10,8 +10,7 @@ ghost use mathlib.Core.List.{List};
 ghost use Prim.Native.Nat.{ℕ};
 ghost use Rattle.array.specs.Device.{device};
 ghost use Rattle.bus.specs.Line.{line, newBus};
-ghost use Rattle.calls.specs.Call.{Result, result, sized, freshPort, stopAnswer, endAt};
-ghost use Rattle.state.specs.State.{blank};
+ghost use Rattle.calls.specs.Call.{result, sized, freshPort, stopAnswer, endAt};
 
 // What a request hands back besides the lent memory: the answer by its number, the next state, the chip's interface, and
 // the cycles sent.

@@ -8,7 +8,7 @@ ghost use Prim.Native.Nat.{ℕ, _<_};
 ghost use lib.ListN.{length};
 ghost use Rattle.geometry.specs.Sizes.{blockSize, rowCount};
 ghost use Rattle.array.specs.Device.{device, setting, fitting, Fitting, rowAt};
-ghost use Rattle.chip.specs.Chip.{isConfirm, confirmable, confirmed, commanded, nextColumn, dataTaken, dataGiven, dataByte, lessBusy, finished, statusRead, statusShown};
+ghost use Rattle.chip.specs.Chip.{isConfirm, confirmable, confirmed, commanded, dataTaken, dataGiven, dataByte, lessBusy, finished, statusRead, statusShown};
 
 // The interface after an output cycle, and the byte put out.
 pub struct Shown {

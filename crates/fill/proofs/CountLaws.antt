@@ -1,8 +1,7 @@
 -- The cycles of fills: those in a request's trace and those still allowed are as many as were allowed. Assumes nothing.
 use Prim.Native.Nat.{ℕ, zero, suc, _+_}
-use mathlib.Core.Bool.{true, false}
 use mathlib.Core.List.{List, _++_}
-use mathlib.Core.Path.{_≡_, refl, ap, _∙_}
+use mathlib.Core.Path.{_≡_, refl, _∙_}
 use native.Mathlib.Omega.{arith}
 use borrow.Table.Steps.{cases}
 use lib.Dec.{eqb}
@@ -20,7 +19,7 @@ use Rattle.state.specs.declared.choose.Choice.{Choice}
 use Rattle.state.specs.declared.choose.Choice.the-variants.{Block, Worn}
 use Rattle.scan.specs.Progress.{Progress, readOn}
 use Rattle.scan.proofs.CountLaws.{allowance, read-counts}
-use Rattle.fill.specs.Fill.{Copy, Source, given, kept, pageOf, pageFilled, pagesFilled, tableFilled, tableCopy, tableSource}
+use Rattle.fill.specs.Fill.{Copy, Source, given, kept, pageFilled, pagesFilled, tableCopy, tableSource}
 use Rattle.fill.specs.Steps.{eraseOn, programOn, isFailed}
 use Rattle.fill.specs.Tables.{tryBlock, tryTable, tablesFilled}
 

@@ -1,6 +1,6 @@
 -- A fill on its way: where each page leaves it, and how it ends. Assumes nothing.
 use Prim.Native.Nat.{ℕ, zero, suc, _+_, _-_, _≤_, _<_}
-use mathlib.Core.Bool.{true, false, false≢true}
+use mathlib.Core.Bool.{true, false}
 use mathlib.Core.List.{List}
 use mathlib.Core.Path.{_≡_, refl, sym, ap, subst, _∙_}
 use native.Mathlib.Nat.{zero-add, add-zero}
@@ -22,7 +22,7 @@ use Rattle.scan.specs.Progress.{Progress, progress, readOn}
 use Rattle.scan.proofs.ReadOnLaws.{read-stopped, is-passed}
 use Rattle.fill.specs.Fill.{Copy, Source, given, kept, pageOf, pageFilled, pagesFilled, filled}
 use Rattle.fill.specs.Steps.{eraseOn, programOn}
-use Rattle.fill.proofs.StepLaws.{passed-answered, erase-end, erase-outcome, erase-called, program-end, program-outcome, program-called, erase-on-line, erase-on-outcome, program-on-line, program-on-outcome, program-stopped, whole-effect}
+use Rattle.fill.proofs.StepLaws.{passed-answered, erase-end, erase-outcome, program-end, program-outcome, program-called, erase-on-line, erase-on-outcome, program-on-line, program-on-outcome, program-stopped, whole-effect}
 
 -- once a page has not passed no further one is filled
 page-stopped : (s : Setting) (block : ℕ) (c : Copy) (n : ℕ) (source : Source) (p : Progress) → isPassed (p .outcome) ≡ false → pageFilled s block c n source p ≡ p

@@ -1,14 +1,12 @@
 -- What an erase and a program leave for whoever does not look at their cycles, and what they add to a request on its way. Assumes nothing.
-use Prim.Native.Nat.{ℕ, _+_, _≤_, _<_}
-use mathlib.Core.Bool.{Bool, true, false, cond, false≢true}
+use Prim.Native.Nat.{ℕ}
+use mathlib.Core.Bool.{true, false, false≢true}
 use mathlib.Core.List.{List}
 use mathlib.Core.Path.{_≡_, refl, sym, ap, subst, _∙_}
 use native.Mathlib.Omega.{arith}
 use borrow.Table.Steps.{cases}
 use borrow.Author.Tests.{lt-leb, ltb-false}
 use lib.Dec.{eqb, leb, ltb}
-use lib.ListN.{length, getD, set}
-use lib.Seq.{getD-set-same}
 use Rattle.geometry.specs.Sizes.{rowOf}
 use Rattle.interface.specs.Interface.{busyOf, failedFor}
 use Rattle.array.specs.Device.{Setting}

@@ -1,6 +1,6 @@
 -- Table fills on their way: one tried after the other, until one ends them. Assumes nothing.
-use Prim.Native.Nat.{ℕ, zero, suc, _+_, _-_, _≤_, _<_}
-use mathlib.Core.Bool.{Bool, true, false, cond, false≢true}
+use Prim.Native.Nat.{ℕ, suc, _+_, _-_, _≤_, _<_}
+use mathlib.Core.Bool.{true, false, cond, false≢true}
 use mathlib.Core.List.{List, []}
 use mathlib.Core.Path.{_≡_, refl, sym, ap, subst, _∙_}
 use native.Mathlib.Omega.{arith}
@@ -21,7 +21,7 @@ use Rattle.state.specs.declared.choose.Choice.the-variants.{Block, Worn}
 use Rattle.scan.specs.Progress.{Progress, progress}
 use Rattle.fill.specs.Fill.{tableFilled}
 use Rattle.fill.specs.Steps.{resumed, isFailed}
-use Rattle.fill.specs.Tables.{Tried, tryBlock, tryTable, TriedAs, stateAfter, Tabled, tabled, endAnswer, endState, endedBy, tablesFilled, numbersLeft, TabledAs}
+use Rattle.fill.specs.Tables.{tryBlock, tryTable, TriedAs, stateAfter, Tabled, tabled, endAnswer, endState, endedBy, tablesFilled, numbersLeft, TabledAs}
 use Rattle.fill.proofs.OutcomeLaws.{failed-answered}
 
 -- a failed fill keeps the block filled last, and has taken a number

@@ -1,6 +1,5 @@
 -- The ends of a formatting after its first round. Assumes nothing.
-use Prim.Native.Nat.{ℕ, _+_, _-_, _≤_, _<_}
-use mathlib.Core.Bool.{true, false}
+use Prim.Native.Nat.{ℕ, _+_, _≤_, _<_}
 use mathlib.Core.List.{List, []}
 use mathlib.Core.Path.{_≡_, ap, subst}
 use native.Mathlib.Omega.{arith}
@@ -15,8 +14,8 @@ use Rattle.polling.specs.declared.Outcome.the-variants.{Passed}
 use Rattle.operations.specs.Trace.{ArrayOperation}
 use Rattle.state.specs.State.{blank, countPermitted}
 use Rattle.state.specs.declared.State.{State}
-use Rattle.calls.specs.Call.{Result, endAt}
-use Rattle.scan.specs.Progress.{Progress, progress}
+use Rattle.calls.specs.Call.{endAt}
+use Rattle.scan.specs.Progress.{progress}
 use Rattle.fill.specs.Tables.{numbersLeft, TabledAs}
 use Rattle.fill.proofs.CountLaws.{tables-count}
 use Rattle.format.specs.Format.{firstState, tooFew, tablesOf, tablesEnd}

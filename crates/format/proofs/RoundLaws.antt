@@ -1,15 +1,12 @@
 -- The first round of erases on its way: one block after the other. Assumes nothing.
-use Prim.Native.Nat.{ℕ, zero, suc, _+_, _-_, _≤_, _<_, max}
+use Prim.Native.Nat.{ℕ, zero, suc, _+_, _-_, _<_, max}
 use mathlib.Core.Bool.{Bool, true, false, cond, false≢true}
-use mathlib.Core.List.{List, [], _∷_}
-use mathlib.Core.Logic.{⊎-elim}
+use mathlib.Core.List.{List}
 use mathlib.Core.Path.{_≡_, refl, sym, ap, subst, _∙_}
 use native.Mathlib.Nat.{zero-add}
 use native.Mathlib.Numerals.{add-one}
 use native.Mathlib.Omega.{arith}
-use denote.Enum.Declared.{tagOf}
 use lib.Dec.{eqb}
-use types.Run.{OneOf}
 use lib.ListN.{replicate}
 use Rattle.geometry.specs.Sizes.{rowOf}
 use Rattle.bitmaps.specs.Bitmap.{bitAt, withBit}
@@ -18,10 +15,9 @@ use Rattle.chip.specs.Chip.{Cycle}
 use Rattle.bus.specs.Line.{Line, sendAll}
 use Rattle.polling.specs.Polling.{isPassed, outcomeOf}
 use Rattle.polling.specs.declared.Outcome.{Outcome}
-use Rattle.polling.specs.declared.Outcome.the-variants.{Passed, Failed, Silent, Cut, Illegal}
-use Rattle.polling.proofs.Outcome.{the-type}
+use Rattle.polling.specs.declared.Outcome.the-variants.{Passed}
 use Rattle.sequences.specs.Cycles.{eraseCycles}
-use Rattle.operations.specs.Ends.{Called, CanErase, answered}
+use Rattle.operations.specs.Ends.{Called, CanErase}
 use Rattle.operations.specs.Trace.{ArrayOperation}
 use Rattle.copies.specs.Blocks.{blockIn, aboveTo}
 use Rattle.scan.specs.Progress.{Progress, progress}
@@ -30,7 +26,7 @@ use Rattle.scan.proofs.ReadOnLaws.{is-passed}
 use Rattle.fill.specs.Steps.{eraseOn, resumed, isFailed}
 use Rattle.fill.proofs.OutcomeLaws.{failed-answered}
 use Rattle.fill.proofs.StepLaws.{passed-answered, erase-called, erase-on-line, erase-on-outcome}
-use Rattle.format.specs.Format.{afterErase, blockErased, failedAt, aboveAt, Round, erasedTo, BlockDone, RoundDone}
+use Rattle.format.specs.Format.{afterErase, blockErased, failedAt, aboveAt, erasedTo, BlockDone, RoundDone}
 
 -- a block with a factory mark
 pub block-marked : (s : Setting) (marked : List ℕ) (l : Line) (block : ℕ) → bitAt marked block ≡ true → Called s l → BlockDone s marked l l Passed block 0 0

@@ -1,11 +1,10 @@
 -- A formatting from its marks on: where it stops, and what the first round hands to the table fills. Assumes nothing.
-use Prim.Native.Nat.{ℕ, zero, suc, _+_, _-_, _≤_}
+use Prim.Native.Nat.{ℕ, zero, suc, _≤_}
 use mathlib.Core.Bool.{true, false}
 use mathlib.Core.List.{List, []}
 use mathlib.Core.Path.{_≡_, refl, sym, ap, _∙_}
 use native.Mathlib.Omega.{arith}
 use borrow.Table.Steps.{cases}
-use lib.ListN.{length}
 use Rattle.geometry.specs.Sizes.{rowOf}
 use Rattle.bitmaps.specs.Bitmap.{bitAt}
 use Rattle.array.specs.Device.{Setting}
@@ -24,7 +23,7 @@ use Rattle.scan.proofs.ReadOnLaws.{is-passed}
 use Rattle.found.specs.Found.{marksTo}
 use Rattle.fill.specs.Steps.{eraseOn, isFailed, resumed}
 use Rattle.fill.proofs.CountLaws.{erase-counts}
-use Rattle.format.specs.Format.{marksRead, afterErase, blockErased, erasedTo, Round, round, MarksFound, RoundDone, stopAt, tablesEnd, roundEnd, marksEnd}
+use Rattle.format.specs.Format.{marksRead, afterErase, blockErased, erasedTo, MarksFound, RoundDone, stopAt, tablesEnd, roundEnd, marksEnd}
 
 -- the cycles of marks and of the first round
 module _ (s : Setting) where

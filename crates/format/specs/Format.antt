@@ -11,7 +11,7 @@ use Rattle.bitmaps.specs.Bitmap.{bitAt, withBit}
 use Rattle.array.specs.Device.{Device, Setting}
 use Rattle.polling.specs.Polling.{isPassed}
 use Rattle.polling.specs.declared.Outcome.{Outcome}
-use Rattle.polling.specs.declared.Outcome.the-variants.{Passed, Failed, Silent, Cut, Illegal}
+use Rattle.polling.specs.declared.Outcome.the-variants.{Passed}
 use Rattle.chip.specs.Chip.{Cycle}
 use Rattle.bus.specs.Line.{Line}
 use Rattle.operations.specs.Ends.{Called}

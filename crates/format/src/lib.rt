@@ -16,7 +16,6 @@ ghost use Rattle.geometry.specs.Limits.{Valid};
 ghost use Rattle.array.specs.Device.{device, setting};
 ghost use Rattle.chip.specs.Chip.{Cycle};
 ghost use Rattle.bus.specs.Line.{line};
-ghost use Rattle.polling.specs.Polling.{isPassed};
 ghost use Rattle.polling.specs.declared.Outcome.the-variants.{Passed};
 ghost use Rattle.operations.specs.Ends.{Called};
 ghost use Rattle.operations.specs.Trace.{ArrayOperation};

@@ -1,11 +1,11 @@
 -- The map that is entered block by block has the current copy of each logical block. Assumes nothing.
 use Prim.Native.Nat.{ℕ, zero, suc, _+_, _≤_, _<_}
-use mathlib.Core.Bool.{Bool, true, false, cond, false≢true}
+use mathlib.Core.Bool.{Bool, true, false, cond}
 use mathlib.Core.List.{List, [], _∷_, _++_}
 use mathlib.Core.Path.{_≡_, refl, sym, ap, _∙_}
 use native.Mathlib.Omega.{arith}
 use borrow.Table.Steps.{cases}
-use borrow.Author.Tests.{eq-eqb, ne-eqb, lt-ltb, le-ltb, eqb-true, eqb-false, ltb-true, ltb-false}
+use borrow.Author.Tests.{lt-ltb, le-ltb, eqb-true, eqb-false, ltb-true, ltb-false}
 use lib.Dec.{eqb, ltb}
 use lib.ListN.{length, getD, set, replicate, length-set, length-replicate, getD-replicate, length-append, List·getD-append}
 use lib.Seq.{getD-set-same, getD-set-other, getD-append-add, ext-getD}
@@ -17,9 +17,9 @@ use Rattle.copies.specs.Blocks.{blockIn, isComplete, isData, isCopyOf, labelIn}
 use Rattle.copies.specs.Current.{numberAt, unlisted, counts, currentCopy}
 use Rattle.copies.specs.Pick.{Pick, nothing, at, better, pick, Picked}
 use Rattle.copies.proofs.PickLaws.{pick-is, pick-same}
-use Rattle.found.specs.Contents.{Contents, counted, replaces, isCandidate, entryNoted, mapTo, entryOf, tabulate, mapOf}
+use Rattle.found.specs.Contents.{Contents, replaces, isCandidate, entryNoted, mapTo, entryOf, tabulate, mapOf}
 use Rattle.found.specs.Found.{bitsAt}
-use Rattle.found.proofs.ContentsLaws.{Candidate, candidate}
+use Rattle.found.proofs.ContentsLaws.{candidate}
 use Rattle.found.proofs.ToldLaws.{Told, counted-same}
 
 -- values of a list by their places

@@ -1,13 +1,13 @@
 -- The copies found are those of the array: what each block's entry tells, and the tests on them. Assumes nothing.
 use Prim.Native.Nat.{ℕ, zero, suc, _+_, _*_, _/_, _≤_, _<_}
-use mathlib.Core.Bool.{Bool, true, false, cond, not, false≢true}
-use mathlib.Core.List.{List, _++_}
-use mathlib.Core.Path.{_≡_, refl, sym, ap, ap₂, _∙_}
+use mathlib.Core.Bool.{true, false, cond, false≢true}
+use mathlib.Core.List.{List}
+use mathlib.Core.Path.{_≡_, refl, sym, ap, _∙_}
 use native.Mathlib.Nat.{mul-le-mul-right}
 use native.Mathlib.Omega.{arith}
 use borrow.Table.Steps.{cases}
-use borrow.Author.Tests.{eq-eqb, ne-eqb, eqb-true, eqb-false}
-use lib.Dec.{eqb, leb, ltb}
+use borrow.Author.Tests.{eq-eqb, ne-eqb}
+use lib.Dec.{eqb, leb}
 use lib.ListN.{length, getD, set, drop, replicate, length-set, length-replicate, List·getD-append}
 use lib.Seq.{getD-set-same, getD-set-other, length-take-le}
 use Rattle.geometry.specs.declared.Geometry.{Geometry}
@@ -23,8 +23,6 @@ use Rattle.copies.specs.Current.{numberAt, unlisted, counts, sharesNumber, clas
 use Rattle.copies.specs.Pick.{someBelow}
 use Rattle.copies.specs.Table.{bitmapBytes, bitmapOf, lists}
 use Rattle.copies.proofs.TableLaws.{valid-roomy}
-use Rattle.copies.specs.Summary.{saysComplete}
-use Rattle.copies.specs.declared.Summary.{Summary}
 use Rattle.copies.proofs.BlockLaws.{says-complete, complete-label}
 use Rattle.copies.proofs.PickLaws.{up-to, some-same}
 use Rattle.found.specs.Contents.{Contents, contents, copyNoted, contentsTo, counted, bears, pastLast, clashing}

@@ -3,7 +3,7 @@ use Prim.Native.Nat.{ℕ, zero, suc}
 use mathlib.Core.Bool.{Bool, true, false, cond}
 use mathlib.Core.List.{List, [], _∷_, _++_}
 use lib.Dec.{eqb, leb, ltb}
-use lib.ListN.{getD, set, replicate}
+use lib.ListN.{getD, set}
 use Rattle.geometry.specs.declared.Geometry.{Geometry}
 use Rattle.bitmaps.specs.Bitmap.{bitAt}
 use Rattle.copies.specs.Current.{currentCopy}

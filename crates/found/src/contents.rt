@@ -2,7 +2,7 @@
 use copies::Summary;
 ghost use mathlib.Core.Path.{_≡_};
 ghost use Prim.Native.Nat.{_<_, _≤_};
-ghost use lib.ListN.{length, getD};
+ghost use lib.ListN.{length};
 ghost use Rattle.copies.specs.Pick.{someBelow};
 ghost use Rattle.found.specs.Contents.{contents, copyNoted, counted, bears, pastLast, clashing, replaces, isCandidate, entryNoted, mapTo};
 

@@ -1,7 +1,7 @@
 // The chip's geometry: its limits, its sizes, and the row and column addresses as bytes.
 ghost use mathlib.Core.Path.{_≡_};
 ghost use Prim.Native.Nat.{_+_, _*_, _/_, _%_, _<_};
-ghost use mathlib.Core.Bool.{Bool, true};
+ghost use mathlib.Core.Bool.{true};
 ghost use Rattle.geometry.specs.Limits.{pageCount, blockShape, valid, Valid};
 ghost use Rattle.geometry.specs.Sizes.{pageSize, blockSize, chipSize, rowCount, rowOf};
 

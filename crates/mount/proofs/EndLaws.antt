@@ -1,8 +1,8 @@
 -- The ends of a mount: an operation that did not pass, a refusal, a mounted state; and the cycles left. Assumes nothing.
-use Prim.Native.Nat.{ℕ, _+_, _-_, _≤_}
+use Prim.Native.Nat.{ℕ, _≤_}
 use mathlib.Core.Bool.{true, false}
 use mathlib.Core.List.{List, []}
-use mathlib.Core.Path.{_≡_, refl, sym, ap, ap₂, _∙_}
+use mathlib.Core.Path.{_≡_, sym, ap, ap₂, _∙_}
 use native.Mathlib.Omega.{arith}
 use borrow.Author.Tests.{eq-eqb, ne-eqb}
 use lib.ListN.{length, replicate, length-replicate}
@@ -23,7 +23,7 @@ use Rattle.found.specs.declared.Found.{Found}
 use Rattle.scan.specs.Progress.{Progress, progress}
 use Rattle.scan.specs.Scan.{blocksRead}
 use Rattle.scan.proofs.CountLaws.{blocks-count}
-use Rattle.calls.specs.Call.{Result, endAt, stopAnswer}
+use Rattle.calls.specs.Call.{endAt, stopAnswer}
 use Rattle.mount.specs.Mount.{mountEnd, stateAfter, mountedState, judgedBy, stateOf}
 use Rattle.mount.proofs.MountLaws.{judge-is, state-is}
 

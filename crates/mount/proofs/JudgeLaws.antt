@@ -1,5 +1,4 @@
 -- The answer of a mount from what a scan found, one law for each way that it ends. Assumes nothing.
-use Prim.Native.Nat.{ℕ}
 use mathlib.Core.Bool.{true, false}
 use mathlib.Core.Path.{_≡_}
 use borrow.Author.Tests.{eq-eqb, ne-eqb}

@@ -1,12 +1,12 @@
 -- What a mount makes of a scan is what the definitions on the array say. Assumes nothing.
-use Prim.Native.Nat.{ℕ, zero, suc, _+_, _*_, _≤_, _<_}
-use mathlib.Core.Bool.{Bool, true, false, cond, false≢true}
+use Prim.Native.Nat.{ℕ, zero, suc, _≤_, _<_}
+use mathlib.Core.Bool.{Bool, true, false, cond}
 use mathlib.Core.List.{List}
-use mathlib.Core.Logic.{_⊎_, inl, inr, ⊎-elim}
+use mathlib.Core.Logic.{⊎-elim}
 use mathlib.Core.Path.{_≡_, refl, sym, ap, _∙_}
 use native.Mathlib.Omega.{arith}
 use borrow.Table.Steps.{cases}
-use borrow.Author.Tests.{eq-eqb, ne-eqb, eqb-true, eqb-false}
+use borrow.Author.Tests.{eq-eqb, ne-eqb, eqb-true}
 use lib.Dec.{eqb}
 use lib.ListN.{length, replicate, length-set, length-replicate}
 use Rattle.geometry.specs.declared.Geometry.{Geometry}
@@ -15,15 +15,14 @@ use Rattle.geometry.specs.Sizes.{chipSize}
 use Rattle.bitmaps.specs.Bitmap.{bitAt, byteOf, withBit, neverBoth}
 use Rattle.bitmaps.proofs.BitLaws.{bit-set, bit-kept}
 use Rattle.copies.specs.Blocks.{blockIn, isMarked, isTable, mainIn}
-use Rattle.copies.specs.Current.{numberAt, aboveAll, nextNumber, currentTable, filledLast, clashes, judgeTable, mountAnswer}
-use Rattle.copies.specs.Pick.{Pick, nothing, at, pick, Best, Picked, someBelow}
-use Rattle.copies.specs.Table.{bitmapOf, lists, clearWhere, rightTo, rightTable}
+use Rattle.copies.specs.Current.{numberAt, aboveAll, nextNumber, currentTable, filledLast, judgeTable, mountAnswer}
+use Rattle.copies.specs.Pick.{Pick, nothing, at, pick, Picked, someBelow}
+use Rattle.copies.specs.Table.{bitmapOf, clearWhere, rightTo, rightTable}
 use Rattle.copies.proofs.PickLaws.{pick-is, up-to}
-use Rattle.state.specs.declared.State.{State}
 use Rattle.state.proofs.MountedLaws.{blank-clear}
 use Rattle.found.specs.Contents.{Contents, contents, contentsTo, clashing, mapTo, mapOf}
 use Rattle.found.specs.Found.{foundTo, bitsAt, rightAt, marksTo}
-use Rattle.found.proofs.FoundLaws.{found-marked, found-above, Lasts, lasts, last-none, Kept, kept, Chosen, Missing, table-found}
+use Rattle.found.proofs.FoundLaws.{found-marked, found-above, lasts, last-none, Kept, kept, Chosen, Missing, table-found}
 use Rattle.found.proofs.ToldLaws.{Told, told, bit-is, clash-same}
 use Rattle.found.proofs.MapLaws.{map-is}
 use Rattle.mount.specs.Mount.{blockOf, mountedState, judgedBy, stateOf}

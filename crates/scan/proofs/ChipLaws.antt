@@ -1,12 +1,11 @@
 -- The scan of the chip on its way: where each block leaves it, and what was found. Assumes nothing.
 use Prim.Native.Nat.{ℕ, zero, suc, _+_, _-_, _<_}
-use mathlib.Core.Bool.{true, false}
+use mathlib.Core.Bool.{false}
 use mathlib.Core.List.{List}
 use mathlib.Core.Path.{_≡_, refl, sym, ap, subst, _∙_}
 use native.Mathlib.Nat.{zero-add, add-zero}
 use native.Mathlib.Numerals.{add-one}
 use native.Mathlib.Omega.{arith}
-use lib.ListN.{replicate}
 use Rattle.array.specs.Device.{Setting}
 use Rattle.chip.specs.Chip.{Cycle}
 use Rattle.bus.specs.Line.{Line}

@@ -1,10 +1,10 @@
 -- What a read leaves for whoever does not look at its cycles, and what it adds to a request on its way. Assumes nothing.
-use Prim.Native.Nat.{ℕ, zero, suc, _+_, _*_, _≤_}
+use Prim.Native.Nat.{ℕ, _+_, _*_, _≤_}
 use mathlib.Core.Bool.{true, false, false≢true}
 use mathlib.Core.List.{List, _++_, append-nil}
 use mathlib.Core.Path.{_≡_, refl, sym, ap, subst, _∙_}
 use native.Mathlib.Omega.{arith}
-use lib.ListN.{length, drop, drop-of-length-le}
+use lib.ListN.{length, drop-of-length-le}
 use Rattle.geometry.specs.Sizes.{pageSize}
 use Rattle.geometry.proofs.SizeLaws.{row-within}
 use Rattle.cells.specs.Cells.{over}

@@ -31,7 +31,7 @@ use Rattle.copies.specs.Summary.{blankSummary, summed, stepped}
 use Rattle.copies.specs.declared.Summary.{Summary}
 use Rattle.copies.specs.Table.{bitmapOf, bitsWith, rightPage, rightTo, rightWith}
 use Rattle.copies.proofs.TableLaws.{part-take}
-use Rattle.scan.specs.Progress.{Progress, progress, readOn}
+use Rattle.scan.specs.Progress.{Progress, progress}
 use Rattle.scan.specs.Scan.{pagesRead}
 use Rattle.scan.proofs.ReadOnLaws.{Read, read-leaves, read-line, read-outcome, read-stopped}
 

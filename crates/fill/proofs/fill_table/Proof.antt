@@ -1,11 +1,11 @@
 -- `fill::fill_table` meets its contract: after each page the fill is on its way as FillLaws tells. Assumes nothing.
 use Prim.Native.Nat.{ℕ, _-_, _≤_}
 use mathlib.Core.List.{List}
-use mathlib.Core.Path.{_≡_, refl, sym, ap, ap₂, subst, _∙_}
+use mathlib.Core.Path.{_≡_, refl, ap, _∙_}
 use native.Mathlib.Omega.{arith}
 use borrow.Author.Needs.{needs}
 use denote.Ref.{now}
-use lib.ListN.{length, replicate}
+use lib.ListN.{length}
 use Rattle.array.specs.Device.{setting}
 use Rattle.geometry.specs.Sizes.{rowOf}
 use Rattle.bus.specs.Line.{line, sendAll}

@@ -6,14 +6,12 @@ use Rattle.geometry.proofs.SizeLaws.{page-size-most}
 use Rattle.found.specs.declared.Found.{Found}
 use native.Mathlib.Omega.{arith}
 use denote.Ref.{now}
-use lib.ListN.{length}
 use Rattle.array.specs.Device.{setting}
 use Rattle.bus.specs.Line.{line}
 use Rattle.polling.specs.declared.Outcome.the-variants.{Passed}
 use Rattle.polling.proofs.PollLaws.{passed-by-tag, other-by-tag}
 use Rattle.scan.specs.Progress.{progress}
 use Rattle.scan.specs.Scan.{blocksRead}
-use Rattle.found.specs.Contents.{contents}
 use Rattle.found.proofs.FoundLaws.{table-small}
 use Rattle.mount.proofs.EndLaws.{scan-left, stopped-end, refused-end, mounted-end, answer-found, state-found, room}
 use Rattle.calls.proofs.CallLaws.{lent-page}

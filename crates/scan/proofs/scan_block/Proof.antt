@@ -6,12 +6,11 @@ use native.Mathlib.Omega.{arith}
 use borrow.Author.Needs.{needs}
 use denote.Ref.{now}
 use lib.ListN.{length}
-use Rattle.geometry.specs.Sizes.{pageSize}
 use Rattle.array.specs.Device.{setting}
 use Rattle.bus.specs.Line.{line}
 use Rattle.polling.proofs.PollLaws.{passed-by-tag, other-by-tag}
-use Rattle.scan.proofs.ReadOnLaws.{read-leaves, is-passed}
-use Rattle.scan.proofs.ScanLaws.{Middle, scan-begins, can-read, scan-goes, scan-stops, scan-same, ends-bits}
+use Rattle.scan.proofs.ReadOnLaws.{is-passed}
+use Rattle.scan.proofs.ScanLaws.{Middle, scan-begins, scan-goes, scan-stops, scan-same, ends-bits}
 use Rattle.scan.proofs.scan_block.Statement.{statement}
 use Rattle.scan.proofs.scan_block.Tie as tie
 
