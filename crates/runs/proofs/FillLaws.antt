@@ -1,0 +1,209 @@
+-- What a fill leaves of a request's blocks: the pages that were meant, or those with bits raised. Assumes nothing.
+use Prim.Native.Nat.{ℕ, zero, suc, _+_, _≤_, _<_}
+use mathlib.Core.Bool.{true, false, false≢true}
+use mathlib.Core.List.{List, [], _∷_}
+use mathlib.Core.Logic.{_⊎_, inl, inr, ⊎-elim}
+use mathlib.Core.Path.{_≡_, refl, sym, ap, subst, _∙_}
+use native.Mathlib.Nat.{mod-eq-of-lt}
+use native.Mathlib.Numerals.{add-one}
+use native.Mathlib.Omega.{arith}
+use borrow.Table.Steps.{cases}
+use borrow.Author.Tests.{eqb-true, eqb-false, ltb-true, ltb-false}
+use lib.Bits.{and-mask}
+use lib.Dec.{eqb, ltb}
+use lib.ListN.{length, getD, replicate}
+use Rattle.geometry.specs.Sizes.{pageSize, rowOf}
+use Rattle.geometry.proofs.SizeLaws.{row-below}
+use Rattle.cells.specs.Bytes.{Bytes}
+use Rattle.cells.specs.Cells.{programmed, weakened}
+use Rattle.cells.proofs.CellLaws.{programmed-erased}
+use Rattle.array.specs.Device.{Setting}
+use Rattle.polling.specs.Polling.{isPassed}
+use Rattle.operations.specs.Ends.{Called}
+use Rattle.pages.specs.Over.{Over, none, more}
+use Rattle.pages.proofs.OverLaws.{over-refl, programmed-over}
+use Rattle.copies.specs.Blocks.{blockIn, pageIn, mainIn}
+use Rattle.scan.specs.Progress.{Progress, readOn}
+use Rattle.fill.specs.Fill.{Copy, Source, kept, pageOf, pageFilled, pagesFilled, filled}
+use Rattle.fill.specs.Steps.{eraseOn, programOn}
+use Rattle.fill.proofs.StepLaws.{passed-answered, program-stopped}
+use Rattle.fill.proofs.FillLaws.{fill-stopped}
+use Rattle.runs.specs.Run.{Unchanged, OthersSame, Programmed, Provides, from-caller, from-copy, Meant, Filled, pageOn}
+use Rattle.runs.proofs.OutcomeLaws.{passed-read-end}
+use Rattle.runs.proofs.PlaceLaws.{page-erased}
+use Rattle.runs.proofs.ReadLaws.{read-unchanged}
+use Rattle.runs.proofs.EraseLaws.{erase-leaves}
+use Rattle.runs.proofs.ProgramLaws.{program-leaves}
+
+one-more : (n : ℕ) → 1 + n ≡ suc n
+one-more n = omega arith
+
+-- bytes FFh are over any bytes
+pub over-erased : (ds : List ℕ) → Bytes ds → Over ds (replicate (length ds) 255)
+over-erased [] b = none
+over-erased (d ∷ ds) b = more (and-mask d 8 ∙ mod-eq-of-lt (b 0)) (b 0) (omega arith) (over-erased ds (λ i. b (suc i)))
+
+module _ (s : Setting) (p : Progress) (block : ℕ) (below : block < s .geometry .blocks) (c : Copy) (source : ℕ → Source) (pages : ℕ → List ℕ)
+    (meant : Meant s (p .line .chip .array) block c source pages) (mask-bytes : Bytes (s .mask)) where
+  over-blank : (i : ℕ) → i < s .geometry .pages → Over (pages i) (replicate (pageSize (s .geometry)) 255)
+  over-blank i h = subst (λ (n : ℕ). Over (pages i) (replicate n 255)) (meant .long i h) (over-erased (pages i) (meant .bytes i h))
+
+  -- pages that are as they should be, and pages that are erased, are over what was meant
+  all-over : (q : Progress) (n : ℕ) → ((i : ℕ) → i < n → pageOn s q block i ≡ pages i) → ((i : ℕ) → n ≤ i → i < s .geometry .pages → pageOn s q block i ≡ replicate (pageSize (s .geometry)) 255)
+      → (i : ℕ) → i < s .geometry .pages → Over (pages i) (pageOn s q block i)
+  all-over q n done ahead i h =
+      cases (ltb i n)
+      (λ t. subst (Over (pages i)) (sym (done i (ltb-true i n t))) (over-refl (pages i) (meant .bytes i h)))
+      (λ t. subst (Over (pages i)) (sym (ahead i (ltb-false i n t) h)) (over-blank i h))
+
+  -- the program of page n, from q, which has the block as it is after the first n pages
+  module _ (q : Progress) (n : ℕ) (page-below : n < s .geometry .pages) (r : Filled s p q block pages n) (t : isPassed (q .outcome) ≡ true) where
+    abbrev next : Progress
+    next = programOn s block n (pages n) q
+
+    left : Programmed s q next block n (pages n)
+    left =
+        program-leaves s q block n (pages n) t
+        (record { called = r .sound .called (passed-answered (q .outcome) t); block-below = below; page-below = page-below; in-order = r .in-order t; bytes-long = meant .long n page-below })
+
+    others-next : OthersSame s p next block
+    others-next b h x = left .others b h x ∙ r .others b h x
+
+    here : pageOn s q block n ≡ replicate (length (pages n)) 255
+    here = r .ahead t n (omega arith) page-below ∙ ap (λ (k : ℕ). replicate k 255) (sym (meant .long n page-below))
+
+    page-done : isPassed (next .outcome) ≡ true → pageOn s next block n ≡ pages n
+    page-done y = left .whole y ∙ ap (λ (x : List ℕ). programmed x (pages n)) here ∙ programmed-erased (pages n) (meant .bytes n page-below)
+
+    done-next : isPassed (next .outcome) ≡ true → (i : ℕ) → i < suc n → pageOn s next block i ≡ pages i
+    done-next y i h =
+        cases (eqb i n)
+        (λ e. subst (λ (k : ℕ). pageOn s next block k ≡ pages k) (sym (eqb-true i n e)) (page-done y))
+        (λ e. let x = eqb-false i n e in left .other-pages i (omega (arith, h, page-below)) x ∙ r .done t i (omega (arith, h, x)))
+
+    ahead-next : (i : ℕ) → suc n ≤ i → i < s .geometry .pages → pageOn s next block i ≡ replicate (pageSize (s .geometry)) 255
+    ahead-next i h l = left .other-pages i l (λ e. omega (arith, e, h)) ∙ r .ahead t i (omega (arith, h)) l
+
+    -- page n, where its program did not pass
+    page-over : isPassed (next .outcome) ≡ false → Over (pages n) (pageOn s next block n)
+    page-over f =
+        ⊎-elim
+        (λ e. subst (Over (pages n)) (sym (e ∙ r .ahead t n (omega arith) page-below)) (over-blank n page-below))
+        (λ e. subst (Over (pages n)) (sym (e ∙ ap (λ (x : List ℕ). programmed x (weakened (pages n) (s .mask))) here)) (programmed-over (pages n) (s .mask) (meant .bytes n page-below) mask-bytes))
+        (left .partly f)
+
+    damage-next : isPassed (next .outcome) ≡ false → (i : ℕ) → i < s .geometry .pages → Over (pages i) (pageOn s next block i)
+    damage-next f i h =
+        cases (eqb i n)
+        (λ e. subst (λ (k : ℕ). Over (pages k) (pageOn s next block k)) (sym (eqb-true i n e)) (page-over f))
+        (λ e. subst (Over (pages i)) (sym (left .other-pages i h (eqb-false i n e))) (all-over q n (r .done t) (r .ahead t) i h))
+
+    program-next : Filled s p next block pages (suc n)
+    program-next =
+        record {
+          sound = left .sound;
+          others = others-next;
+          done = done-next;
+          ahead = λ y. ahead-next;
+          in-order = λ y. subst (λ (k : ℕ). getD (next .line .chip .history) block 0 ≤ k) (add-one n) (left .in-order y);
+          damaged = λ f. inr (inr (damage-next f));
+        }
+
+  -- a read in between changes nothing
+  module _ (q : Progress) (n : ℕ) (r : Filled s p q block pages n) (t : isPassed (q .outcome) ≡ true) (q' : Progress) (u : Unchanged s (q .line .chip .array) (q .line .chip .history) q') where
+    same-page : (i : ℕ) → pageOn s q' block i ≡ pageOn s q block i
+    same-page i = ap (λ (a : List ℕ). pageIn (s .geometry) (blockIn (s .geometry) a block) i) (u .same-array)
+
+    after-read : Filled s p q' block pages n
+    after-read =
+        record {
+          sound = u .sound;
+          others = λ b h x. ap (λ (a : List ℕ). blockIn (s .geometry) a b) (u .same-array) ∙ r .others b h x;
+          done = λ y i h. same-page i ∙ r .done t i h;
+          ahead = λ y i h l. same-page i ∙ r .ahead t i h l;
+          in-order = λ y. subst (λ (x : List ℕ). getD x block 0 ≤ n) (sym (u .same-history)) (r .in-order t);
+          damaged = λ f. inr (inr (all-over q' n (λ i h. same-page i ∙ r .done t i h) (λ i h l. same-page i ∙ r .ahead t i h l)));
+        }
+
+    after-stop : isPassed (q' .outcome) ≡ false → Filled s p q' block pages (suc n)
+    after-stop f =
+        record {
+          sound = u .sound;
+          others = after-read .others;
+          done = λ y. absurd (false≢true (sym f ∙ y));
+          ahead = λ y. absurd (false≢true (sym f ∙ y));
+          in-order = λ y. absurd (false≢true (sym f ∙ y));
+          damaged = after-read .damaged;
+        }
+
+  -- page n, whatever its source
+  module _ (q : Progress) (n : ℕ) (page-below : n < s .geometry .pages) (r : Filled s p q block pages n) (t : isPassed (q .outcome) ≡ true) where
+    still-called : Called s (q .line)
+    still-called = r .sound .called (passed-answered (q .outcome) t)
+
+    -- a page that is kept
+    module _ (old : ℕ) (old-below : old < s .geometry .blocks) where
+      abbrev fetched : Progress
+      fetched = readOn s (rowOf (s .geometry) old n) 0 (s .geometry .main) q
+
+      fetch-unchanged : Unchanged s (q .line .chip .array) (q .line .chip .history) fetched
+      fetch-unchanged =
+          read-unchanged s (q .line .chip .array) (q .line .chip .history) (rowOf (s .geometry) old n) 0 (s .geometry .main)
+          (row-below (s .geometry) (still-called .is-valid) old n old-below page-below)
+          (omega (arith, still-called .is-valid .main-least)) (omega arith) q
+          (record { sound = r .sound; ends = passed-read-end (q .outcome) t; same-array = refl; same-history = refl })
+
+      kept-next : (bytes : List ℕ) → bytes ≡ pages n → Filled s p (programOn s block n bytes fetched) block pages (suc n)
+      kept-next bytes e =
+          cases (isPassed (fetched .outcome))
+          (λ y. subst (λ (x : List ℕ). Filled s p (programOn s block n x fetched) block pages (suc n)) (sym e) (program-next fetched n page-below (after-read q n r t fetched fetch-unchanged) y))
+          (λ f. subst (λ (x : Progress). Filled s p x block pages (suc n)) (sym (program-stopped s block n bytes fetched f)) (after-stop q n r t fetched fetch-unchanged f))
+
+    provided-next : (from : Source) (page : List ℕ) → Provides (s .geometry) (p .line .chip .array) block c n from page → page ≡ pages n → Filled s p (pageFilled s block c n from q) block pages (suc n)
+    unfolding pageFilled
+    provided-next from page (from-caller main) e = subst (λ (x : List ℕ). Filled s p (programOn s block n x q) block pages (suc n)) (sym e) (program-next q n page-below r t)
+    provided-next from page (from-copy old old-below x) e =
+        kept-next old old-below _ (ap (λ (row : List ℕ). pageOf (s .geometry) c n (mainIn (s .geometry) row n)) (r .others old old-below x) ∙ e)
+
+    page-next : Filled s p (pageFilled s block c n (source n) q) block pages (suc n)
+    page-next = provided-next (source n) (pages n) (meant .provides n page-below) refl
+
+  -- the first n pages, from q right after the erase
+  pub pages-leave : (q : Progress) → Filled s p q block pages 0 → (n : ℕ) → n ≤ s .geometry .pages → Filled s p (pagesFilled s block c source n q) block pages n
+  unfolding pagesFilled
+  pages-leave q r zero h = r
+  pages-leave q r (suc n) h =
+      let so-far = pagesFilled s block c source n q in
+      let less = pages-leave q r n (omega (arith, h)) in
+      cases (isPassed (so-far .outcome))
+      (λ t. page-next so-far n (omega (arith, h)) less t)
+      (λ f. subst (λ (x : Progress). Filled s p x block pages (suc n)) (sym (still q n f)) (stopped so-far n less f))
+    where
+      still : (q : Progress) (n : ℕ) → isPassed (pagesFilled s block c source n q .outcome) ≡ false → pagesFilled s block c source (suc n) q ≡ pagesFilled s block c source n q
+      still q n f = ap (λ (k : ℕ). pagesFilled s block c source k q) (sym (one-more n)) ∙ fill-stopped s block c source n q f 1
+
+      stopped : (x : Progress) (n : ℕ) → Filled s p x block pages n → isPassed (x .outcome) ≡ false → Filled s p x block pages (suc n)
+      stopped x n r f =
+          record {
+            sound = r .sound;
+            others = r .others;
+            done = λ y. absurd (false≢true (sym f ∙ y));
+            ahead = λ y. absurd (false≢true (sym f ∙ y));
+            in-order = λ y. absurd (false≢true (sym f ∙ y));
+            damaged = r .damaged;
+          }
+
+  -- the whole fill, from p
+  pub fill-leaves : isPassed (p .outcome) ≡ true → Called s (p .line) → Filled s p (filled s block c source p) block pages (s .geometry .pages)
+  fill-leaves t called =
+      let e = erase-leaves s p block below t called in
+      pages-leave (eraseOn s block p)
+      (record {
+        sound = e .sound;
+        others = e .others;
+        done = λ y i h. absurd (omega (arith, h));
+        ahead = λ y i h l. ap (λ (row : List ℕ). pageIn (s .geometry) row i) (e .whole y) ∙ page-erased (s .geometry) i l;
+        in-order = e .in-order;
+        damaged = λ f. ⊎-elim inl (λ x. inr (inl x)) (e .partly f);
+      })
+      (s .geometry .pages) (omega arith)

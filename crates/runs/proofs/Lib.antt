@@ -1,0 +1,7 @@
+pub mod PlaceLaws
+pub mod OutcomeLaws
+pub mod ReadLaws
+pub mod EraseLaws
+pub mod ProgramLaws
+pub mod FillLaws
+pub mod CopyLaws

@@ -1,0 +1,120 @@
+-- What a program leaves of a request's blocks and pages. Assumes nothing.
+use Prim.Native.Nat.{ℕ, _+_, _≤_, _<_}
+use mathlib.Core.Bool.{true, false}
+use mathlib.Core.List.{List}
+use mathlib.Core.Logic.{_⊎_, inl, inr, ⊎-elim}
+use mathlib.Core.Path.{_≡_, refl, sym, ap, subst, _∙_}
+use native.Mathlib.Omega.{arith}
+use borrow.Table.Steps.{cases}
+use lib.ListN.{length, getD, set}
+use lib.Seq.{getD-set-same}
+use Rattle.geometry.specs.Sizes.{pageSize, rowOf}
+use Rattle.cells.specs.Cells.{programmed, weakened}
+use Rattle.cells.proofs.CellLaws.{length-programmed}
+use Rattle.array.specs.Device.{Setting}
+use Rattle.bus.specs.Line.{Line, sendAll}
+use Rattle.polling.specs.Polling.{isPassed, outcomeOf}
+use Rattle.sequences.specs.Cycles.{programCycles}
+use Rattle.operations.specs.Ends.{Called, CanProgram, End, endOf, programEnd, confirmedEnd, answered, withRow, rowBytesOf}
+use Rattle.operations.proofs.ProgramLaws.{program-ends, program-legal, program-next}
+use Rattle.copies.specs.Blocks.{blockIn, pageIn}
+use Rattle.scan.specs.Progress.{Progress}
+use Rattle.fill.specs.Steps.{programOn}
+use Rattle.fill.proofs.StepLaws.{program-on-line, program-on-outcome, whole-effect}
+use Rattle.runs.specs.Run.{isIllegal, Sound, Programmed, OthersSame, pageOn}
+use Rattle.runs.proofs.PlaceLaws.{page-place, page-there, page-elsewhere, page-other-block, page-long}
+use Rattle.runs.proofs.EraseLaws.{part-effect, ends-known}
+
+module _ (s : Setting) (p : Progress) (block page : ℕ) (bytes : List ℕ) (t : isPassed (p .outcome) ≡ true) (can : CanProgram s (p .line) block page bytes) where
+  abbrev next : Progress
+  next = programOn s block page bytes p
+
+  abbrev array : List ℕ
+  array = p .line .chip .array
+
+  line-is : next .line ≡ sendAll s (p .line) (programCycles s (p .line) (rowOf (s .geometry) block page) bytes)
+  line-is = program-on-line s block p (p .line) refl t page bytes
+
+  end-is : endOf (next .line) ≡ programEnd s (p .line) block page bytes
+  end-is = ap endOf line-is ∙ program-ends s (p .line) block page bytes can
+
+  outcome-is : next .outcome ≡ programEnd s (p .line) block page bytes .outcome
+  unfolding endOf
+  outcome-is = program-on-outcome s block p (p .line) refl t page bytes ∙ ap outcomeOf (sym line-is) ∙ ap (λ (e : End). e .outcome) end-is
+
+  array-is : next .line .chip .array ≡ programEnd s (p .line) block page bytes .array
+  unfolding endOf
+  array-is = ap (λ (e : End). e .array) end-is
+
+  history-is : next .line .chip .history ≡ programEnd s (p .line) block page bytes .history
+  unfolding endOf
+  history-is = ap (λ (e : End). e .history) end-is
+
+  sound : Sound s next
+  unfolding programEnd confirmedEnd
+  sound =
+      record {
+        known = ap isIllegal outcome-is ∙ ends-known s (p .line) 2 (6 + length bytes);
+        legal = ap (λ (x : Line). x .chip .port .illegal) line-is ∙ program-legal s (p .line) block page bytes can;
+        called = λ a. subst (Called s) (sym line-is) (program-next s (p .line) block page bytes can (sym (ap answered outcome-is) ∙ a));
+      }
+
+  abbrev old : List ℕ
+  old = pageOn s p block page
+
+  old-is : rowBytesOf s (rowOf (s .geometry) block page) array ≡ old
+  old-is = sym (page-place (s .geometry) (can .called .is-valid) array block page (can .page-below))
+
+  -- the page's bytes are replaced
+  module _ (ys : List ℕ) (long : length ys ≡ pageSize (s .geometry)) (e : next .line .chip .array ≡ withRow s (rowOf (s .geometry) block page) ys array) where
+    replaced : pageOn s next block page ≡ ys
+    replaced = ap (λ (a : List ℕ). pageIn (s .geometry) (blockIn (s .geometry) a block) page) e ∙ page-there (s .geometry) (can .called .is-valid) array (can .called .array-long) block (can .block-below) page (can .page-below) ys long
+
+    pages-kept : (i : ℕ) → i < s .geometry .pages → (i ≡ page → ⊥) → pageOn s next block i ≡ pageOn s p block i
+    pages-kept i h x =
+        ap (λ (a : List ℕ). pageIn (s .geometry) (blockIn (s .geometry) a block) i) e ∙ page-elsewhere (s .geometry) (can .called .is-valid) array (can .called .array-long) block (can .block-below) page (can .page-below) ys long i h x
+
+    blocks-kept : OthersSame s p next block
+    blocks-kept b h x =
+        ap (λ (a : List ℕ). blockIn (s .geometry) a b) e ∙ page-other-block (s .geometry) (can .called .is-valid) array (can .called .array-long) block (can .block-below) page (can .page-below) ys long b x
+
+  made-long : (ds : List ℕ) → length (programmed old ds) ≡ pageSize (s .geometry)
+  made-long ds = length-programmed old ds ∙ page-long (s .geometry) (can .called .is-valid) array (can .called .array-long) block (can .block-below) page (can .page-below)
+
+  made-of : (ds a : List ℕ) → a ≡ withRow s (rowOf (s .geometry) block page) (programmed (rowBytesOf s (rowOf (s .geometry) block page) array) ds) array → a ≡ withRow s (rowOf (s .geometry) block page) (programmed old ds) array
+  made-of ds a e = e ∙ ap (λ (x : List ℕ). withRow s (rowOf (s .geometry) block page) (programmed x ds) array) old-is
+
+  module _ (passed : isPassed (next .outcome) ≡ true) where
+    effect : (next .line .chip .array ≡ withRow s (rowOf (s .geometry) block page) (programmed old bytes) array) × (next .line .chip .history ≡ set (p .line .chip .history) block (page + 1))
+    unfolding programEnd
+    effect =
+        let both = whole-effect s (p .line) 2 (6 + length bytes) _ _ _ _ (sym (ap isPassed outcome-is) ∙ passed) in
+        (made-of bytes (next .line .chip .array) (array-is ∙ both .0), history-is ∙ both .1)
+
+    order-next : getD (next .line .chip .history) block 0 ≤ page + 1
+    order-next =
+        let set-is = getD-set-same (p .line .chip .history) block (page + 1) 0 (omega (arith, can .block-below, can .called .history-long)) in
+        omega (arith, ap (λ (x : List ℕ). getD x block 0) (effect .1), set-is)
+
+  effect-part : isPassed (next .outcome) ≡ false → (next .line .chip .array ≡ array) ⊎ (next .line .chip .array ≡ withRow s (rowOf (s .geometry) block page) (programmed old (weakened bytes (s .mask))) array)
+  unfolding programEnd
+  effect-part f =
+      ⊎-elim (λ e. inl (array-is ∙ e)) (λ e. inr (made-of (weakened bytes (s .mask)) (next .line .chip .array) (array-is ∙ e)))
+      (part-effect s (p .line) 2 (6 + length bytes) _ _ _ _ (sym (ap isPassed outcome-is) ∙ f))
+
+  pub program-leaves : Programmed s p next block page bytes
+  program-leaves =
+      let half : List ℕ = weakened bytes (s .mask) in
+      record {
+        sound = sound;
+        others = cases (isPassed (next .outcome))
+            (λ y. blocks-kept (programmed old bytes) (made-long bytes) (effect y .0))
+            (λ f. ⊎-elim (λ e b h x. ap (λ (a : List ℕ). blockIn (s .geometry) a b) e) (λ e. blocks-kept (programmed old half) (made-long half) e) (effect-part f));
+        other-pages = cases (isPassed (next .outcome))
+            (λ y. pages-kept (programmed old bytes) (made-long bytes) (effect y .0))
+            (λ f. ⊎-elim (λ e i h x. ap (λ (a : List ℕ). pageIn (s .geometry) (blockIn (s .geometry) a block) i) e) (λ e. pages-kept (programmed old half) (made-long half) e) (effect-part f));
+        whole = λ y. replaced (programmed old bytes) (made-long bytes) (effect y .0);
+        partly = λ f.
+            ⊎-elim (λ e. inl (ap (λ (a : List ℕ). pageIn (s .geometry) (blockIn (s .geometry) a block) page) e)) (λ e. inr (replaced (programmed old half) (made-long half) e)) (effect-part f);
+        in-order = order-next;
+      }

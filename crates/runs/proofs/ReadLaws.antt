@@ -1,0 +1,111 @@
+-- Resets and reads of a request on its way: nothing on the chip changes. Assumes nothing.
+use Prim.Native.Nat.{ℕ, zero, suc, _+_, _≤_, _<_}
+use mathlib.Core.Bool.{true}
+use mathlib.Core.List.{List, []}
+use mathlib.Core.Path.{_≡_, refl, sym, ap, subst, _∙_}
+use native.Mathlib.Omega.{arith}
+use borrow.Table.Steps.{cases}
+use lib.Dec.{ltb}
+use Rattle.geometry.specs.Limits.{Valid}
+use Rattle.geometry.specs.Sizes.{pageSize, rowCount, rowOf}
+use Rattle.geometry.proofs.SizeLaws.{row-below}
+use Rattle.array.specs.Device.{Device, Setting}
+use Rattle.bus.specs.Line.{Line, sendAll}
+use Rattle.interface.specs.Interface.{busyOf}
+use Rattle.polling.specs.Polling.{isPassed}
+use Rattle.polling.specs.declared.Outcome.the-variants.{Passed}
+use Rattle.sequences.specs.Cycles.{resetCycles}
+use Rattle.operations.specs.Ends.{Called, CanRead, End, endOfRead, readEnd, endOfReset, resetEnd, answered, readTotal, wordFor}
+use Rattle.operations.proofs.ReadLaws.{read-ends, read-legal, read-next}
+use Rattle.operations.proofs.ResetLaws.{reset-ends, reset-legal}
+use Rattle.scan.specs.Progress.{Progress, progress, readOn, resetOn}
+use Rattle.scan.specs.Scan.{pagesRead, blocksRead}
+use Rattle.scan.proofs.ReadOnLaws.{read-line, read-outcome, read-stopped, is-passed}
+use Rattle.calls.specs.Call.{sizedFor, callLine}
+use Rattle.calls.proofs.ResetLaws.{reset-called}
+use Rattle.runs.specs.Run.{isReadEnd, Unchanged}
+use Rattle.runs.proofs.OutcomeLaws.{read-passed, read-known}
+
+-- how a read ends, by its fate word and the allowance
+ends-as-read : (s : Setting) (l : Line) (n : ℕ) → isReadEnd (readEnd s l n .outcome) ≡ true
+unfolding readEnd isReadEnd
+ends-as-read s l n =
+    cases (ltb (l .left) (readTotal s (l .chip) n))
+    (λ t. rw t)
+    (λ t. cases (ltb (busyOf (wordFor s (l .chip))) 256) (λ u. rw (t, u)) (λ u. rw (t, u)))
+
+module _ (s : Setting) (array history : List ℕ) where
+  -- one read
+  module _ (row column n : ℕ) (row-fits : row < rowCount (s .geometry)) (column-fits : column < pageSize (s .geometry)) (within : column + n ≤ pageSize (s .geometry)) where
+    due : (p : Progress) → Unchanged s array history p → isPassed (p .outcome) ≡ true → Unchanged s array history (readOn s row column n p)
+    unfolding endOfRead readEnd answered isPassed
+    due p u t =
+        let l = p .line in
+        let called : Called s l = u .sound .called (ap answered (is-passed (p .outcome) t)) in
+        let can : CanRead s l row column n = record { called = called; row-below = row-fits; column-below = column-fits; within = within } in
+        let line-is = read-line s row column n p l refl t in
+        let ends = read-ends s l row column n can in
+        let outcome-is : readOn s row column n p .outcome ≡ readEnd s l n .outcome = read-outcome s row column n p l refl t ∙ ap (λ (e : End). e .outcome) ends in
+        let fine : isReadEnd (readOn s row column n p .outcome) ≡ true = ap isReadEnd outcome-is ∙ ends-as-read s l n in
+        record {
+          sound = record {
+            legal = ap (λ (x : Line). x .chip .port .illegal) line-is ∙ read-legal s l row column n can;
+            known = read-known (readOn s row column n p .outcome) fine;
+            called = λ a. subst (Called s) (sym line-is) (read-next s l row column n can (sym (ap isPassed outcome-is) ∙ read-passed (readOn s row column n p .outcome) fine a));
+          };
+          ends = fine;
+          same-array = ap (λ (x : Line). x .chip .array) line-is ∙ ap (λ (e : End). e .array) ends ∙ u .same-array;
+          same-history = ap (λ (x : Line). x .chip .history) line-is ∙ ap (λ (e : End). e .history) ends ∙ u .same-history;
+        }
+
+    pub read-unchanged : (p : Progress) → Unchanged s array history p → Unchanged s array history (readOn s row column n p)
+    read-unchanged p u =
+        cases (isPassed (p .outcome))
+        (due p u)
+        (λ f. subst (Unchanged s array history) (sym (read-stopped s row column n p f)) u)
+
+  -- pages read whole
+  module _ (v : Valid (s .geometry)) where
+    pub pages-unchanged : (block : ℕ) → block < s .geometry .blocks → (n : ℕ) → n ≤ s .geometry .pages → (p : Progress) → Unchanged s array history p → Unchanged s array history (pagesRead s block n p)
+    unfolding pagesRead
+    pages-unchanged block b zero h p u = u
+    pages-unchanged block b (suc n) h p u =
+        read-unchanged (rowOf (s .geometry) block n) 0 (pageSize (s .geometry)) (row-below (s .geometry) v block n b (omega (arith, h))) (omega (arith, v .main-least)) (omega arith)
+        (pagesRead s block n p)
+        (pages-unchanged block b n (omega (arith, h)) p u)
+
+    pub blocks-unchanged : (n : ℕ) → n ≤ s .geometry .blocks → (p : Progress) → Unchanged s array history p → Unchanged s array history (blocksRead s n p)
+    unfolding blocksRead
+    blocks-unchanged zero h p u = u
+    blocks-unchanged (suc n) h p u =
+        pages-unchanged n (omega (arith, h)) (s .geometry .pages) (omega arith) (blocksRead s n p) (blocks-unchanged n (omega (arith, h)) p u)
+
+-- the reset with which a call begins
+module _ (s : Setting) (d : Device) (n : ℕ) (t : sizedFor s d ≡ true) where
+  abbrev begun : Progress
+  begun = resetOn s (progress (callLine d n) Passed [] [])
+
+  line-is : begun .line ≡ sendAll s (callLine d n) resetCycles
+  unfolding resetOn isPassed
+  line-is = refl
+
+  ends-as : isReadEnd (resetEnd (callLine d n) .outcome) ≡ true
+  unfolding resetEnd isReadEnd
+  ends-as = cases (ltb n 3) (λ u. rw u) (λ u. rw u)
+
+  pub reset-unchanged : Unchanged s (d .array) (d .history) begun
+  unfolding endOfReset resetEnd resetOn isPassed
+  reset-unchanged =
+      let ends = reset-ends s (callLine d n) refl refl in
+      let outcome-is : begun .outcome ≡ resetEnd (callLine d n) .outcome = ap (λ (e : End). e .outcome) ends in
+      let fine : isReadEnd (begun .outcome) ≡ true = ap isReadEnd outcome-is ∙ ends-as in
+      record {
+        sound = record {
+          legal = reset-legal s (callLine d n) refl refl;
+          known = read-known (begun .outcome) fine;
+          called = λ a. reset-called s d n t (begun .line) (begun .outcome) line-is refl (read-passed (begun .outcome) fine a);
+        };
+        ends = fine;
+        same-array = ap (λ (e : End). e .array) ends;
+        same-history = ap (λ (e : End). e .history) ends;
+      }

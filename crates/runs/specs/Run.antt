@@ -1,0 +1,112 @@
+-- A request on its way, told without its cycles: what each of its operations leaves of the chip.
+use Prim.Native.Nat.{ℕ, _+_, _≤_, _<_}
+use mathlib.Core.Bool.{Bool, true, false}
+use mathlib.Core.List.{List}
+use mathlib.Core.Logic.{_⊎_}
+use mathlib.Core.Path.{_≡_}
+use lib.ListN.{length, getD, replicate}
+use Rattle.geometry.specs.declared.Geometry.{Geometry}
+use Rattle.geometry.specs.Sizes.{pageSize, blockSize}
+use Rattle.cells.specs.Bytes.{Bytes}
+use Rattle.cells.specs.Cells.{programmed, weakened, raised}
+use Rattle.array.specs.Device.{Setting}
+use Rattle.polling.specs.Polling.{isPassed}
+use Rattle.polling.specs.declared.Outcome.{Outcome}
+use Rattle.polling.specs.declared.Outcome.the-variants.{Passed, Failed, Silent, Cut, Illegal}
+use Rattle.operations.specs.Ends.{Called, answered}
+use Rattle.pages.specs.Layout.{numberWidth}
+use Rattle.pages.specs.Over.{Over}
+use Rattle.copies.specs.Blocks.{blockIn, pageIn, mainIn}
+use Rattle.scan.specs.Progress.{Progress}
+use Rattle.fill.specs.Fill.{Copy, Source, given, kept, pageOf}
+
+-- how a reset or a read can end: passed, silent or cut
+unfoldable pub isReadEnd : Outcome → Bool
+isReadEnd Passed = true
+isReadEnd Failed = false
+isReadEnd Silent = true
+isReadEnd Cut = true
+isReadEnd Illegal = false
+
+unfoldable pub isIllegal : Outcome → Bool
+isIllegal Passed = false
+isIllegal Failed = false
+isIllegal Silent = false
+isIllegal Cut = false
+isIllegal Illegal = true
+
+-- no cycle was answered illegal, and after an operation that was answered the chip takes the next one
+pub record Sound (s : Setting) (p : Progress) : Type 0 where
+  pub legal : p .line .chip .port .illegal ≡ 0
+  pub known : isIllegal (p .outcome) ≡ false
+  pub called : answered (p .outcome) ≡ true → Called s (p .line)
+
+-- so far nothing but resets and reads: array and history are as they were
+pub record Unchanged (s : Setting) (array history : List ℕ) (p : Progress) : Type 0 where
+  pub sound : Sound s p
+  pub ends : isReadEnd (p .outcome) ≡ true
+  pub same-array : p .line .chip .array ≡ array
+  pub same-history : p .line .chip .history ≡ history
+
+-- the array of a request on its way, by its blocks and pages
+abbrev pub blockOn : Setting → Progress → ℕ → List ℕ
+blockOn s p b = blockIn (s .geometry) (p .line .chip .array) b
+
+abbrev pub pageOn : Setting → Progress → ℕ → ℕ → List ℕ
+pageOn s p b i = pageIn (s .geometry) (blockOn s p b) i
+
+-- every other block is as it was
+abbrev pub OthersSame : Setting → Progress → Progress → ℕ → Type 0
+OthersSame s p q block = (b : ℕ) → b < s .geometry .blocks → (b ≡ block → ⊥) → blockOn s q b ≡ blockOn s p b
+
+-- an erase that led from p to q
+pub record Erased (s : Setting) (p q : Progress) (block : ℕ) : Type 0 where
+  pub sound : Sound s q
+  pub others : OthersSame s p q block
+  pub whole : isPassed (q .outcome) ≡ true → blockOn s q block ≡ replicate (blockSize (s .geometry)) 255
+  pub partly : isPassed (q .outcome) ≡ false → (blockOn s q block ≡ blockOn s p block) ⊎ (blockOn s q block ≡ raised (blockOn s p block) (s .mask))
+  pub in-order : isPassed (q .outcome) ≡ true → getD (q .line .chip .history) block 0 ≤ 0
+
+-- a program that led from p to q
+pub record Programmed (s : Setting) (p q : Progress) (block page : ℕ) (bytes : List ℕ) : Type 0 where
+  pub sound : Sound s q
+  pub others : OthersSame s p q block
+  pub other-pages : (i : ℕ) → i < s .geometry .pages → (i ≡ page → ⊥) → pageOn s q block i ≡ pageOn s p block i
+  pub whole : isPassed (q .outcome) ≡ true → pageOn s q block page ≡ programmed (pageOn s p block page) bytes
+  pub partly : isPassed (q .outcome) ≡ false
+      → (pageOn s q block page ≡ pageOn s p block page) ⊎ (pageOn s q block page ≡ programmed (pageOn s p block page) (weakened bytes (s .mask)))
+  pub in-order : isPassed (q .outcome) ≡ true → getD (q .line .chip .history) block 0 ≤ page + 1
+
+-- where the bytes of page n of a copy come from: the caller, or the same page of another block
+pub data Provides (g : Geometry) (array : List ℕ) (block : ℕ) (c : Copy) (n : ℕ) : Source → List ℕ → Type 0 where
+  from-caller : (main : List ℕ) → Provides g array block c n (given main) (pageOf g c n main)
+  from-copy : (old : ℕ) → old < g .blocks → (old ≡ block → ⊥) → Provides g array block c n (kept old) (pageOf g c n (mainIn g (blockIn g array old) n))
+
+-- a copy whose label fits its bytes, with a number of four bytes
+pub record Labelled (c : Copy) : Type 0 where
+  pub width-four : numberWidth (c .kind) ≡ 4
+  pub kind-byte : c .kind < 256
+  pub logical-fits : c .logical < 65536
+  pub number-fits : c .number < 4294967296
+
+-- the pages that a fill is to leave: bytes, as long as a page, with a source each
+pub record Meant (s : Setting) (array : List ℕ) (block : ℕ) (c : Copy) (source : ℕ → Source) (pages : ℕ → List ℕ) : Type 0 where
+  pub long : (i : ℕ) → i < s .geometry .pages → length (pages i) ≡ pageSize (s .geometry)
+  pub bytes : (i : ℕ) → i < s .geometry .pages → Bytes (pages i)
+  pub provides : (i : ℕ) → i < s .geometry .pages → Provides (s .geometry) array block c i (source i) (pages i)
+
+-- what a fill that did not pass leaves of its block: all as it was, the old block with bits raised, or the new pages
+-- with bits raised
+abbrev pub Damaged : Setting → Progress → Progress → ℕ → (ℕ → List ℕ) → Type 0
+Damaged s p q block pages =
+    (blockOn s q block ≡ blockOn s p block)
+    ⊎ ((blockOn s q block ≡ raised (blockOn s p block) (s .mask)) ⊎ ((i : ℕ) → i < s .geometry .pages → Over (pages i) (pageOn s q block i)))
+
+-- a fill on its way from p: the erase and the first n pages led to q
+pub record Filled (s : Setting) (p q : Progress) (block : ℕ) (pages : ℕ → List ℕ) (n : ℕ) : Type 0 where
+  pub sound : Sound s q
+  pub others : OthersSame s p q block
+  pub done : isPassed (q .outcome) ≡ true → (i : ℕ) → i < n → pageOn s q block i ≡ pages i
+  pub ahead : isPassed (q .outcome) ≡ true → (i : ℕ) → n ≤ i → i < s .geometry .pages → pageOn s q block i ≡ replicate (pageSize (s .geometry)) 255
+  pub in-order : isPassed (q .outcome) ≡ true → getD (q .line .chip .history) block 0 ≤ n
+  pub damaged : isPassed (q .outcome) ≡ false → Damaged s p q block pages
