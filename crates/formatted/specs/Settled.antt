@@ -1,0 +1,50 @@
+-- The array that a formatting leaves, and what a mount makes of it.
+use Prim.Native.Nat.{ℕ, _≤_, _<_}
+use mathlib.Core.Bool.{true, false}
+use mathlib.Core.List.{List}
+use mathlib.Core.Path.{_≡_}
+use lib.ListN.{length, getD, replicate}
+use Rattle.geometry.specs.declared.Geometry.{Geometry}
+use Rattle.geometry.specs.Limits.{Valid}
+use Rattle.geometry.specs.Sizes.{pageSize, chipSize}
+use Rattle.cells.specs.Bytes.{Bytes}
+use Rattle.bitmaps.specs.Bitmap.{bitAt}
+use Rattle.copies.specs.Blocks.{blockIn, pageIn, isMarked, isComplete, aboveTo}
+use Rattle.copies.specs.Current.{currentTable, mountAnswer, reading}
+use Rattle.copies.specs.Pick.{at}
+use Rattle.copies.specs.Table.{lists, bitmapBytes}
+use Rattle.state.specs.declared.State.{State}
+use Rattle.mount.specs.Mount.{mountedState}
+use Rattle.fill.specs.Fill.{pageOf, tableCopy, tableMain}
+
+-- a bitmap that has no bit past the last block
+pub record Bitmap (blocks : ℕ) (bits : List ℕ) : Type 0 where
+  pub long : length bits ≡ 512
+  pub bytes : Bytes bits
+  pub past : (j : ℕ) → bitmapBytes blocks ≤ j → getD bits j 0 ≡ 0
+  pub clear : (b : ℕ) → blocks ≤ b → bitAt bits b ≡ false
+
+-- a table under a number lists the invalid blocks; every other unmarked block is erased, or is listed and has no whole
+-- page with that number or a greater one
+pub record Settled (g : Geometry) (array invalid : List ℕ) (table number : ℕ) : Type 0 where
+  pub is-valid : Valid g
+  pub array-long : length array ≡ chipSize g
+  pub invalid-bits : Bitmap (g .blocks) invalid
+  pub table-below : table < g .blocks
+  pub table-valid : bitAt invalid table ≡ false
+  pub number-fits : number < 4294967296
+  pub table-pages : (i : ℕ) → i < g .pages → pageIn g (blockIn g array table) i ≡ pageOf g (tableCopy number) i (tableMain g invalid i)
+  pub erased : (b : ℕ) → b < g .blocks → (b ≡ table → ⊥) → isMarked g (blockIn g array b) ≡ false → bitAt invalid b ≡ false
+      → (i : ℕ) → i < g .pages → pageIn g (blockIn g array b) i ≡ replicate (pageSize g) 255
+  pub listed : (b : ℕ) → b < g .blocks → isMarked g (blockIn g array b) ≡ false → bitAt invalid b ≡ true → aboveTo g (blockIn g array b) (g .pages) ≤ number
+  pub apart : (b : ℕ) → b < g .blocks → isMarked g (blockIn g array b) ≡ true → bitAt invalid b ≡ false
+
+-- what demand 3 starts from: the table on the chip and what it lists, nothing unlisted complete but it, a mount that
+-- succeeds and gives this state, and every logical page FFh
+pub record Formatted (g : Geometry) (array : List ℕ) (st : State) : Type 0 where
+  pub table-is : currentTable g array ≡ at (st .table)
+  pub lists-are : (b : ℕ) → b < g .blocks → lists g (blockIn g array (st .table)) b ≡ bitAt (st .invalid) b
+  pub only-table : (b : ℕ) → b < g .blocks → isComplete g (blockIn g array b) ≡ true → lists g (blockIn g array (st .table)) b ≡ false → b ≡ st .table
+  pub mounts : mountAnswer g array ≡ 0
+  pub state-is : st ≡ mountedState g array
+  pub blank : (logical p : ℕ) → reading g array (st .table) logical p ≡ replicate (g .main) 255

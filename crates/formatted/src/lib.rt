@@ -1,0 +1,1 @@
+// What an acknowledged formatting leaves, whatever the chip held, failed or cut before it. No code.
