@@ -4,7 +4,6 @@ use mathlib.Core.List.{List, _++_}
 use mathlib.Core.Path.{_≡_, refl, _∙_}
 use native.Mathlib.Omega.{arith}
 use borrow.Table.Steps.{cases}
-use lib.Dec.{eqb}
 use lib.ListN.{length, length-append}
 use Rattle.geometry.specs.Sizes.{rowOf}
 use Rattle.array.specs.Device.{Setting}
@@ -13,15 +12,10 @@ use Rattle.bus.specs.Line.{Line, sendAll, sent}
 use Rattle.bus.proofs.LineLaws.{sent-counts}
 use Rattle.polling.specs.Polling.{isPassed}
 use Rattle.sequences.specs.Cycles.{eraseCycles, programCycles}
-use Rattle.state.specs.Choose.{chosen}
-use Rattle.state.specs.declared.State.{State}
-use Rattle.state.specs.declared.choose.Choice.{Choice}
-use Rattle.state.specs.declared.choose.Choice.the-variants.{Block, Worn}
 use Rattle.scan.specs.Progress.{Progress, readOn}
 use Rattle.scan.proofs.CountLaws.{allowance, read-counts}
-use Rattle.fill.specs.Fill.{Copy, Source, given, kept, pageFilled, pagesFilled, tableCopy, tableSource}
-use Rattle.fill.specs.Steps.{eraseOn, programOn, isFailed}
-use Rattle.fill.specs.Tables.{tryBlock, tryTable, tablesFilled}
+use Rattle.fill.specs.Fill.{Copy, Source, given, kept, pageFilled, pagesFilled, filled}
+use Rattle.fill.specs.Steps.{eraseOn, programOn}
 
 more : (s : Setting) (l : Line) (before cs : List Cycle) → length (before ++ sent s l cs) + sendAll s l cs .left ≡ length before + l .left
 more s l before cs = omega (arith, length-append before (sent s l cs), sent-counts s l cs)
@@ -52,25 +46,6 @@ module _ (s : Setting) where
   fill-counts block c source zero p = refl
   fill-counts block c source (suc n) p = page-counts block c n (source n) (pagesFilled s block c source n p) ∙ fill-counts block c source n p
 
-  block-counts : (st : State) (p : Progress) (c : Choice) → allowance (tryBlock s st p c .progress) ≡ allowance p
-  unfolding tryBlock
-  block-counts st p Worn = refl
-  block-counts st p (Block b) =
-      fill-counts b (tableCopy (st .number)) (tableSource (s .geometry) (st .invalid)) (s .geometry .pages) (eraseOn s b p) ∙ erase-counts b p
-
-  pub try-counts : (held : List ℕ) (st : State) (p : Progress) → allowance (tryTable s held st p .progress) ≡ allowance p
-  unfolding tryTable
-  try-counts held st p = block-counts st p (chosen (st .marked) (st .invalid) held (s .geometry .blocks) (st .last))
-
-  pub tables-count : (held : List ℕ) (k : ℕ) (st : State) (p : Progress) → allowance (tablesFilled s held k st p .progress) ≡ allowance p
-  unfolding tablesFilled
-  tables-count held zero st p = refl
-  tables-count held (suc k) st p =
-      let t = tryTable s held st p in
-      let here = try-counts held st p in
-      cases (eqb (t .worn) 0)
-      (λ w.
-      cases (isFailed (t .progress .outcome))
-      (λ f. rw (w, f) (tables-count held k (t .state) _ ∙ here))
-      (λ f. rw (w, f) here))
-      (λ w. rw w here)
+  -- the whole fill of a block
+  pub filled-counts : (block : ℕ) (c : Copy) (source : ℕ → Source) (p : Progress) → allowance (filled s block c source p) ≡ allowance p
+  filled-counts block c source p = fill-counts block c source (s .geometry .pages) (eraseOn s block p) ∙ erase-counts block p

@@ -16,8 +16,8 @@ use Rattle.state.specs.State.{blank, countPermitted}
 use Rattle.state.specs.declared.State.{State}
 use Rattle.calls.specs.Call.{endAt}
 use Rattle.scan.specs.Progress.{progress}
-use Rattle.fill.specs.Tables.{numbersLeft, TabledAs}
-use Rattle.fill.proofs.CountLaws.{tables-count}
+use Rattle.tables.specs.Tables.{numbersLeft, TabledAs}
+use Rattle.tables.proofs.CountLaws.{tables-count}
 use Rattle.format.specs.Format.{firstState, tooFew, tablesOf, tablesEnd}
 
 module _ (s : Setting) (n : ℕ) (marked invalid : List ℕ) (above : ℕ) (count : ℕ) (c : count ≡ countPermitted marked invalid (replicate 512 0) (s .geometry .blocks)) where

@@ -23,7 +23,7 @@ use Rattle.scan.specs.Scan.{pagesRead}
 use Rattle.state.specs.State.{blank, countPermitted}
 use Rattle.state.specs.declared.State.{State}
 use Rattle.calls.specs.Call.{Result, result, sizedFor, callLine, stopAnswer, endAt}
-use Rattle.fill.specs.Tables.{Tabled, tablesFilled, numbersLeft}
+use Rattle.tables.specs.Tables.{Tabled, tablesFilled, numbersLeft}
 use Rattle.fill.specs.Steps.{eraseOn, resumed, isFailed}
 
 -- the mark bytes of pages 0 and 1 of the first n blocks, one byte each

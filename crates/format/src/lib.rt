@@ -342,7 +342,7 @@ fn fill_first(
         return calls::end(8, State::blank(2), from, allowed);
     }
     let first = first_state(g, marked, invalid, above);
-    let tabled = fill::fill_tables(
+    let tabled = tables::fill_tables(
         from,
         g,
         array,

@@ -1,10 +1,10 @@
--- `fill::end_state` meets its contract. Assumes nothing.
+-- `tables::end_state` meets its contract. Assumes nothing.
 use mathlib.Core.Path.{_∙_}
 use Rattle.polling.proofs.PollLaws.{passed-by-tag, other-by-tag}
-use Rattle.fill.specs.Tables.{endState}
+use Rattle.tables.specs.Tables.{endState}
 use borrow.Author.Needs.{needs}
-use Rattle.fill.proofs.end_state.Statement.{statement}
-use Rattle.fill.proofs.end_state.Tie as tie
+use Rattle.tables.proofs.end_state.Statement.{statement}
+use Rattle.tables.proofs.end_state.Tie as tie
 
 enum-told : tie.Need-enum-told
 enum-told c = search needs

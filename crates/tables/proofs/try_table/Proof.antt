@@ -1,14 +1,14 @@
--- `fill::try_table` meets its contract. Assumes nothing.
+-- `tables::try_table` meets its contract. Assumes nothing.
 use mathlib.Core.Path.{sym, ap, _∙_}
 use native.Mathlib.Omega.{arith}
 use denote.Ref.{now}
 use Rattle.array.specs.Device.{setting}
 use Rattle.bus.specs.Line.{line}
-use Rattle.fill.specs.Tables.{stateAfter}
-use Rattle.fill.proofs.TryLaws.{worn-by-tag, chosen-below, worn-tried, block-tried}
+use Rattle.tables.specs.Tables.{stateAfter}
+use Rattle.tables.proofs.TryLaws.{worn-by-tag, chosen-below, worn-tried, block-tried}
 use borrow.Author.Needs.{needs}
-use Rattle.fill.proofs.try_table.Statement.{statement}
-use Rattle.fill.proofs.try_table.Tie as tie
+use Rattle.tables.proofs.try_table.Statement.{statement}
+use Rattle.tables.proofs.try_table.Tie as tie
 
 choose-block-requires : tie.Need-choose-block-requires
 choose-block-requires c κs = search needs

@@ -1,4 +1,4 @@
--- `fill::fill_tables` meets its contract: before each fill they are on their way as TablesLaws tells. Assumes nothing.
+-- `tables::fill_tables` meets its contract: before each fill they are on their way as TablesLaws tells. Assumes nothing.
 use Prim.Native.Nat.{_-_, _≤_}
 use mathlib.Core.Bool.{true, not}
 use mathlib.Core.Path.{_≡_, refl, sym, _∙_}
@@ -9,10 +9,10 @@ use denote.Ref.{now}
 use lib.ListN.{length}
 use Rattle.array.specs.Device.{setting}
 use Rattle.bus.specs.Line.{line}
 use Rattle.fill.proofs.OutcomeLaws.{failed-by-tag, unfailed-by-tag}
-use Rattle.fill.proofs.TablesLaws.{Tabling, tables-begin, tables-spent, tables-worn, tables-ended, tables-go, number-taken}
-use Rattle.fill.proofs.fill_tables.Statement.{statement}
-use Rattle.fill.proofs.fill_tables.Tie as tie
+use Rattle.tables.proofs.TablesLaws.{Tabling, tables-begin, tables-spent, tables-worn, tables-ended, tables-go, number-taken}
+use Rattle.tables.proofs.fill_tables.Statement.{statement}
+use Rattle.tables.proofs.fill_tables.Tie as tie
 
 abbrev Inv-loop : tie.InvT-loop
 Inv-loop g array₀ register₀ history₀ mask fates held page₀ b₀ st₀ array register history page b st =

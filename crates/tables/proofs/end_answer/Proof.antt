@@ -1,10 +1,10 @@
--- `fill::end_answer` meets its contract. Assumes nothing.
+-- `tables::end_answer` meets its contract. Assumes nothing.
 use mathlib.Core.Path.{_∙_}
 use Rattle.polling.proofs.PollLaws.{passed-by-tag, other-by-tag}
-use Rattle.fill.specs.Tables.{endAnswer}
+use Rattle.tables.specs.Tables.{endAnswer}
 use borrow.Author.Needs.{needs}
-use Rattle.fill.proofs.end_answer.Statement.{statement}
-use Rattle.fill.proofs.end_answer.Tie as tie
+use Rattle.tables.proofs.end_answer.Statement.{statement}
+use Rattle.tables.proofs.end_answer.Tie as tie
 
 enum-told : tie.Need-enum-told
 enum-told c = search needs

@@ -19,10 +19,10 @@ use Rattle.state.specs.declared.State.{State}
 use Rattle.state.specs.declared.choose.Choice.{Choice}
 use Rattle.state.specs.declared.choose.Choice.the-variants.{Block, Worn}
 use Rattle.scan.specs.Progress.{Progress, progress}
 use Rattle.fill.specs.Fill.{tableFilled}
 use Rattle.fill.specs.Steps.{resumed, isFailed}
-use Rattle.fill.specs.Tables.{tryBlock, tryTable, TriedAs, stateAfter, Tabled, tabled, endAnswer, endState, endedBy, tablesFilled, numbersLeft, TabledAs}
+use Rattle.tables.specs.Tables.{tryBlock, tryTable, TriedAs, stateAfter, Tabled, tabled, endAnswer, endState, endedBy, tablesFilled, numbersLeft, TabledAs}
 use Rattle.fill.proofs.OutcomeLaws.{failed-answered}
 
 -- a failed fill keeps the block filled last, and has taken a number
 after-failure : (b : ℕ) (o : Outcome) (st : State) → isFailed o ≡ true → (stateAfter b o st .number ≡ st .number) × (stateAfter b o st .last ≡ st .last)

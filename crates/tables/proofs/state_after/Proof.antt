@@ -1,9 +1,9 @@
--- `fill::state_after` meets its contract. Assumes nothing.
+-- `tables::state_after` meets its contract. Assumes nothing.
 use mathlib.Core.Path.{_∙_}
-use Rattle.fill.proofs.OutcomeLaws.{after-passed, after-failed, after-other}
+use Rattle.tables.proofs.OutcomeLaws.{after-passed, after-failed, after-other}
 use borrow.Author.Needs.{needs}
-use Rattle.fill.proofs.state_after.Statement.{statement}
-use Rattle.fill.proofs.state_after.Tie as tie
+use Rattle.tables.proofs.state_after.Statement.{statement}
+use Rattle.tables.proofs.state_after.Tie as tie
 
 enum-told : tie.Need-enum-told
 enum-told c = search needs

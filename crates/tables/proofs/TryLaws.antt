@@ -20,8 +20,8 @@ use Rattle.state.specs.declared.choose.Choice.the-variants.{Block, Worn}
 use Rattle.state.proofs.choose.Choice.{the-type}
 use Rattle.state.proofs.ChooseLaws.{found, after-below}
 use Rattle.scan.specs.Progress.{progress}
 use Rattle.fill.specs.Fill.{tableFilled}
-use Rattle.fill.specs.Tables.{stateAfter, tryBlock, tryTable, TriedAs}
+use Rattle.tables.specs.Tables.{stateAfter, tryBlock, tryTable, TriedAs}
 
 pub worn-by-tag : (x : Choice) → tagOf the-type x ≡ 1 → x ≡ Worn
 worn-by-tag (Block b) h = absurd (omega (arith, h))

@@ -1,0 +1,4 @@
+pub mod CountLaws
+pub mod OutcomeLaws
+pub mod TablesLaws
+pub mod TryLaws
