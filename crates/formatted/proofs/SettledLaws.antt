@@ -88,7 +88,7 @@ module _ (g : Geometry) (v : Valid g) (invalid : List ℕ) (bits : Bitmap (g .bl
   clear-past : (n k : ℕ) → g .blocks ≤ n → n + k ≤ 8 * bitmapBytes (g .blocks) → clearFrom (take (bitmapBytes (g .blocks)) invalid) n k ≡ true
   unfolding clearFrom
   clear-past n zero h r = refl
-  clear-past n (suc k) h r = rw (bit-taken n (omega (arith, r)) ∙ bits .clear n h) (clear-past (n + 1) k (omega (arith, h)) (omega (arith, r)))
+  clear-past n (suc k) h r = rw (bit-taken n (omega (arith, r)) ∙ bits .clear n h (omega (arith, r, v .blocks-most))) (clear-past (n + 1) k (omega (arith, h)) (omega (arith, r)))
 
   pub first-right : rightFirst (g .blocks) (g .logical) (tablePage (g .main) (g .blocks) (g .logical) invalid) ≡ true
   first-right =

@@ -22,7 +22,7 @@ pub record Bitmap (blocks : ℕ) (bits : List ℕ) : Type 0 where
   pub long : length bits ≡ 512
   pub bytes : Bytes bits
   pub past : (j : ℕ) → bitmapBytes blocks ≤ j → getD bits j 0 ≡ 0
-  pub clear : (b : ℕ) → blocks ≤ b → bitAt bits b ≡ false
+  pub clear : (b : ℕ) → blocks ≤ b → b < 4096 → bitAt bits b ≡ false
 
 -- a table under a number lists the invalid blocks; every other unmarked block is erased, or is listed and has no whole
 -- page with that number or a greater one

@@ -1,0 +1,64 @@
+-- Bitmaps with no bit past the last block, and erased blocks under a partial erase. Assumes nothing.
+use Prim.Native.Nat.{ℕ, zero, suc, _/_, _%_, _≤_, _<_, _^_}
+use mathlib.Core.Bool.{true, false}
+use mathlib.Core.List.{List, [], _∷_}
+use mathlib.Core.Path.{_≡_, refl, sym, ap, ap₂, subst, _∙_}
+use native.Mathlib.Omega.{arith}
+use borrow.Table.Steps.{cases}
+use borrow.Author.Tests.{eqb-true, eqb-false, ltb-true, ltb-false}
+use lib.Bits.{bitAnd, bitOr, and-self, and-le-r, or-lt}
+use lib.Dec.{eqb, ltb}
+use lib.ListN.{length, getD, set, drop, replicate, length-set, length-replicate, getD-replicate, List·getD-eq-default}
+use lib.Seq.{getD-set-same, getD-set-other, set-out}
+use Rattle.cells.specs.Bytes.{Bytes}
+use Rattle.cells.specs.Cells.{raised}
+use Rattle.bitmaps.specs.Bitmap.{bitAt, withBit, byteOf, placeOf}
+use Rattle.bitmaps.proofs.BitLaws.{bit-kept, power-small}
+use Rattle.pages.proofs.OverLaws.{and-or, bytes-next}
+use Rattle.copies.specs.Table.{bitmapBytes}
+use Rattle.state.proofs.MountedLaws.{blank-clear}
+use Rattle.formatted.specs.Settled.{Bitmap}
+
+-- nothing is listed at first
+zeros : (n j : ℕ) → _≡_ {A = ℕ} (getD (replicate n 0) j 0) 0
+zeros zero j = refl
+zeros (suc n) zero = refl
+zeros (suc n) (suc j) = zeros n j
+
+pub bits-none : (blocks : ℕ) → Bitmap blocks (replicate 512 0)
+bits-none blocks =
+    record {
+      long = length-replicate {A = ℕ} 512 0;
+      bytes = λ i. subst (λ (x : ℕ). x < 256) (sym (zeros 512 i)) (omega arith);
+      past = λ j h. zeros 512 j;
+      clear = λ b h l. blank-clear b l;
+    }
+
+-- one more is
+pub bits-more : (blocks : ℕ) (bits : List ℕ) (b : ℕ) → blocks ≤ 4096 → b < blocks → Bitmap blocks bits → Bitmap blocks (withBit bits b)
+unfolding withBit
+bits-more blocks bits b most h r =
+    let byte : ℕ = bitOr (getD bits (byteOf b) 0) (2 ^ placeOf b) in
+    let small : byte < 256 = or-lt 8 (getD bits (byteOf b) 0) (2 ^ placeOf b) (r .bytes (byteOf b)) (power-small (placeOf b) (omega arith)) in
+    let room : byteOf b < length bits = omega (arith, h, most, r .long) in
+    record {
+      long = length-set bits (byteOf b) byte ∙ r .long;
+      bytes = λ i.
+          cases (eqb i (byteOf b))
+          (λ e. subst (λ (k : ℕ). getD (set bits (byteOf b) byte) k 0 < 256) (sym (eqb-true i (byteOf b) e)) (subst (λ (x : ℕ). x < 256) (sym (getD-set-same bits (byteOf b) byte 0 room)) small))
+          (λ e. subst (λ (x : ℕ). x < 256) (sym (getD-set-other bits (byteOf b) i byte 0 (eqb-false i (byteOf b) e))) (r .bytes i));
+      past = λ j l. getD-set-other bits (byteOf b) j byte 0 (λ e. omega (arith, e, l, h)) ∙ r .past j l;
+      clear = λ c l k. bit-kept bits b c (λ e. omega (arith, e, l, h)) ∙ r .clear c l k;
+    }
+
+-- an erased block stays erased where an erase takes part of its effect
+pub or-full : (m : ℕ) → m < 256 → bitOr 255 m ≡ 255
+or-full m h =
+    let least = and-le-r 255 (bitOr 255 m) in
+    let same : bitAnd 255 (bitOr 255 m) ≡ 255 = and-or 255 255 m (and-self 255) in
+    omega (arith, least, same, or-lt 8 255 m (omega arith) h)
+
+pub raised-erased : (n : ℕ) (ms : List ℕ) → Bytes ms → raised (replicate n 255) ms ≡ replicate n 255
+unfolding raised
+raised-erased zero ms b = refl
+raised-erased (suc n) ms b = ap₂ _∷_ (or-full (getD ms 0 0) (b 0)) (raised-erased n (drop 1 ms) (bytes-next ms b))

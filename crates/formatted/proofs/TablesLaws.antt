@@ -1,0 +1,391 @@
+-- Table fills until one passes, on a chip whose permitted blocks are erased. Assumes nothing.
+use Prim.Native.Nat.{ℕ, zero, suc, _+_, _-_, _/_, _≤_, _<_}
+use mathlib.Core.Bool.{Bool, true, false, cond, true≢false, false≢true}
+use mathlib.Core.List.{List}
+use mathlib.Core.Logic.{_⊎_, inl, inr, ⊎-elim}
+use mathlib.Core.Path.{_≡_, refl, sym, ap, ap₂, subst, _∙_}
+use native.Mathlib.Omega.{arith}
+use borrow.Table.Steps.{cases}
+use borrow.Author.Tests.{eqb-true, eqb-false}
+use lib.Dec.{eqb}
+use lib.ListN.{length, getD, replicate}
+use Rattle.geometry.specs.Limits.{Valid}
+use Rattle.geometry.specs.Sizes.{pageSize, blockSize}
+use Rattle.cells.specs.Bytes.{Bytes}
+use Rattle.cells.specs.Cells.{raised}
+use Rattle.bitmaps.specs.Bitmap.{bitAt, withBit}
+use Rattle.bitmaps.proofs.BitLaws.{bit-set, bit-kept}
+use Rattle.array.specs.Device.{Setting}
+use Rattle.polling.specs.Polling.{isPassed}
+use Rattle.polling.specs.declared.Outcome.{Outcome}
+use Rattle.polling.specs.declared.Outcome.the-variants.{Passed, Failed, Silent, Cut, Illegal}
+use Rattle.operations.specs.Ends.{Called, answered}
+use Rattle.pages.specs.Over.{Over}
+use Rattle.pages.proofs.LayoutLaws.{unless}
+use Rattle.copies.specs.Blocks.{blockIn, pageIn, isMarked, aboveTo}
+use Rattle.state.specs.Choose.{permitted, chosen}
+use Rattle.state.specs.State.{blank, withNumber, withInvalid, withTable}
+use Rattle.state.specs.declared.State.{State}
+use Rattle.state.specs.declared.choose.Choice.{Choice}
+use Rattle.state.specs.declared.choose.Choice.the-variants.{Block, Worn}
+use Rattle.state.proofs.ChooseLaws as choose
+use Rattle.calls.specs.Call.{stopAnswer}
+use Rattle.scan.specs.Progress.{Progress}
+use Rattle.fill.specs.Fill.{tableCopy, tableSource, tableMain, tableFilled, pageOf}
+use Rattle.fill.specs.Steps.{resumed, isFailed}
+use Rattle.fill.proofs.StepLaws.{passed-answered}
+use Rattle.fill.proofs.OutcomeLaws.{failed-answered}
+use Rattle.tables.specs.Tables.{Tried, tried, tryBlock, tryTable, stateAfter, Tabled, tabled, endedBy, endAnswer, endState, tablesFilled, numbersLeft}
+use Rattle.runs.specs.Run.{isIllegal, Sound, OthersSame, Meant, from-caller, Damaged, Filled, blockOn, pageOn}
+use Rattle.runs.proofs.PlaceLaws.{page-erased}
+use Rattle.runs.proofs.FillLaws.{fill-leaves, over-erased}
+use Rattle.runs.proofs.CopyLaws.{copy-long, copy-bytes, copy-unmarked, raised-above, raised-unmarked}
+use Rattle.formatted.specs.Settled.{Bitmap, Settled}
+use Rattle.formatted.proofs.SettledLaws.{table-label, table-long, table-bytes}
+use Rattle.formatted.proofs.BitmapLaws.{bits-more, raised-erased}
+
+pub failed-unpassed : (o : Outcome) → isFailed o ≡ true → isPassed o ≡ false
+unfolding isFailed isPassed
+failed-unpassed Passed t = absurd (false≢true t)
+failed-unpassed Failed t = refl
+failed-unpassed Silent t = refl
+failed-unpassed Cut t = refl
+failed-unpassed Illegal t = refl
+
+-- before a table fill: every unmarked block is erased, or is invalid and has only lower numbers
+pub record Ready (s : Setting) (p : Progress) (st : State) : Type 0 where
+  pub passed : isPassed (p .outcome) ≡ true
+  pub sound : Sound s p
+  pub last-below : st .last < s .geometry .blocks
+  pub invalid-bits : Bitmap (s .geometry .blocks) (st .invalid)
+  pub marks : (b : ℕ) → b < s .geometry .blocks → isMarked (s .geometry) (blockOn s p b) ≡ bitAt (st .marked) b
+  pub erased : (b : ℕ) → b < s .geometry .blocks → bitAt (st .marked) b ≡ false → bitAt (st .invalid) b ≡ false → blockOn s p b ≡ replicate (blockSize (s .geometry)) 255
+  pub listed : (b : ℕ) → b < s .geometry .blocks → bitAt (st .marked) b ≡ false → bitAt (st .invalid) b ≡ true → aboveTo (s .geometry) (blockOn s p b) (s .geometry .pages) ≤ st .number
+  pub apart : (b : ℕ) → b < s .geometry .blocks → bitAt (st .marked) b ≡ true → bitAt (st .invalid) b ≡ false
+
+-- after a table fill that passed
+pub record Done (s : Setting) (st : State) (q : Progress) (next : State) : Type 0 where
+  pub number : ℕ
+  pub number-is : next .number ≡ number + 1
+  pub status-same : next .status ≡ st .status
+  pub last-is : next .last ≡ next .table
+  pub marked-same : next .marked ≡ st .marked
+  pub map-same : next .map ≡ st .map
+  pub marks : (b : ℕ) → b < s .geometry .blocks → isMarked (s .geometry) (blockOn s q b) ≡ bitAt (st .marked) b
+  pub settled : Settled (s .geometry) (q .line .chip .array) (next .invalid) (next .table) number
+  pub called : Called s (q .line)
+
+-- however table fills end
+pub record Left (s : Setting) (st : State) (p : Progress) (t : Tabled) : Type 0 where
+  pub sound : Sound s (t .progress)
+  pub answers : t .answer ≤ 11
+  pub marked-kept : (b : ℕ) → b < s .geometry .blocks → bitAt (st .marked) b ≡ true → blockOn s (t .progress) b ≡ blockOn s p b
+  pub done : t .answer ≡ 0 → Done s st (t .progress) (t .state)
+
+module _ (s : Setting) (mask-bytes : Bytes (s .mask)) (st : State) (p : Progress) (r : Ready s p st) (number-fits : st .number < 4294967296) where
+  called : Called s (p .line)
+  called = r .sound .called (passed-answered (p .outcome) (r .passed))
+
+  v : Valid (s .geometry)
+  v = called .is-valid
+
+  -- the fill of block b, which is permitted
+  module _ (b : ℕ) (below : b < s .geometry .blocks) (unmarked : bitAt (st .marked) b ≡ false) (unlisted : bitAt (st .invalid) b ≡ false) where
+    abbrev q : Progress
+    q = tableFilled s b (st .number) (st .invalid) p
+
+    abbrev pages : ℕ → List ℕ
+    pages i = pageOf (s .geometry) (tableCopy (st .number)) i (tableMain (s .geometry) (st .invalid) i)
+
+    main-long : (i : ℕ) → i < s .geometry .pages → length (tableMain (s .geometry) (st .invalid) i) ≡ s .geometry .main
+    main-long = table-long (s .geometry) v (st .invalid) (r .invalid-bits)
+
+    main-bytes : (i : ℕ) → i < s .geometry .pages → Bytes (tableMain (s .geometry) (st .invalid) i)
+    main-bytes = table-bytes (s .geometry) v (st .invalid) (r .invalid-bits)
+
+    page-bytes : (i : ℕ) → i < s .geometry .pages → Bytes (pages i)
+    page-bytes = copy-bytes (s .geometry) v (tableCopy (st .number)) (table-label (st .number) number-fits) (tableMain (s .geometry) (st .invalid)) main-long main-bytes
+
+    page-long : (i : ℕ) → i < s .geometry .pages → length (pages i) ≡ pageSize (s .geometry)
+    page-long = copy-long (s .geometry) v (tableCopy (st .number)) (table-label (st .number) number-fits) (tableMain (s .geometry) (st .invalid)) main-long main-bytes
+
+    meant : Meant s (p .line .chip .array) b (tableCopy (st .number)) (tableSource (s .geometry) (st .invalid)) pages
+    meant = record { long = page-long; bytes = page-bytes; provides = λ i h. from-caller (tableMain (s .geometry) (st .invalid) i) }
+
+    left : Filled s p q b pages (s .geometry .pages)
+    left = fill-leaves s p b below (tableCopy (st .number)) (tableSource (s .geometry) (st .invalid)) pages meant mask-bytes (r .passed) called
+
+    -- whatever became of it, its pages are over those that were meant
+    blank-over : (row : List ℕ) → row ≡ replicate (blockSize (s .geometry)) 255 → (i : ℕ) → i < s .geometry .pages → Over (pages i) (pageIn (s .geometry) row i)
+    blank-over row e i h =
+        subst (Over (pages i)) (sym (ap (λ (x : List ℕ). pageIn (s .geometry) x i) e ∙ page-erased (s .geometry) i h))
+        (subst (λ (n : ℕ). Over (pages i) (replicate n 255)) (page-long i h) (over-erased (pages i) (page-bytes i h)))
+
+    was-blank : blockOn s p b ≡ replicate (blockSize (s .geometry)) 255
+    was-blank = r .erased b below unmarked unlisted
+
+    over : isPassed (q .outcome) ≡ false → (i : ℕ) → i < s .geometry .pages → Over (pages i) (pageOn s q b i)
+    over f =
+        ⊎-elim
+        (λ same. blank-over (blockOn s q b) (same ∙ was-blank))
+        (⊎-elim
+        (λ partly. blank-over (blockOn s q b) (partly ∙ ap (λ (x : List ℕ). raised x (s .mask)) was-blank ∙ raised-erased (blockSize (s .geometry)) (s .mask) mask-bytes))
+        (λ new. new))
+        (left .damaged f)
+
+    -- the other blocks
+    marks-other : (c : ℕ) → c < s .geometry .blocks → (c ≡ b → ⊥) → isMarked (s .geometry) (blockOn s q c) ≡ bitAt (st .marked) c
+    marks-other c h x = ap (isMarked (s .geometry)) (left .others c h x) ∙ r .marks c h
+
+    off-marked : (c : ℕ) → bitAt (st .marked) c ≡ true → c ≡ b → ⊥
+    off-marked c t e = false≢true (sym unmarked ∙ ap (bitAt (st .marked)) (sym e) ∙ t)
+
+    off-listed : (c : ℕ) → bitAt (st .invalid) c ≡ true → c ≡ b → ⊥
+    off-listed c t e = false≢true (sym unlisted ∙ ap (bitAt (st .invalid)) (sym e) ∙ t)
+
+    -- it passed
+    module _ (y : isPassed (q .outcome) ≡ true) where
+      marks-passed : (c : ℕ) → c < s .geometry .blocks → isMarked (s .geometry) (blockOn s q c) ≡ bitAt (st .marked) c
+      marks-passed c h =
+          cases (eqb c b)
+          (λ e.
+          subst (λ (k : ℕ). isMarked (s .geometry) (blockOn s q k) ≡ bitAt (st .marked) k) (sym (eqb-true c b e))
+          (copy-unmarked (s .geometry) v (tableCopy (st .number)) (table-label (st .number) number-fits) (tableMain (s .geometry) (st .invalid)) main-long main-bytes (blockOn s q b) (left .done y) ∙ sym unmarked))
+          (λ e. marks-other c h (eqb-false c b e))
+
+      settles : Settled (s .geometry) (q .line .chip .array) (st .invalid) b (st .number)
+      settles =
+          record {
+            is-valid = v;
+            array-long = left .sound .called (passed-answered (q .outcome) y) .array-long;
+            invalid-bits = r .invalid-bits;
+            table-below = below;
+            table-valid = unlisted;
+            number-fits = number-fits;
+            table-pages = left .done y;
+            erased = λ c h x m f i l.
+                ap (λ (row : List ℕ). pageIn (s .geometry) row i) (left .others c h x ∙ r .erased c h (sym (marks-other c h x) ∙ m) f) ∙ page-erased (s .geometry) i l;
+            listed = λ c h m t.
+                let x = off-listed c t in
+                subst (λ (row : List ℕ). aboveTo (s .geometry) row (s .geometry .pages) ≤ st .number) (sym (left .others c h x)) (r .listed c h (sym (marks-other c h x) ∙ m) t);
+            apart = λ c h m. r .apart c h (sym (marks-passed c h) ∙ m);
+          }
+
+      done-so : Done s st q (withTable b (withNumber (st .number + 1) st))
+      done-so =
+          record {
+            number = st .number;
+            number-is = refl;
+            status-same = refl;
+            last-is = refl;
+            marked-same = refl;
+            map-same = refl;
+            marks = marks-passed;
+            settled = settles;
+            called = left .sound .called (passed-answered (q .outcome) y);
+          }
+
+    -- it failed: the block is invalid, and what is left of it has no greater number
+    module _ (w : isFailed (q .outcome) ≡ true) where
+      unpassed : isPassed (q .outcome) ≡ false
+      unpassed = failed-unpassed (q .outcome) w
+
+      abbrev next : State
+      next = withInvalid b (withNumber (st .number + 1) st)
+
+      marks-failed : (c : ℕ) → c < s .geometry .blocks → isMarked (s .geometry) (blockOn s q c) ≡ bitAt (st .marked) c
+      marks-failed c h =
+          cases (eqb c b)
+          (λ e.
+          subst (λ (k : ℕ). isMarked (s .geometry) (blockOn s q k) ≡ bitAt (st .marked) k) (sym (eqb-true c b e))
+          (raised-unmarked (s .geometry) v (tableCopy (st .number)) (table-label (st .number) number-fits) (tableMain (s .geometry) (st .invalid)) main-long main-bytes (blockOn s q b) (over unpassed) ∙ sym unmarked))
+          (λ e. marks-other c h (eqb-false c b e))
+
+      byte-there : b / 8 < length (st .invalid)
+      byte-there = omega (arith, below, v .blocks-most, r .invalid-bits .long)
+
+      listed-failed : (c : ℕ) → c < s .geometry .blocks → bitAt (st .marked) c ≡ false → bitAt (withBit (st .invalid) b) c ≡ true → aboveTo (s .geometry) (blockOn s q c) (s .geometry .pages) ≤ st .number + 1
+      listed-failed c h m t =
+          cases (eqb c b)
+          (λ e.
+          subst (λ (k : ℕ). aboveTo (s .geometry) (blockOn s q k) (s .geometry .pages) ≤ st .number + 1) (sym (eqb-true c b e))
+          (raised-above (s .geometry) v (tableCopy (st .number)) (table-label (st .number) number-fits) (tableMain (s .geometry) (st .invalid)) main-long main-bytes (blockOn s q b) (over unpassed)))
+          (λ e.
+          let x = eqb-false c b e in
+          let before = r .listed c h m (sym (bit-kept (st .invalid) b c x) ∙ t) in
+          subst (λ (row : List ℕ). aboveTo (s .geometry) row (s .geometry .pages) ≤ st .number + 1) (sym (left .others c h x)) (omega (arith, before)))
+
+      off-next : (c : ℕ) → bitAt (withBit (st .invalid) b) c ≡ false → c ≡ b → ⊥
+      off-next c f e = true≢false (sym (bit-set (st .invalid) b byte-there) ∙ ap (bitAt (withBit (st .invalid) b)) (sym e) ∙ f)
+
+      ready-next : Ready s (resumed q) next
+      unfolding isPassed isIllegal
+      ready-next =
+          record {
+            passed = refl;
+            sound = record { legal = left .sound .legal; known = refl; called = λ a. left .sound .called (failed-answered (q .outcome) w) };
+            last-below = r .last-below;
+            invalid-bits = bits-more (s .geometry .blocks) (st .invalid) b (v .blocks-most) below (r .invalid-bits);
+            marks = marks-failed;
+            erased = λ c h m f.
+                let x = off-next c f in
+                left .others c h x ∙ r .erased c h m (sym (bit-kept (st .invalid) b c x) ∙ f);
+            listed = listed-failed;
+            apart = λ c h t. bit-kept (st .invalid) b c (off-marked c t) ∙ r .apart c h t;
+          }
+
+-- a choice is a block or none
+by-choice : {P : Type 0} (c : Choice) → (c ≡ Worn → P) → ((b : ℕ) → c ≡ Block b → P) → P
+by-choice Worn f g = f refl
+by-choice (Block b) f g = g b refl
+
+permitted-parts : (marked invalid held : List ℕ) (b : ℕ) → permitted marked invalid held b ≡ true → (bitAt marked b ≡ false) × (bitAt invalid b ≡ false)
+unfolding permitted
+permitted-parts marked invalid held b t =
+    let x = unless (bitAt marked b) _ t in
+    (x .0, unless (bitAt invalid b) _ (x .1) .0)
+
+-- an answer after a fill that did not fail
+end-most : (o : Outcome) → isIllegal o ≡ false → isFailed o ≡ false → endAnswer o ≤ 11
+unfolding isIllegal isFailed endAnswer isPassed stopAnswer
+end-most Passed k f = omega arith
+end-most Failed k f = absurd (true≢false f)
+end-most Silent k f = omega arith
+end-most Cut k f = omega arith
+end-most Illegal k f = absurd (true≢false k)
+
+after-failed : (b : ℕ) (st : State) (o : Outcome) → isFailed o ≡ true → stateAfter b o st ≡ withInvalid b st
+unfolding isFailed stateAfter
+after-failed b st Passed t = absurd (false≢true t)
+after-failed b st Failed t = refl
+after-failed b st Silent t = absurd (false≢true t)
+after-failed b st Cut t = absurd (false≢true t)
+after-failed b st Illegal t = absurd (false≢true t)
+
+after-passed : (b : ℕ) (st : State) (o : Outcome) → isPassed o ≡ true → stateAfter b o st ≡ withTable b st
+unfolding isPassed stateAfter
+after-passed b st Passed t = refl
+after-passed b st Failed t = absurd (false≢true t)
+after-passed b st Silent t = absurd (false≢true t)
+after-passed b st Cut t = absurd (false≢true t)
+after-passed b st Illegal t = absurd (false≢true t)
+
+end-passed : (o : Outcome) → endAnswer o ≡ 0 → isPassed o ≡ true
+unfolding endAnswer isPassed stopAnswer
+end-passed Passed z = refl
+end-passed Failed z = absurd (omega (arith, z))
+end-passed Silent z = absurd (omega (arith, z))
+end-passed Cut z = absurd (omega (arith, z))
+end-passed Illegal z = absurd (omega (arith, z))
+
+module _ (s : Setting) (mask-bytes : Bytes (s .mask)) (held : List ℕ) where
+  -- what one try makes of it
+  after-try : ℕ → Tried → Tabled
+  after-try k t =
+      cond (eqb (t .worn) 0)
+      (cond (isFailed (t .progress .outcome)) (tablesFilled s held k (t .state) (resumed (t .progress))) (endedBy (t .progress) (t .state)))
+      (tabled (t .progress) 8 (blank 2))
+
+  one-try : (k : ℕ) (st : State) (p : Progress) → tablesFilled s held (suc k) st p ≡ after-try k (tryTable s held st p)
+  unfolding tablesFilled after-try
+  one-try k st p = refl
+
+  module _ (k : ℕ) (st : State) (p : Progress) (r : Ready s p st) (number-fits : st .number < 4294967296) where
+    abbrev choice : Choice
+    choice = chosen (st .marked) (st .invalid) held (s .geometry .blocks) (st .last)
+
+    try-is : (c : Choice) → choice ≡ c → tryTable s held st p ≡ tryBlock s st p c
+    unfolding tryTable
+    try-is c e = ap (tryBlock s st p) e
+
+    -- no block is left
+    worn : Left s st p (after-try k (tryBlock s st p Worn))
+    unfolding after-try tryBlock
+    worn = record { sound = r .sound; answers = omega arith; marked-kept = λ b l t. refl; done = λ z. absurd (omega (arith, z)) }
+
+    -- block b is filled
+    module _ (b : ℕ) (e : choice ≡ Block b) where
+      chosen-is : choose.Found (permitted (st .marked) (st .invalid) held) (s .geometry .blocks) (s .geometry .blocks) (st .last) b
+      chosen-is = choose.found (permitted (st .marked) (st .invalid) held) (s .geometry .blocks) (s .geometry .blocks) (st .last) b (r .last-below) e
+
+      below : b < s .geometry .blocks
+      below =
+          subst (λ (c : ℕ). c < s .geometry .blocks) (chosen-is .is)
+          (choose.after-below (s .geometry .blocks) (st .last) (suc (chosen-is .steps)) (omega (arith, r .last-below)))
+
+      free : (bitAt (st .marked) b ≡ false) × (bitAt (st .invalid) b ≡ false)
+      free = permitted-parts (st .marked) (st .invalid) held b (chosen-is .passes)
+
+      abbrev taken : State
+      taken = withNumber (st .number + 1) st
+
+      abbrev ended : Progress
+      ended = tableFilled s b (st .number) (st .invalid) p
+
+      block-left : Filled s p ended b (λ i. pageOf (s .geometry) (tableCopy (st .number)) i (tableMain (s .geometry) (st .invalid) i)) (s .geometry .pages)
+      block-left = left s mask-bytes st p r number-fits b below (free .0) (free .1)
+
+      kept-marked : (c : ℕ) → c < s .geometry .blocks → bitAt (st .marked) c ≡ true → blockOn s ended c ≡ blockOn s p c
+      kept-marked c h t = block-left .others c h (off-marked s mask-bytes st p r number-fits b below (free .0) (free .1) c t)
+
+      failed-is : isFailed (ended .outcome) ≡ true → tablesFilled s held k (withInvalid b taken) (resumed ended) ≡ after-try k (tryBlock s st p (Block b))
+      unfolding after-try tryBlock
+      failed-is w = rw w (ap (λ (x : State). tablesFilled s held k x (resumed ended)) (sym (after-failed b taken (ended .outcome) w)))
+
+      ended-is : isFailed (ended .outcome) ≡ false → endedBy ended (stateAfter b (ended .outcome) taken) ≡ after-try k (tryBlock s st p (Block b))
+      unfolding after-try tryBlock
+      ended-is f = rw f
+
+      -- the fills that follow a failed one
+      goes-on : (t : Tabled) → Left s (withInvalid b taken) (resumed ended) t → Left s st p t
+      goes-on t x =
+          record {
+            sound = x .sound;
+            answers = x .answers;
+            marked-kept = λ c h m. x .marked-kept c h m ∙ kept-marked c h m;
+            done = λ z.
+                let d = x .done z in
+                record {
+                  number = d .number;
+                  number-is = d .number-is;
+                  status-same = d .status-same;
+                  last-is = d .last-is;
+                  marked-same = d .marked-same;
+                  map-same = d .map-same;
+                  marks = d .marks;
+                  settled = d .settled;
+                  called = d .called;
+                };
+          }
+
+      ends-so : isFailed (ended .outcome) ≡ false → Left s st p (endedBy ended (stateAfter b (ended .outcome) taken))
+      unfolding endState
+      ends-so f =
+          record {
+            sound = block-left .sound;
+            answers = end-most (ended .outcome) (block-left .sound .known) f;
+            marked-kept = kept-marked;
+            done = λ z.
+                let y = end-passed (ended .outcome) z in
+                let state-is : endState (ended .outcome) (stateAfter b (ended .outcome) taken) ≡ withTable b taken = rw y (after-passed b taken (ended .outcome) y) in
+                subst (Done s st ended) (sym state-is) (done-so s mask-bytes st p r number-fits b below (free .0) (free .1) y);
+          }
+
+      filled-so : ((st' : State) (p' : Progress) → Ready s p' st' → k + st' .number ≤ 4294967296 → Left s st' p' (tablesFilled s held k st' p')) → suc k + st .number ≤ 4294967296
+          → Left s st p (after-try k (tryBlock s st p (Block b)))
+      filled-so less h =
+          cases (isFailed (ended .outcome))
+          (λ w. subst (Left s st p) (failed-is w)
+          (goes-on _ (less (withInvalid b taken) (resumed ended) (ready-next s mask-bytes st p r number-fits b below (free .0) (free .1) w) (omega (arith, h)))))
+          (λ f. subst (Left s st p) (ended-is f) (ends-so f))
+
+  pub tables-leave : (k : ℕ) (st : State) (p : Progress) → Ready s p st → k + st .number ≤ 4294967296 → Left s st p (tablesFilled s held k st p)
+  unfolding tablesFilled
+  tables-leave zero st p r h =
+      record { sound = r .sound; answers = omega arith; marked-kept = λ b l t. refl; done = λ z. absurd (omega (arith, z)) }
+  tables-leave (suc k) st p r h =
+      let fits : st .number < 4294967296 = omega (arith, h) in
+      subst (Left s st p) (sym (one-try k st p))
+      (by-choice (chosen (st .marked) (st .invalid) held (s .geometry .blocks) (st .last))
+      (λ e. subst (λ (t : Tried). Left s st p (after-try k t)) (sym (try-is k st p r fits Worn e)) (worn k st p r fits))
+      (λ b e. subst (λ (t : Tried). Left s st p (after-try k t)) (sym (try-is k st p r fits (Block b) e)) (filled-so k st p r fits b e (tables-leave k) h)))
