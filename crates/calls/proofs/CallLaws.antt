@@ -3,20 +3,22 @@ use Prim.Native.Nat.{ℕ, _-_, _≤_}
 use mathlib.Core.Bool.{true, cond}
 use mathlib.Core.Path.{_≡_, refl, _∙_}
 use native.Mathlib.Omega.{arith}
-use borrow.Author.Tests.{eqb-true}
+use borrow.Author.Tests.{eq-eqb, eqb-true}
 use denote.Enum.Declared.{tagOf}
 use lib.Dec.{eqb}
 use lib.ListN.{length, take, drop, replicate, length-replicate}
 use Rattle.geometry.specs.declared.Geometry.{Geometry}
 use Rattle.geometry.specs.Sizes.{blockSize}
-use Rattle.geometry.proofs.LimitLaws.{both}
+use Rattle.geometry.proofs.LimitLaws.{both, holds}
 use Rattle.cells.proofs.PartLaws.{length-part}
-use Rattle.array.specs.Device.{fitting, Fitting}
+use Rattle.array.specs.Device.{Setting, fitting, Fitting}
 use Rattle.array.proofs.DeviceLaws.{fits}
 use Rattle.polling.specs.declared.Outcome.{Outcome}
 use Rattle.polling.specs.declared.Outcome.the-variants.{Passed, Failed, Silent, Cut, Illegal}
 use Rattle.polling.proofs.Outcome.{the-type}
-use Rattle.calls.specs.Call.{sized, stopAnswer}
+use Rattle.bus.specs.Line.{Line}
+use Rattle.operations.specs.Ends.{Called}
+use Rattle.calls.specs.Call.{sized, sizedFor, stopAnswer}
 
 abbrev pub answerByTag : ℕ → ℕ
 answerByTag k = cond (eqb k 2) 10 (cond (eqb k 3) 11 255)
@@ -43,3 +45,9 @@ sizes g a r h m t =
 -- a page buffer that is lent as long as a page
 pub lent-page : (n k : ℕ) → n ≤ 4352 → n ≡ k → length (take (n - 0) (drop 0 (replicate {A = ℕ} 4352 0))) ≡ k
 lent-page n k h e = length-part 0 (n - 0) (replicate {A = ℕ} 4352 0) (omega (arith, h, length-replicate {A = ℕ} 4352 0)) ∙ omega (arith, e)
+
+-- a chip that takes the next operation has sizes that go together
+pub called-sized : (s : Setting) (l : Line) → Called s l → sizedFor s (l .chip) ≡ true
+unfolding sized fitting
+called-sized s l c =
+    rw (holds (s .geometry) (c .is-valid), eq-eqb _ _ (c .array-long), eq-eqb _ _ (c .register-long), eq-eqb _ _ (c .history-long), eq-eqb _ _ (c .mask-long))

@@ -18,17 +18,17 @@ use Rattle.calls.specs.Call.{endAt}
 use Rattle.scan.specs.Progress.{progress}
 use Rattle.tables.specs.Tables.{numbersLeft, TabledAs}
 use Rattle.tables.proofs.CountLaws.{tables-count}
-use Rattle.format.specs.Format.{firstState, tooFew, tablesOf, tablesEnd}
+use Rattle.format.specs.Format.{firstState, tooFew, tablesOf, endOfRun, tablesRun}
 
 module _ (s : Setting) (n : ℕ) (marked invalid : List ℕ) (above : ℕ) (count : ℕ) (c : count ≡ countPermitted marked invalid (replicate 512 0) (s .geometry .blocks)) where
-  pub few-end : count < s .geometry .logical + 2 → (l : Line) (st : State) → st ≡ blank 2 → (cs : List Cycle) (os : List ArrayOperation) → endAt n 8 st l ≡ tablesEnd s n marked invalid above (progress l Passed cs os)
-  unfolding tablesEnd tooFew
+  pub few-end : count < s .geometry .logical + 2 → (l : Line) (st : State) → st ≡ blank 2 → (cs : List Cycle) (os : List ArrayOperation) → endAt n 8 st l ≡ endOfRun n (tablesRun s marked invalid above (progress l Passed cs os))
+  unfolding tablesRun tooFew
   few-end h l st e cs os =
       rw (← c, lt-ltb count (s .geometry .logical + 2) h) (ap (λ (x : State). endAt n 8 x l) e)
 
   pub tables-end : s .geometry .logical + 2 ≤ count → (l m : Line) (answer : ℕ) (next : State) → TabledAs s (replicate 512 0) (firstState (s .geometry) marked invalid above) l m answer next
-      → (cs : List Cycle) (os : List ArrayOperation) → endAt n answer next m ≡ tablesEnd s n marked invalid above (progress l Passed cs os)
-  unfolding tablesEnd tooFew
+      → (cs : List Cycle) (os : List ArrayOperation) → endAt n answer next m ≡ endOfRun n (tablesRun s marked invalid above (progress l Passed cs os))
+  unfolding tablesRun tooFew
   tables-end h l m answer next d cs os =
       let all : endAt n answer next m ≡ endAt n (tablesOf s marked invalid above (progress l Passed cs os) .answer) (tablesOf s marked invalid above (progress l Passed cs os) .state) (tablesOf s marked invalid above (progress l Passed cs os) .progress .line) =
       λ i. endAt n (d .answer-is cs os i) (d .state-is cs os i) (d .line-is cs os i) in

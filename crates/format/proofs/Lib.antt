@@ -1,5 +1,3 @@
 pub mod EndLaws
-pub mod MarkLaws
 pub mod ResetLaws
-pub mod RoundLaws
 pub mod WholeLaws

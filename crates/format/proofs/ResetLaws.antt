@@ -18,8 +18,9 @@ use Rattle.calls.specs.Call.{Result, result, sizedFor, callLine, endAt, stopAns
 use Rattle.calls.proofs.ResetLaws.{reset-outcome}
 use Rattle.scan.specs.Progress.{Progress, progress, resetOn}
 use Rattle.scan.proofs.ReadOnLaws.{is-passed}
-use Rattle.format.specs.Format.{marksRead, marksEnd, formatting}
-use Rattle.format.proofs.MarkLaws.{marks-stopped}
+use Rattle.marks.specs.Marks.{marksRead}
+use Rattle.format.specs.Format.{endOfRun, marksRun, formatting}
+use Rattle.marks.proofs.MarkLaws.{marks-stopped}
 use Rattle.format.proofs.WholeLaws.{stop-is}
 
 -- sizes that do not go together
@@ -38,7 +39,7 @@ module _ (s : Setting) (d : Device) (n : ℕ) (t : sizedFor s d ≡ true) where
 
     -- it did not pass
     pub reset-stopped : (state : State) (a : ℕ) (st : State) → isPassed o ≡ false → a ≡ stopAnswer o → st ≡ blank 2 → endAt n a st m ≡ formatting s d n state
-    unfolding formatting marksEnd marksRead
+    unfolding formatting marksRun marksRead
     reset-stopped state a st f h k =
         let first = resetOn s (progress (callLine d n) Passed [] []) in
         let all = marksRead s (s .geometry .blocks) first in
@@ -50,10 +51,10 @@ module _ (s : Setting) (d : Device) (n : ℕ) (t : sizedFor s d ≡ true) where
         stop-is n all m o a st here ended h k ∙ rw (t, still)
 
     -- the rest of the request, from line m on
-    pub reset-passed : (state : State) (r : Result) → isPassed o ≡ true → ((cs : List Cycle) (os : List ArrayOperation) → r ≡ marksEnd s n (progress m Passed cs os)) → r ≡ formatting s d n state
+    pub reset-passed : (state : State) (r : Result) → isPassed o ≡ true → ((cs : List Cycle) (os : List ArrayOperation) → r ≡ endOfRun n (marksRun s (progress m Passed cs os))) → r ≡ formatting s d n state
     unfolding formatting
     reset-passed state r p f =
         let ends : endedAs (sendAll s (callLine d n) resetCycles) ≡ Passed = sym outcome-is ∙ is-passed o p in
         let same : progress m Passed (sent s (callLine d n) resetCycles) [] ≡ resetOn s (progress (callLine d n) Passed [] []) =
         (λ i. progress (e i) (sym ends i) (sent s (callLine d n) resetCycles) []) ∙ sym reset-is in
-        f (sent s (callLine d n) resetCycles) [] ∙ ap (marksEnd s n) same ∙ rw t
+        f (sent s (callLine d n) resetCycles) [] ∙ ap (λ (x : Progress). endOfRun n (marksRun s x)) same ∙ rw t

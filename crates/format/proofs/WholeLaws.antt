@@ -23,7 +23,9 @@ use Rattle.scan.proofs.ReadOnLaws.{is-passed}
 use Rattle.found.specs.Found.{marksTo}
 use Rattle.fill.specs.Steps.{eraseOn, isFailed, resumed}
 use Rattle.fill.proofs.CountLaws.{erase-counts}
-use Rattle.format.specs.Format.{marksRead, afterErase, blockErased, erasedTo, MarksFound, RoundDone, stopAt, tablesEnd, roundEnd, marksEnd}
+use Rattle.marks.specs.Marks.{marksRead, MarksFound}
+use Rattle.erasing.specs.Round.{afterErase, blockErased, erasedTo, RoundDone}
+use Rattle.format.specs.Format.{endOfRun, stopped, tablesRun, roundRun, marksRun}
 
 -- the cycles of marks and of the first round
 module _ (s : Setting) where
@@ -60,12 +62,12 @@ round-left s marked l m o invalid above d =
     omega (arith, round-count s marked (s .geometry .blocks) (progress l Passed [] []), ap (λ (x : Line). x .left) (d .line-is [] []))
 
 -- the end after an operation that did not pass
-pub stop-is : (n : ℕ) (p : Progress) (m : Line) (o : Outcome) (a : ℕ) (st : State) → m ≡ p .line → o ≡ p .outcome → a ≡ stopAnswer o → st ≡ blank 2 → endAt n a st m ≡ stopAt n p
+pub stop-is : (n : ℕ) (p : Progress) (m : Line) (o : Outcome) (a : ℕ) (st : State) → m ≡ p .line → o ≡ p .outcome → a ≡ stopAnswer o → st ≡ blank 2 → endAt n a st m ≡ endOfRun n (stopped p)
 stop-is n p m o a st e q h k = λ i. endAt n ((h ∙ ap stopAnswer q) i) (k i) (e i)
 
 module _ (s : Setting) (n : ℕ) (l m : Line) (o : Outcome) (marked : List ℕ) (d : MarksFound s l m o marked) where
-  pub marks-stop : isPassed o ≡ false → (a : ℕ) (st : State) → a ≡ stopAnswer o → st ≡ blank 2 → (cs : List Cycle) (os : List ArrayOperation) → endAt n a st m ≡ marksEnd s n (progress l Passed cs os)
-  unfolding marksEnd
+  pub marks-stop : isPassed o ≡ false → (a : ℕ) (st : State) → a ≡ stopAnswer o → st ≡ blank 2 → (cs : List Cycle) (os : List ArrayOperation) → endAt n a st m ≡ endOfRun n (marksRun s (progress l Passed cs os))
+  unfolding marksRun
   marks-stop f a st h k cs os =
       let q = marksRead s (s .geometry .blocks) (progress l Passed cs os) in
       let stops : isPassed (q .outcome) ≡ false = sym (ap isPassed (d .outcome-is cs os)) ∙ f in
@@ -83,31 +85,31 @@ module _ (s : Setting) (n : ℕ) (l m : Line) (o : Outcome) (marked : List ℕ) 
         d .marked-are t ∙ ap (λ (x : List ℕ). marksTo (s .geometry) x (s .geometry .blocks)) (sym (d .same-array)) ∙ ap (λ (x : Line). marksTo (s .geometry) (x .chip .array) (s .geometry .blocks)) (d .line-is cs os)
 
     -- what follows the marks, from line m on
-    pub marks-goes : (r : Result) → ((cs : List Cycle) (os : List ArrayOperation) → r ≡ roundEnd s n marked (progress m Passed cs os)) → (cs : List Cycle) (os : List ArrayOperation) → r ≡ marksEnd s n (progress l Passed cs os)
-    unfolding marksEnd
+    pub marks-goes : (r : Result) → ((cs : List Cycle) (os : List ArrayOperation) → r ≡ endOfRun n (roundRun s marked (progress m Passed cs os))) → (cs : List Cycle) (os : List ArrayOperation) → r ≡ endOfRun n (marksRun s (progress l Passed cs os))
+    unfolding marksRun
     marks-goes r f cs os =
         let q = marksRead s (s .geometry .blocks) (progress l Passed cs os) in
         let passed : isPassed (q .outcome) ≡ true = sym (ap isPassed (d .outcome-is cs os)) ∙ t in
         f (q .cycles) (q .started)
-        ∙ ap (roundEnd s n marked) (goes cs os)
-        ∙ ap (λ (x : List ℕ). roundEnd s n x q) (marked-is cs os)
+        ∙ ap (λ (x : Progress). endOfRun n (roundRun s marked x)) (goes cs os)
+        ∙ ap (λ (x : List ℕ). endOfRun n (roundRun s x q)) (marked-is cs os)
         ∙ rw passed
 
 module _ (s : Setting) (n : ℕ) (marked : List ℕ) (l m : Line) (o : Outcome) (invalid : List ℕ) (above : ℕ) (d : RoundDone s marked l m o invalid above) where
-  pub round-stop : isPassed o ≡ false → (a : ℕ) (st : State) → a ≡ stopAnswer o → st ≡ blank 2 → (cs : List Cycle) (os : List ArrayOperation) → endAt n a st m ≡ roundEnd s n marked (progress l Passed cs os)
-  unfolding roundEnd
+  pub round-stop : isPassed o ≡ false → (a : ℕ) (st : State) → a ≡ stopAnswer o → st ≡ blank 2 → (cs : List Cycle) (os : List ArrayOperation) → endAt n a st m ≡ endOfRun n (roundRun s marked (progress l Passed cs os))
+  unfolding roundRun
   round-stop f a st h k cs os =
       let q = erasedTo s marked (s .geometry .blocks) (progress l Passed cs os) .progress in
       let stops : isPassed (q .outcome) ≡ false = sym (ap isPassed (d .outcome-is cs os)) ∙ f in
       rw stops (stop-is n q m o a st (d .line-is cs os) (d .outcome-is cs os) h k)
 
-  pub round-goes-on : isPassed o ≡ true → (r : Result) → ((cs : List Cycle) (os : List ArrayOperation) → r ≡ tablesEnd s n marked invalid above (progress m Passed cs os)) → (cs : List Cycle) (os : List ArrayOperation) → r ≡ roundEnd s n marked (progress l Passed cs os)
-  unfolding roundEnd
+  pub round-goes-on : isPassed o ≡ true → (r : Result) → ((cs : List Cycle) (os : List ArrayOperation) → r ≡ endOfRun n (tablesRun s marked invalid above (progress m Passed cs os))) → (cs : List Cycle) (os : List ArrayOperation) → r ≡ endOfRun n (roundRun s marked (progress l Passed cs os))
+  unfolding roundRun
   round-goes-on t r f cs os =
       let e = erasedTo s marked (s .geometry .blocks) (progress l Passed cs os) in
       let q = e .progress in
       let passed : isPassed (q .outcome) ≡ true = sym (ap isPassed (d .outcome-is cs os)) ∙ t in
       let same : progress m Passed (q .cycles) (q .started) ≡ q = λ i. record { line = d .line-is cs os i; outcome = (sym (is-passed o t) ∙ d .outcome-is cs os) i; cycles = q .cycles; started = q .started } in
-      let all : tablesEnd s n marked invalid above (progress m Passed (q .cycles) (q .started)) ≡ tablesEnd s n marked (e .invalid) (e .above) q =
-      λ i. tablesEnd s n marked (d .invalid-is t cs os i) (d .above-is t cs os i) (same i) in
+      let all : endOfRun n (tablesRun s marked invalid above (progress m Passed (q .cycles) (q .started))) ≡ endOfRun n (tablesRun s marked (e .invalid) (e .above) q) =
+      λ i. endOfRun n (tablesRun s marked (d .invalid-is t cs os i) (d .above-is t cs os i) (same i)) in
       f (q .cycles) (q .started) ∙ all ∙ rw passed

@@ -1,21 +1,19 @@
 -- Bitmaps with no bit past the last block, and erased blocks under a partial erase. Assumes nothing.
-use Prim.Native.Nat.{ℕ, zero, suc, _/_, _%_, _≤_, _<_, _^_}
-use mathlib.Core.Bool.{true, false}
-use mathlib.Core.List.{List, [], _∷_}
-use mathlib.Core.Path.{_≡_, refl, sym, ap, ap₂, subst, _∙_}
+use Prim.Native.Nat.{ℕ, zero, suc, _≤_, _<_, _^_}
+use mathlib.Core.List.{List, _∷_}
+use mathlib.Core.Path.{_≡_, refl, sym, ap₂, subst, _∙_}
 use native.Mathlib.Omega.{arith}
 use borrow.Table.Steps.{cases}
-use borrow.Author.Tests.{eqb-true, eqb-false, ltb-true, ltb-false}
+use borrow.Author.Tests.{eqb-true, eqb-false}
 use lib.Bits.{bitAnd, bitOr, and-self, and-le-r, or-lt}
-use lib.Dec.{eqb, ltb}
-use lib.ListN.{length, getD, set, drop, replicate, length-set, length-replicate, getD-replicate, List·getD-eq-default}
-use lib.Seq.{getD-set-same, getD-set-other, set-out}
+use lib.Dec.{eqb}
+use lib.ListN.{length, getD, set, drop, replicate, length-set, length-replicate}
+use lib.Seq.{getD-set-same, getD-set-other}
 use Rattle.cells.specs.Bytes.{Bytes}
 use Rattle.cells.specs.Cells.{raised}
-use Rattle.bitmaps.specs.Bitmap.{bitAt, withBit, byteOf, placeOf}
+use Rattle.bitmaps.specs.Bitmap.{withBit, byteOf, placeOf}
 use Rattle.bitmaps.proofs.BitLaws.{bit-kept, power-small}
 use Rattle.pages.proofs.OverLaws.{and-or, bytes-next}
-use Rattle.copies.specs.Table.{bitmapBytes}
 use Rattle.state.proofs.MountedLaws.{blank-clear}
 use Rattle.formatted.specs.Settled.{Bitmap}
 

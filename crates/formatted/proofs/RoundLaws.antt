@@ -3,10 +3,11 @@ use Prim.Native.Nat.{ℕ, zero, suc, _+_, _*_, _/_, _≤_, _<_, max}
 use mathlib.Core.Bool.{true, false, cond, true≢false, false≢true}
 use mathlib.Core.List.{List}
 use mathlib.Core.Logic.{_⊎_, inl, inr, ⊎-elim}
-use mathlib.Core.Path.{_≡_, refl, sym, ap, ap₂, subst, _∙_}
+use mathlib.Core.Path.{_≡_, refl, sym, ap, subst, _∙_}
+use native.Mathlib.Nat.{suc-mul}
 use native.Mathlib.Omega.{arith}
 use borrow.Table.Steps.{cases}
-use borrow.Author.Tests.{eqb-true, eqb-false}
+use borrow.Author.Tests.{eqb-true}
 use lib.Bits.{bitOr}
 use lib.Dec.{eqb}
 use lib.ListN.{length, getD, drop, replicate}
@@ -24,20 +25,20 @@ use Rattle.polling.specs.Polling.{isPassed}
 use Rattle.polling.specs.declared.Outcome.{Outcome}
 use Rattle.polling.specs.declared.Outcome.the-variants.{Passed, Failed, Silent, Cut, Illegal}
 use Rattle.operations.specs.Ends.{Called}
-use Rattle.copies.specs.Blocks.{blockIn, pageIn, markByte, isMarked, aboveTo}
+use Rattle.copies.specs.Blocks.{blockIn, markByte, isMarked, aboveTo}
 use Rattle.copies.proofs.PickLaws.{up-to}
 use Rattle.scan.specs.Progress.{Progress}
 use Rattle.scan.specs.Scan.{pagesRead}
 use Rattle.fill.specs.Steps.{eraseOn, resumed, isFailed}
 use Rattle.fill.proofs.StepLaws.{passed-answered, erase-stopped}
 use Rattle.fill.proofs.OutcomeLaws.{failed-answered}
-use Rattle.format.specs.Format.{Round, round, afterErase, blockErased, failedAt, aboveAt, erasedTo}
-use Rattle.runs.specs.Run.{isIllegal, isReadEnd, Sound, Unchanged, Erased, blockOn}
+use Rattle.erasing.specs.Round.{Round, round, afterErase, blockErased, failedAt, aboveAt, erasedTo}
+use Rattle.runs.specs.Run.{isIllegal, isReadEnd, Sound, Unchanged, Erased, Spent, readMost, blockOn}
 use Rattle.runs.proofs.PlaceLaws.{block-long, page-within}
-use Rattle.runs.proofs.ReadLaws.{pages-unchanged}
+use Rattle.runs.proofs.ReadLaws.{pages-unchanged, pages-spend}
 use Rattle.runs.proofs.EraseLaws.{erase-leaves}
 use Rattle.runs.proofs.CopyLaws.{no-mark}
-use Rattle.formatted.specs.Settled.{Bitmap}
+use Rattle.formatted.specs.Settled.{Bitmap, blockMost}
 use Rattle.state.proofs.MountedLaws.{blank-clear}
 use Rattle.formatted.proofs.TablesLaws.{failed-unpassed}
 use Rattle.formatted.proofs.BitmapLaws.{bits-none, bits-more, or-full}
@@ -97,6 +98,7 @@ pub record Rounded (s : Setting) (marked : List ℕ) (p : Progress) (n : ℕ) (r
   pub erased : isPassed (r .progress .outcome) ≡ true → (b : ℕ) → b < n → bitAt marked b ≡ false → bitAt (r .invalid) b ≡ false → blockOn s (r .progress) b ≡ replicate (blockSize (s .geometry)) 255
   pub unmarked : isPassed (r .progress .outcome) ≡ true → (b : ℕ) → b < n → bitAt (r .invalid) b ≡ true → isMarked (s .geometry) (blockOn s (r .progress) b) ≡ false
   pub numbers : isPassed (r .progress .outcome) ≡ true → (b : ℕ) → b < n → bitAt (r .invalid) b ≡ true → aboveTo (s .geometry) (blockOn s (r .progress) b) (s .geometry .pages) ≤ r .above
+  pub spent : Spent p (r .progress) (n * blockMost (s .geometry))
 
 module _ (s : Setting) (v : Valid (s .geometry)) (mask-bytes : Bytes (s .mask)) (marked : List ℕ) (p : Progress) (marks : (b : ℕ) → b < s .geometry .blocks → isMarked (s .geometry) (blockOn s p b) ≡ bitAt marked b) where
   next-round : ℕ → Round → Round
@@ -111,6 +113,9 @@ module _ (s : Setting) (v : Valid (s .geometry)) (mask-bytes : Bytes (s .mask)) 
 
   -- a block that is passed over
   module _ (n : ℕ) (r : Round) (x : Rounded s marked p n r) where
+    more : suc n * blockMost (s .geometry) ≡ n * blockMost (s .geometry) + blockMost (s .geometry)
+    more = suc-mul n (blockMost (s .geometry))
+
     none-more : max (r .above) 0 ≡ r .above
     none-more = omega arith
 
@@ -147,6 +152,7 @@ module _ (s : Setting) (v : Valid (s .geometry)) (mask-bytes : Bytes (s .mask)) 
             unmarked = λ y b l. up-to (λ k. bitAt (r .invalid) k ≡ true → isMarked (s .geometry) (blockOn s (r .progress) k) ≡ false) n b l (x .unmarked y b) unlisted;
             numbers = λ y b l.
                 up-to (λ k. bitAt (r .invalid) k ≡ true → aboveTo (s .geometry) (blockOn s (r .progress) k) (s .geometry .pages) ≤ r .above) n b l (x .numbers y b) unlisted;
+            spent = omega (arith, x .spent, more);
           }
 
       -- a block that is erased
@@ -200,6 +206,7 @@ module _ (s : Setting) (v : Valid (s .geometry)) (mask-bytes : Bytes (s .mask)) 
                 numbers = λ y b l.
                     up-to (λ k. bitAt (r .invalid) k ≡ true → aboveTo (s .geometry) (blockOn s e k) (s .geometry .pages) ≤ r .above) n b l
                     (λ h c. subst (λ (row : List ℕ). aboveTo (s .geometry) row (s .geometry .pages) ≤ r .above) (sym (others-before b h)) (x .numbers t b h c)) unlisted;
+                spent = omega (arith, x .spent, left .spent, more);
               }
 
         -- the erase failed: the pages are read
@@ -214,16 +221,21 @@ module _ (s : Setting) (v : Valid (s .geometry)) (mask-bytes : Bytes (s .mask)) 
           unfolding next-round blockErased afterErase failedAt aboveAt
           failed-is = rw (t, free, w)
 
-          unchanged : Unchanged s (e .line .chip .array) (e .line .chip .history) scanned
+          goes-on : Unchanged s (e .line .chip .array) (e .line .chip .history) (resumed e)
           unfolding isIllegal isReadEnd
-          unchanged =
-              pages-unchanged s (e .line .chip .array) (e .line .chip .history) v n below (s .geometry .pages) (omega arith) (resumed e)
-              (record {
+          goes-on =
+              record {
                 sound = record { legal = left .sound .legal; known = refl; called = λ a. left .sound .called (failed-answered (e .outcome) w) };
                 ends = refl;
                 same-array = refl;
                 same-history = refl;
-              })
+              }
+
+          unchanged : Unchanged s (e .line .chip .array) (e .line .chip .history) scanned
+          unchanged = pages-unchanged s (e .line .chip .array) (e .line .chip .history) v n below (s .geometry .pages) (omega arith) (resumed e) goes-on
+
+          scan-spent : Spent e scanned (s .geometry .pages * readMost (pageSize (s .geometry)))
+          scan-spent = pages-spend s (e .line .chip .array) (e .line .chip .history) v n below (s .geometry .pages) (omega arith) (resumed e) goes-on
 
           same-block : (b : ℕ) → blockOn s scanned b ≡ blockOn s e b
           same-block b = ap (λ (a : List ℕ). blockIn (s .geometry) a b) (unchanged .same-array)
@@ -270,6 +282,7 @@ module _ (s : Setting) (v : Valid (s .geometry)) (mask-bytes : Bytes (s .mask)) 
                     subst (λ (row : List ℕ). aboveTo (s .geometry) row (s .geometry .pages) ≤ max (r .above) most) (sym (same-block b ∙ others-before b h))
                     (omega (arith, x .numbers t b h (sym (bit-before b h) ∙ c))))
                     (λ c. subst (λ (row : List ℕ). aboveTo (s .geometry) row (s .geometry .pages) ≤ max (r .above) most) (sym (same-block n)) (omega arith));
+                spent = omega (arith, x .spent, left .spent, scan-spent, more);
               }
 
       round-next : Rounded s marked p (suc n) (next-round n r)
@@ -298,6 +311,7 @@ module _ (s : Setting) (v : Valid (s .geometry)) (mask-bytes : Bytes (s .mask)) 
         erased = λ y b l. absurd (omega (arith, l));
         unmarked = λ y b l. absurd (omega (arith, l));
         numbers = λ y b l. absurd (omega (arith, l));
+        spent = omega arith;
       }
   round-leaves sound ends (suc n) h =
       subst (Rounded s marked p (suc n)) (sym (one-round n)) (round-next n (erasedTo s marked n p) (round-leaves sound ends n (omega (arith, h))) (omega (arith, h)))

@@ -1,17 +1,16 @@
 -- On a settled array the table is current, lists what it should, and a mount succeeds. Assumes nothing.
-use Prim.Native.Nat.{ℕ, zero, suc, _+_, _-_, _*_, _/_, _≤_, _<_, max}
-use mathlib.Core.Bool.{Bool, true, false, cond, not, true≢false, false≢true}
-use mathlib.Core.List.{List, _++_}
-use mathlib.Core.Path.{_≡_, refl, sym, ap, ap₂, subst, _∙_}
+use Prim.Native.Nat.{ℕ, zero, suc, _+_, _-_, _*_, _/_, _≤_, _<_}
+use mathlib.Core.Bool.{Bool, true, false, cond, not, false≢true}
+use mathlib.Core.List.{List}
+use mathlib.Core.Path.{_≡_, refl, sym, ap, subst, _∙_}
 use native.Mathlib.Omega.{arith}
 use borrow.Table.Steps.{cases}
 use borrow.Author.Tests.{eq-eqb, ne-eqb, eqb-true, eqb-false, ltb-true, ltb-false}
-use lib.Dec.{eqb, leb, ltb}
-use lib.ListN.{length, getD, take, drop, replicate, length-append, length-take, length-replicate, getD-replicate, List·getD-append}
+use lib.Dec.{eqb, ltb}
+use lib.ListN.{length, getD, take, replicate, length-append, length-take, length-replicate, getD-replicate, List·getD-append}
 use lib.Seq.{getD-append-add, take-at, length-take-le, getD-take, getD-drop, ext-getD}
 use Rattle.geometry.specs.declared.Geometry.{Geometry}
 use Rattle.geometry.specs.Limits.{Valid}
-use Rattle.geometry.specs.Sizes.{pageSize}
 use Rattle.geometry.proofs.LimitLaws.{both}
 use Rattle.cells.specs.Bytes.{Bytes}
 use Rattle.cells.specs.Part.{put}
@@ -20,18 +19,18 @@ use Rattle.cells.proofs.CellLaws.{bytes-append, bytes-take, bytes-replicate}
 use Rattle.bitmaps.specs.Bitmap.{bitAt, clearFrom, countBits}
 use Rattle.pages.specs.Layout.{Label, allOnes, bytesOf, numberWidth, tableKind, dataKind}
 use Rattle.pages.proofs.LayoutLaws.{bytes-bytesOf, length-bytesOf, allOnes-replicate, unless}
-use Rattle.copies.specs.Blocks.{blockIn, pageIn, mainIn, labelIn, wholeIn, numberIn, isMarked, agrees, isComplete, completeTo, isTable, isData, isCopyOf, aboveTo, above}
+use Rattle.copies.specs.Blocks.{blockIn, pageIn, mainIn, labelIn, wholeIn, isMarked, agrees, isComplete, completeTo, isTable, isData, isCopyOf, aboveTo, above}
 use Rattle.copies.specs.Current.{currentTable, currentCopy, filledLast, nextNumber, aboveAll, numberAt, counts, unlisted, sharesNumber, clashesAt, clashes, judgeTable, mountAnswer, pageOf, reading}
-use Rattle.copies.specs.Pick.{Pick, nothing, at, pick, Picked, Best, someBelow}
+use Rattle.copies.specs.Pick.{nothing, at, someBelow}
 use Rattle.copies.specs.Table.{bitmapBytes, bitmapOf, tablePage, header, lists, clearWhere, rightFirst, rightPage, rightTo, rightTable}
 use Rattle.copies.proofs.PickLaws.{picked-is}
 use Rattle.copies.proofs.TableLaws.{table-right, valid-roomy, later-page, first-page}
 use Rattle.found.specs.Contents.{entryOf, tabulate, mapOf}
 use Rattle.found.specs.Found.{bitsAt}
 use Rattle.found.proofs.MapLaws.{length-tabulate, getD-tabulate}
-use Rattle.fill.specs.Fill.{Copy, tableCopy, tableMain}
+use Rattle.fill.specs.Fill.{tableCopy, tableMain}
 use Rattle.runs.specs.Run.{Labelled}
-use Rattle.runs.proofs.CopyLaws.{erased-unwhole, erased-above, above-least, copy-whole, copy-label, copy-main, copy-complete, copy-above, copy-unmarked}
+use Rattle.runs.proofs.CopyLaws.{erased-unwhole, erased-above, above-least, copy-label, copy-main, copy-complete, copy-above, copy-unmarked}
 use Rattle.formatted.specs.Settled.{Bitmap, Settled}
 
 not-true : (b : Bool) → not b ≡ true → b ≡ false

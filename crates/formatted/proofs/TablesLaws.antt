@@ -1,14 +1,16 @@
 -- Table fills until one passes, on a chip whose permitted blocks are erased. Assumes nothing.
-use Prim.Native.Nat.{ℕ, zero, suc, _+_, _-_, _/_, _≤_, _<_}
-use mathlib.Core.Bool.{Bool, true, false, cond, true≢false, false≢true}
+use Prim.Native.Nat.{ℕ, zero, suc, _+_, _-_, _*_, _/_, _≤_, _<_}
+use mathlib.Core.Bool.{true, false, cond, true≢false, false≢true}
 use mathlib.Core.List.{List}
-use mathlib.Core.Logic.{_⊎_, inl, inr, ⊎-elim}
-use mathlib.Core.Path.{_≡_, refl, sym, ap, ap₂, subst, _∙_}
+use mathlib.Core.Logic.{_⊎_, ⊎-elim}
+use mathlib.Core.Path.{_≡_, refl, sym, ap, subst, _∙_}
+use native.Mathlib.Nat.{suc-mul}
+use native.Mathlib.Numerals.{add-one}
 use native.Mathlib.Omega.{arith}
 use borrow.Table.Steps.{cases}
 use borrow.Author.Tests.{eqb-true, eqb-false}
 use lib.Dec.{eqb}
-use lib.ListN.{length, getD, replicate}
+use lib.ListN.{length, replicate}
 use Rattle.geometry.specs.Limits.{Valid}
 use Rattle.geometry.specs.Sizes.{pageSize, blockSize}
 use Rattle.cells.specs.Bytes.{Bytes}
@@ -19,12 +21,12 @@ use Rattle.array.specs.Device.{Setting}
 use Rattle.polling.specs.Polling.{isPassed}
 use Rattle.polling.specs.declared.Outcome.{Outcome}
 use Rattle.polling.specs.declared.Outcome.the-variants.{Passed, Failed, Silent, Cut, Illegal}
-use Rattle.operations.specs.Ends.{Called, answered}
+use Rattle.operations.specs.Ends.{Called}
 use Rattle.pages.specs.Over.{Over}
 use Rattle.pages.proofs.LayoutLaws.{unless}
-use Rattle.copies.specs.Blocks.{blockIn, pageIn, isMarked, aboveTo}
+use Rattle.copies.specs.Blocks.{pageIn, isMarked, aboveTo}
 use Rattle.state.specs.Choose.{permitted, chosen}
-use Rattle.state.specs.State.{blank, withNumber, withInvalid, withTable}
+use Rattle.state.specs.State.{blank, countPermitted, withNumber, withInvalid, withTable}
 use Rattle.state.specs.declared.State.{State}
 use Rattle.state.specs.declared.choose.Choice.{Choice}
 use Rattle.state.specs.declared.choose.Choice.the-variants.{Block, Worn}
@@ -35,8 +37,8 @@ use Rattle.fill.specs.Fill.{tableCopy, tableSource, tableMain, tableFilled, pag
 use Rattle.fill.specs.Steps.{resumed, isFailed}
 use Rattle.fill.proofs.StepLaws.{passed-answered}
 use Rattle.fill.proofs.OutcomeLaws.{failed-answered}
-use Rattle.tables.specs.Tables.{Tried, tried, tryBlock, tryTable, stateAfter, Tabled, tabled, endedBy, endAnswer, endState, tablesFilled, numbersLeft}
-use Rattle.runs.specs.Run.{isIllegal, Sound, OthersSame, Meant, from-caller, Damaged, Filled, blockOn, pageOn}
+use Rattle.tables.specs.Tables.{Tried, tryBlock, tryTable, stateAfter, Tabled, tabled, endedBy, endAnswer, endState, tablesFilled}
+use Rattle.runs.specs.Run.{isIllegal, Sound, Meant, from-caller, Filled, Spent, fillMost, blockOn, pageOn}
 use Rattle.runs.proofs.PlaceLaws.{page-erased}
 use Rattle.runs.proofs.FillLaws.{fill-leaves, over-erased}
 use Rattle.runs.proofs.CopyLaws.{copy-long, copy-bytes, copy-unmarked, raised-above, raised-unmarked}
@@ -76,11 +78,12 @@ pub record Done (s : Setting) (st : State) (q : Progress) (next : State) : Type 
   pub called : Called s (q .line)
 
 -- however table fills end
-pub record Left (s : Setting) (st : State) (p : Progress) (t : Tabled) : Type 0 where
+pub record Left (s : Setting) (held : List ℕ) (st : State) (p : Progress) (t : Tabled) : Type 0 where
   pub sound : Sound s (t .progress)
   pub answers : t .answer ≤ 11
   pub marked-kept : (b : ℕ) → b < s .geometry .blocks → bitAt (st .marked) b ≡ true → blockOn s (t .progress) b ≡ blockOn s p b
   pub done : t .answer ≡ 0 → Done s st (t .progress) (t .state)
+  pub spent : Spent p (t .progress) (countPermitted (st .marked) (st .invalid) held (s .geometry .blocks) * fillMost (s .geometry))
 
 module _ (s : Setting) (mask-bytes : Bytes (s .mask)) (st : State) (p : Progress) (r : Ready s p st) (number-fits : st .number < 4294967296) where
   called : Called s (p .line)
@@ -112,7 +115,7 @@ module _ (s : Setting) (mask-bytes : Bytes (s .mask)) (st : State) (p : Progress
     meant : Meant s (p .line .chip .array) b (tableCopy (st .number)) (tableSource (s .geometry) (st .invalid)) pages
     meant = record { long = page-long; bytes = page-bytes; provides = λ i h. from-caller (tableMain (s .geometry) (st .invalid) i) }
 
-    left : Filled s p q b pages (s .geometry .pages)
+    left : Filled s p q b pages (s .geometry .pages) (fillMost (s .geometry))
     left = fill-leaves s p b below (tableCopy (st .number)) (tableSource (s .geometry) (st .invalid)) pages meant mask-bytes (r .passed) called
 
     -- whatever became of it, its pages are over those that were meant
@@ -245,6 +248,36 @@ permitted-parts marked invalid held b t =
     let x = unless (bitAt marked b) _ t in
     (x .0, unless (bitAt invalid b) _ (x .1) .0)
 
+-- a block that is made invalid is permitted no more
+module _ (marked invalid held : List ℕ) (b : ℕ) (there : b / 8 < length invalid) where
+  permitted-other : (c : ℕ) → (c ≡ b → ⊥) → permitted marked (withBit invalid b) held c ≡ permitted marked invalid held c
+  unfolding permitted
+  permitted-other c x = rw (bit-kept invalid b c x)
+
+  permitted-gone : permitted marked (withBit invalid b) held b ≡ false
+  unfolding permitted
+  permitted-gone = cases (bitAt marked b) (λ t. rw t) (λ t. rw (t, bit-set invalid b there))
+
+  count-same : (n : ℕ) → n ≤ b → countPermitted marked (withBit invalid b) held n ≡ countPermitted marked invalid held n
+  unfolding countPermitted
+  count-same zero h = refl
+  count-same (suc n) h = rw (permitted-other n (λ e. omega (arith, e, h)), count-same n (omega (arith, h)))
+
+  count-less : permitted marked invalid held b ≡ true → (n : ℕ) → b < n → countPermitted marked (withBit invalid b) held n + 1 ≡ countPermitted marked invalid held n
+  unfolding countPermitted
+  count-less t zero h = absurd (omega (arith, h))
+  count-less t (suc n) h =
+      cases (eqb b n)
+      (λ e.
+      let same = eqb-true b n e in
+      let gone : permitted marked (withBit invalid b) held n ≡ false = ap (permitted marked (withBit invalid b) held) (sym same) ∙ permitted-gone in
+      let was : permitted marked invalid held n ≡ true = ap (permitted marked invalid held) (sym same) ∙ t in
+      rw (gone, was, count-same n (omega (arith, same))) (omega arith))
+      (λ e.
+      let x = eqb-false b n e in
+      let less = count-less t n (omega (arith, h, x)) in
+      rw (permitted-other n (λ y. x (sym y))) (omega (arith, less)))
+
 -- an answer after a fill that did not fail
 end-most : (o : Outcome) → isIllegal o ≡ false → isFailed o ≡ false → endAnswer o ≤ 11
 unfolding isIllegal isFailed endAnswer isPassed stopAnswer
@@ -299,9 +332,9 @@ module _ (s : Setting) (mask-bytes : Bytes (s .mask)) (held : List ℕ) where
     try-is c e = ap (tryBlock s st p) e
 
     -- no block is left
-    worn : Left s st p (after-try k (tryBlock s st p Worn))
+    worn : Left s held st p (after-try k (tryBlock s st p Worn))
     unfolding after-try tryBlock
-    worn = record { sound = r .sound; answers = omega arith; marked-kept = λ b l t. refl; done = λ z. absurd (omega (arith, z)) }
+    worn = record { sound = r .sound; answers = omega arith; marked-kept = λ b l t. refl; done = λ z. absurd (omega (arith, z)); spent = omega arith }
 
     -- block b is filled
     module _ (b : ℕ) (e : choice ≡ Block b) where
@@ -322,8 +355,20 @@ module _ (s : Setting) (mask-bytes : Bytes (s .mask)) (held : List ℕ) where
       abbrev ended : Progress
       ended = tableFilled s b (st .number) (st .invalid) p
 
-      block-left : Filled s p ended b (λ i. pageOf (s .geometry) (tableCopy (st .number)) i (tableMain (s .geometry) (st .invalid) i)) (s .geometry .pages)
+      block-left : Filled s p ended b (λ i. pageOf (s .geometry) (tableCopy (st .number)) i (tableMain (s .geometry) (st .invalid) i)) (s .geometry .pages) (fillMost (s .geometry))
       block-left = left s mask-bytes st p r number-fits b below (free .0) (free .1)
+
+      -- one permitted block less
+      abbrev fewer : ℕ
+      fewer = countPermitted (st .marked) (withBit (st .invalid) b) held (s .geometry .blocks)
+
+      one-less : fewer + 1 ≡ countPermitted (st .marked) (st .invalid) held (s .geometry .blocks)
+      one-less =
+          count-less (st .marked) (st .invalid) held b
+          (omega (arith, below, v s mask-bytes st p r number-fits .blocks-most, r .invalid-bits .long)) (chosen-is .passes) (s .geometry .blocks) below
+
+      one-fill : countPermitted (st .marked) (st .invalid) held (s .geometry .blocks) * fillMost (s .geometry) ≡ fewer * fillMost (s .geometry) + fillMost (s .geometry)
+      one-fill = ap (λ (k : ℕ). k * fillMost (s .geometry)) (sym one-less ∙ add-one fewer) ∙ suc-mul fewer (fillMost (s .geometry))
 
       kept-marked : (c : ℕ) → c < s .geometry .blocks → bitAt (st .marked) c ≡ true → blockOn s ended c ≡ blockOn s p c
       kept-marked c h t = block-left .others c h (off-marked s mask-bytes st p r number-fits b below (free .0) (free .1) c t)
@@ -337,7 +382,7 @@ module _ (s : Setting) (mask-bytes : Bytes (s .mask)) (held : List ℕ) where
       ended-is f = rw f
 
       -- the fills that follow a failed one
-      goes-on : (t : Tabled) → Left s (withInvalid b taken) (resumed ended) t → Left s st p t
+      goes-on : (t : Tabled) → Left s held (withInvalid b taken) (resumed ended) t → Left s held st p t
       goes-on t x =
           record {
             sound = x .sound;
@@ -356,9 +401,10 @@ module _ (s : Setting) (mask-bytes : Bytes (s .mask)) (held : List ℕ) where
                   settled = d .settled;
                   called = d .called;
                 };
+            spent = omega (arith, x .spent, block-left .spent, one-less, one-fill);
           }
 
-      ends-so : isFailed (ended .outcome) ≡ false → Left s st p (endedBy ended (stateAfter b (ended .outcome) taken))
+      ends-so : isFailed (ended .outcome) ≡ false → Left s held st p (endedBy ended (stateAfter b (ended .outcome) taken))
       unfolding endState
       ends-so f =
           record {
@@ -369,23 +415,24 @@ module _ (s : Setting) (mask-bytes : Bytes (s .mask)) (held : List ℕ) where
                 let y = end-passed (ended .outcome) z in
                 let state-is : endState (ended .outcome) (stateAfter b (ended .outcome) taken) ≡ withTable b taken = rw y (after-passed b taken (ended .outcome) y) in
                 subst (Done s st ended) (sym state-is) (done-so s mask-bytes st p r number-fits b below (free .0) (free .1) y);
+            spent = omega (arith, block-left .spent, one-less, one-fill);
           }
 
-      filled-so : ((st' : State) (p' : Progress) → Ready s p' st' → k + st' .number ≤ 4294967296 → Left s st' p' (tablesFilled s held k st' p')) → suc k + st .number ≤ 4294967296
-          → Left s st p (after-try k (tryBlock s st p (Block b)))
+      filled-so : ((st' : State) (p' : Progress) → Ready s p' st' → k ≤ 4294967296 - st' .number → Left s held st' p' (tablesFilled s held k st' p')) → suc k ≤ 4294967296 - st .number
+          → Left s held st p (after-try k (tryBlock s st p (Block b)))
       filled-so less h =
           cases (isFailed (ended .outcome))
-          (λ w. subst (Left s st p) (failed-is w)
+          (λ w. subst (Left s held st p) (failed-is w)
           (goes-on _ (less (withInvalid b taken) (resumed ended) (ready-next s mask-bytes st p r number-fits b below (free .0) (free .1) w) (omega (arith, h)))))
-          (λ f. subst (Left s st p) (ended-is f) (ends-so f))
+          (λ f. subst (Left s held st p) (ended-is f) (ends-so f))
 
-  pub tables-leave : (k : ℕ) (st : State) (p : Progress) → Ready s p st → k + st .number ≤ 4294967296 → Left s st p (tablesFilled s held k st p)
+  pub tables-leave : (k : ℕ) (st : State) (p : Progress) → Ready s p st → k ≤ 4294967296 - st .number → Left s held st p (tablesFilled s held k st p)
   unfolding tablesFilled
   tables-leave zero st p r h =
-      record { sound = r .sound; answers = omega arith; marked-kept = λ b l t. refl; done = λ z. absurd (omega (arith, z)) }
+      record { sound = r .sound; answers = omega arith; marked-kept = λ b l t. refl; done = λ z. absurd (omega (arith, z)); spent = omega arith }
   tables-leave (suc k) st p r h =
       let fits : st .number < 4294967296 = omega (arith, h) in
-      subst (Left s st p) (sym (one-try k st p))
+      subst (Left s held st p) (sym (one-try k st p))
       (by-choice (chosen (st .marked) (st .invalid) held (s .geometry .blocks) (st .last))
-      (λ e. subst (λ (t : Tried). Left s st p (after-try k t)) (sym (try-is k st p r fits Worn e)) (worn k st p r fits))
-      (λ b e. subst (λ (t : Tried). Left s st p (after-try k t)) (sym (try-is k st p r fits (Block b) e)) (filled-so k st p r fits b e (tables-leave k) h)))
+      (λ e. subst (λ (t : Tried). Left s held st p (after-try k t)) (sym (try-is k st p r fits Worn e)) (worn k st p r fits))
+      (λ b e. subst (λ (t : Tried). Left s held st p (after-try k t)) (sym (try-is k st p r fits (Block b) e)) (filled-so k st p r fits b e (tables-leave k) h)))

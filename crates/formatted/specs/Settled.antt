@@ -1,5 +1,5 @@
 -- The array that a formatting leaves, and what a mount makes of it.
-use Prim.Native.Nat.{ℕ, _≤_, _<_}
+use Prim.Native.Nat.{ℕ, _+_, _*_, _≤_, _<_}
 use mathlib.Core.Bool.{true, false}
 use mathlib.Core.List.{List}
 use mathlib.Core.Path.{_≡_}
@@ -8,6 +8,8 @@ use Rattle.geometry.specs.declared.Geometry.{Geometry}
 use Rattle.geometry.specs.Limits.{Valid}
 use Rattle.geometry.specs.Sizes.{pageSize, chipSize}
 use Rattle.cells.specs.Bytes.{Bytes}
+use Rattle.array.specs.Device.{Device, Setting}
+use Rattle.operations.specs.Ends.{Called}
 use Rattle.bitmaps.specs.Bitmap.{bitAt}
 use Rattle.copies.specs.Blocks.{blockIn, pageIn, isMarked, isComplete, aboveTo}
 use Rattle.copies.specs.Current.{currentTable, mountAnswer, reading}
@@ -15,6 +17,8 @@ use Rattle.copies.specs.Pick.{at}
 use Rattle.copies.specs.Table.{lists, bitmapBytes}
 use Rattle.state.specs.declared.State.{State}
 use Rattle.mount.specs.Mount.{mountedState}
+use Rattle.tables.specs.Tables.{Tabled}
+use Rattle.runs.specs.Run.{readMost, eraseMost, fillMost}
 use Rattle.fill.specs.Fill.{pageOf, tableCopy, tableMain}
 
 -- a bitmap that has no bit past the last block
@@ -48,3 +52,20 @@ pub record Formatted (g : Geometry) (array : List ℕ) (st : State) : Type 0 whe
   pub mounts : mountAnswer g array ≡ 0
   pub state-is : st ≡ mountedState g array
   pub blank : (logical p : ℕ) → reading g array (st .table) logical p ≡ replicate (g .main) 255
+
+-- the most cycles of a block's erase with the reading of its pages, and of a formatting
+abbrev pub blockMost : Geometry → ℕ
+blockMost g = eraseMost + g .pages * readMost (pageSize g)
+
+abbrev pub formatMost : Geometry → ℕ
+formatMost g = 3 + g .blocks * (2 * readMost 1) + (g .blocks * blockMost g + g .blocks * fillMost g)
+
+-- how a formatting of chip d ends that may send n cycles, whatever fails or is cut
+pub record FormatLeft (s : Setting) (d : Device) (n : ℕ) (t : Tabled) : Type 0 where
+  pub legal : t .progress .line .chip .port .illegal ≡ 0
+  pub answers : t .answer ≤ 11
+  pub marked-kept : (b : ℕ) → b < s .geometry .blocks → isMarked (s .geometry) (blockIn (s .geometry) (d .array) b) ≡ true
+      → blockIn (s .geometry) (t .progress .line .chip .array) b ≡ blockIn (s .geometry) (d .array) b
+  pub called : t .answer ≡ 0 → Called s (t .progress .line)
+  pub formatted : t .answer ≡ 0 → Formatted (s .geometry) (t .progress .line .chip .array) (t .state)
+  pub spent : n ≤ t .progress .line .left + formatMost (s .geometry)

@@ -1,11 +1,12 @@
 -- What an erase leaves of a request's blocks. Assumes nothing.
-use Prim.Native.Nat.{ℕ, _≤_, _<_}
+use Prim.Native.Nat.{ℕ, _+_, _-_, _≤_, _<_}
 use mathlib.Core.Bool.{true, false, false≢true}
 use mathlib.Core.List.{List}
 use mathlib.Core.Logic.{_⊎_, inl, inr, ⊎-elim}
 use mathlib.Core.Path.{_≡_, refl, sym, ap, subst, _∙_}
 use native.Mathlib.Omega.{arith}
 use borrow.Table.Steps.{cases}
+use borrow.Author.Tests.{ltb-true}
 use lib.Dec.{eqb, leb, ltb}
 use lib.ListN.{length, getD, set, replicate, length-replicate}
 use lib.Seq.{getD-set-same}
@@ -17,7 +18,7 @@ use Rattle.array.specs.Device.{Setting}
 use Rattle.bus.specs.Line.{Line, sendAll}
 use Rattle.polling.specs.Polling.{isPassed, outcomeOf}
 use Rattle.sequences.specs.Cycles.{eraseCycles}
-use Rattle.operations.specs.Ends.{Called, CanErase, End, endOf, eraseEnd, confirmedEnd, answered, passes, endsAs, totalFor, wordFor, withBlockBytes}
+use Rattle.operations.specs.Ends.{Called, CanErase, End, endOf, eraseEnd, confirmedEnd, answered, passes, endsAs, totalFor, wordFor, pollsFor, withBlockBytes}
 use Rattle.operations.proofs.EraseLaws.{erase-ends, erase-legal, erase-next}
 use Rattle.copies.specs.Blocks.{blockIn}
 use Rattle.scan.specs.Progress.{Progress}
@@ -36,6 +37,12 @@ passes-passed s l op m t =
     cases (ltb (busyOf (wordFor s (l .chip))) 256)
     (λ w. let x : eqb (failedFor op (wordFor s (l .chip))) 0 ≡ true = sym (rw (u, w)) ∙ t in rw (u, w, x))
     (λ w. absurd (false≢true (sym (rw (u, w)) ∙ t))))
+
+polls-most : (k : ℕ) → pollsFor k ≤ 256
+polls-most k = cases (ltb k 256) (λ t. rw t (omega (arith, ltb-true k 256 t))) (λ t. rw t (omega arith))
+
+pub total-most : (s : Setting) (l : Line) (m : ℕ) → totalFor s (l .chip) m ≤ m + 258
+total-most s l m = omega (arith, polls-most (busyOf (wordFor s (l .chip))))
 
 pub ends-known : (s : Setting) (l : Line) (op m : ℕ) → isIllegal (endsAs s l op m) ≡ false
 unfolding isIllegal
@@ -80,6 +87,10 @@ module _ (s : Setting) (p : Progress) (block : ℕ) (below : block < s .geometry
   history-is : next .line .chip .history ≡ eraseEnd s (p .line) block .history
   unfolding endOf
   history-is = ap (λ (e : End). e .history) end-is
+
+  left-is : next .line .left ≡ p .line .left - totalFor s (p .line .chip) 4
+  unfolding endOf eraseEnd confirmedEnd
+  left-is = ap (λ (e : End). e .left) end-is
 
   sound : Sound s next
   unfolding eraseEnd confirmedEnd
@@ -133,4 +144,5 @@ module _ (s : Setting) (p : Progress) (block : ℕ) (below : block < s .geometry
         whole = λ y. replaced all all-long (effect y .0);
         partly = λ f. ⊎-elim (λ e. inl (ap (λ (a : List ℕ). blockIn (s .geometry) a block) e)) (λ e. inr (replaced (raised old (s .mask)) part-long e)) (effect-part f);
         in-order = erased-order;
+        spent = omega (arith, left-is, total-most s (p .line) 4);
       }

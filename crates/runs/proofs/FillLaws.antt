@@ -1,10 +1,10 @@
 -- What a fill leaves of a request's blocks: the pages that were meant, or those with bits raised. Assumes nothing.
-use Prim.Native.Nat.{ℕ, zero, suc, _+_, _≤_, _<_}
+use Prim.Native.Nat.{ℕ, zero, suc, _+_, _*_, _≤_, _<_}
 use mathlib.Core.Bool.{true, false, false≢true}
 use mathlib.Core.List.{List, [], _∷_}
 use mathlib.Core.Logic.{_⊎_, inl, inr, ⊎-elim}
 use mathlib.Core.Path.{_≡_, refl, sym, ap, subst, _∙_}
-use native.Mathlib.Nat.{mod-eq-of-lt}
+use native.Mathlib.Nat.{mod-eq-of-lt, suc-mul}
 use native.Mathlib.Numerals.{add-one}
 use native.Mathlib.Omega.{arith}
 use borrow.Table.Steps.{cases}
@@ -28,10 +28,10 @@ use Rattle.fill.specs.Fill.{Copy, Source, kept, pageOf, pageFilled, pagesFilled
 use Rattle.fill.specs.Steps.{eraseOn, programOn}
 use Rattle.fill.proofs.StepLaws.{passed-answered, program-stopped}
 use Rattle.fill.proofs.FillLaws.{fill-stopped}
-use Rattle.runs.specs.Run.{Unchanged, OthersSame, Programmed, Provides, from-caller, from-copy, Meant, Filled, pageOn}
+use Rattle.runs.specs.Run.{Unchanged, OthersSame, Programmed, Provides, from-caller, from-copy, Meant, Filled, pageOn, Spent, readMost, programMost, pageMost, eraseMost, fillMost}
 use Rattle.runs.proofs.OutcomeLaws.{passed-read-end}
 use Rattle.runs.proofs.PlaceLaws.{page-erased}
-use Rattle.runs.proofs.ReadLaws.{read-unchanged}
+use Rattle.runs.proofs.ReadLaws.{read-unchanged, read-spends}
 use Rattle.runs.proofs.EraseLaws.{erase-leaves}
 use Rattle.runs.proofs.ProgramLaws.{program-leaves}
 
@@ -45,6 +45,10 @@ over-erased (d ∷ ds) b = more (and-mask d 8 ∙ mod-eq-of-lt (b 0)) (b 0) (ome
 
 module _ (s : Setting) (p : Progress) (block : ℕ) (below : block < s .geometry .blocks) (c : Copy) (source : ℕ → Source) (pages : ℕ → List ℕ)
     (meant : Meant s (p .line .chip .array) block c source pages) (mask-bytes : Bytes (s .mask)) where
+  -- more cycles may be allowed
+  weaker : {q : Progress} {n k j : ℕ} → k ≤ j → Filled s p q block pages n k → Filled s p q block pages n j
+  weaker h r = record { sound = r .sound; others = r .others; done = r .done; ahead = r .ahead; in-order = r .in-order; damaged = r .damaged; spent = omega (arith, r .spent, h) }
+
   over-blank : (i : ℕ) → i < s .geometry .pages → Over (pages i) (replicate (pageSize (s .geometry)) 255)
   over-blank i h = subst (λ (n : ℕ). Over (pages i) (replicate n 255)) (meant .long i h) (over-erased (pages i) (meant .bytes i h))
 
@@ -57,7 +61,7 @@ module _ (s : Setting) (p : Progress) (block : ℕ) (below : block < s .geometry
       (λ t. subst (Over (pages i)) (sym (ahead i (ltb-false i n t) h)) (over-blank i h))
 
   -- the program of page n, from q, which has the block as it is after the first n pages
-  module _ (q : Progress) (n : ℕ) (page-below : n < s .geometry .pages) (r : Filled s p q block pages n) (t : isPassed (q .outcome) ≡ true) where
+  module _ (q : Progress) (n : ℕ) (page-below : n < s .geometry .pages) (k : ℕ) (r : Filled s p q block pages n k) (t : isPassed (q .outcome) ≡ true) where
     abbrev next : Progress
     next = programOn s block n (pages n) q
 
@@ -98,7 +102,7 @@ module _ (s : Setting) (p : Progress) (block : ℕ) (below : block < s .geometry
         (λ e. subst (λ (k : ℕ). Over (pages k) (pageOn s next block k)) (sym (eqb-true i n e)) (page-over f))
         (λ e. subst (Over (pages i)) (sym (left .other-pages i h (eqb-false i n e))) (all-over q n (r .done t) (r .ahead t) i h))
 
-    program-next : Filled s p next block pages (suc n)
+    program-next : Filled s p next block pages (suc n) (k + programMost (s .geometry))
     program-next =
         record {
           sound = left .sound;
@@ -107,14 +111,15 @@ module _ (s : Setting) (p : Progress) (block : ℕ) (below : block < s .geometry
           ahead = λ y. ahead-next;
           in-order = λ y. subst (λ (k : ℕ). getD (next .line .chip .history) block 0 ≤ k) (add-one n) (left .in-order y);
           damaged = λ f. inr (inr (damage-next f));
+          spent = omega (arith, r .spent, left .spent);
         }
 
   -- a read in between changes nothing
-  module _ (q : Progress) (n : ℕ) (r : Filled s p q block pages n) (t : isPassed (q .outcome) ≡ true) (q' : Progress) (u : Unchanged s (q .line .chip .array) (q .line .chip .history) q') where
+  module _ (q : Progress) (n k : ℕ) (r : Filled s p q block pages n k) (t : isPassed (q .outcome) ≡ true) (q' : Progress) (u : Unchanged s (q .line .chip .array) (q .line .chip .history) q') (j : ℕ) (few : Spent q q' j) where
     same-page : (i : ℕ) → pageOn s q' block i ≡ pageOn s q block i
     same-page i = ap (λ (a : List ℕ). pageIn (s .geometry) (blockIn (s .geometry) a block) i) (u .same-array)
 
-    after-read : Filled s p q' block pages n
+    after-read : Filled s p q' block pages n (k + j)
     after-read =
         record {
           sound = u .sound;
@@ -123,9 +128,10 @@ module _ (s : Setting) (p : Progress) (block : ℕ) (below : block < s .geometry
           ahead = λ y i h l. same-page i ∙ r .ahead t i h l;
           in-order = λ y. subst (λ (x : List ℕ). getD x block 0 ≤ n) (sym (u .same-history)) (r .in-order t);
           damaged = λ f. inr (inr (all-over q' n (λ i h. same-page i ∙ r .done t i h) (λ i h l. same-page i ∙ r .ahead t i h l)));
+          spent = omega (arith, r .spent, few);
         }
 
-    after-stop : isPassed (q' .outcome) ≡ false → Filled s p q' block pages (suc n)
+    after-stop : isPassed (q' .outcome) ≡ false → Filled s p q' block pages (suc n) (k + j)
     after-stop f =
         record {
           sound = u .sound;
@@ -134,10 +140,11 @@ module _ (s : Setting) (p : Progress) (block : ℕ) (below : block < s .geometry
           ahead = λ y. absurd (false≢true (sym f ∙ y));
           in-order = λ y. absurd (false≢true (sym f ∙ y));
           damaged = after-read .damaged;
+          spent = after-read .spent;
         }
 
   -- page n, whatever its source
-  module _ (q : Progress) (n : ℕ) (page-below : n < s .geometry .pages) (r : Filled s p q block pages n) (t : isPassed (q .outcome) ≡ true) where
+  module _ (q : Progress) (n : ℕ) (page-below : n < s .geometry .pages) (k : ℕ) (r : Filled s p q block pages n k) (t : isPassed (q .outcome) ≡ true) where
     still-called : Called s (q .line)
     still-called = r .sound .called (passed-answered (q .outcome) t)
 
@@ -146,43 +153,57 @@ module _ (s : Setting) (p : Progress) (block : ℕ) (below : block < s .geometry
       abbrev fetched : Progress
       fetched = readOn s (rowOf (s .geometry) old n) 0 (s .geometry .main) q
 
+      so-far : Unchanged s (q .line .chip .array) (q .line .chip .history) q
+      so-far = record { sound = r .sound; ends = passed-read-end (q .outcome) t; same-array = refl; same-history = refl }
+
       fetch-unchanged : Unchanged s (q .line .chip .array) (q .line .chip .history) fetched
       fetch-unchanged =
           read-unchanged s (q .line .chip .array) (q .line .chip .history) (rowOf (s .geometry) old n) 0 (s .geometry .main)
           (row-below (s .geometry) (still-called .is-valid) old n old-below page-below)
-          (omega (arith, still-called .is-valid .main-least)) (omega arith) q
-          (record { sound = r .sound; ends = passed-read-end (q .outcome) t; same-array = refl; same-history = refl })
+          (omega (arith, still-called .is-valid .main-least)) (omega arith) q so-far
 
-      kept-next : (bytes : List ℕ) → bytes ≡ pages n → Filled s p (programOn s block n bytes fetched) block pages (suc n)
+      fetch-spends : Spent q fetched (readMost (s .geometry .main))
+      fetch-spends =
+          read-spends s (q .line .chip .array) (q .line .chip .history) (rowOf (s .geometry) old n) 0 (s .geometry .main)
+          (row-below (s .geometry) (still-called .is-valid) old n old-below page-below)
+          (omega (arith, still-called .is-valid .main-least)) (omega arith) q so-far
+
+      kept-next : (bytes : List ℕ) → bytes ≡ pages n → Filled s p (programOn s block n bytes fetched) block pages (suc n) (k + pageMost (s .geometry))
       kept-next bytes e =
           cases (isPassed (fetched .outcome))
-          (λ y. subst (λ (x : List ℕ). Filled s p (programOn s block n x fetched) block pages (suc n)) (sym e) (program-next fetched n page-below (after-read q n r t fetched fetch-unchanged) y))
-          (λ f. subst (λ (x : Progress). Filled s p x block pages (suc n)) (sym (program-stopped s block n bytes fetched f)) (after-stop q n r t fetched fetch-unchanged f))
+          (λ y.
+          subst (λ (x : List ℕ). Filled s p (programOn s block n x fetched) block pages (suc n) (k + pageMost (s .geometry))) (sym e)
+          (weaker (omega arith) (program-next fetched n page-below (k + readMost (s .geometry .main)) (after-read q n k r t fetched fetch-unchanged (readMost (s .geometry .main)) fetch-spends) y)))
+          (λ f.
+          subst (λ (x : Progress). Filled s p x block pages (suc n) (k + pageMost (s .geometry))) (sym (program-stopped s block n bytes fetched f))
+          (weaker (omega arith) (after-stop q n k r t fetched fetch-unchanged (readMost (s .geometry .main)) fetch-spends f)))
 
-    provided-next : (from : Source) (page : List ℕ) → Provides (s .geometry) (p .line .chip .array) block c n from page → page ≡ pages n → Filled s p (pageFilled s block c n from q) block pages (suc n)
+    provided-next : (from : Source) (page : List ℕ) → Provides (s .geometry) (p .line .chip .array) block c n from page → page ≡ pages n → Filled s p (pageFilled s block c n from q) block pages (suc n) (k + pageMost (s .geometry))
     unfolding pageFilled
-    provided-next from page (from-caller main) e = subst (λ (x : List ℕ). Filled s p (programOn s block n x q) block pages (suc n)) (sym e) (program-next q n page-below r t)
+    provided-next from page (from-caller main) e =
+        subst (λ (x : List ℕ). Filled s p (programOn s block n x q) block pages (suc n) (k + pageMost (s .geometry))) (sym e) (weaker (omega arith) (program-next q n page-below k r t))
     provided-next from page (from-copy old old-below x) e =
         kept-next old old-below _ (ap (λ (row : List ℕ). pageOf (s .geometry) c n (mainIn (s .geometry) row n)) (r .others old old-below x) ∙ e)
 
-    page-next : Filled s p (pageFilled s block c n (source n) q) block pages (suc n)
+    page-next : Filled s p (pageFilled s block c n (source n) q) block pages (suc n) (k + pageMost (s .geometry))
     page-next = provided-next (source n) (pages n) (meant .provides n page-below) refl
 
   -- the first n pages, from q right after the erase
-  pub pages-leave : (q : Progress) → Filled s p q block pages 0 → (n : ℕ) → n ≤ s .geometry .pages → Filled s p (pagesFilled s block c source n q) block pages n
+  pub pages-leave : (q : Progress) → Filled s p q block pages 0 eraseMost → (n : ℕ) → n ≤ s .geometry .pages → Filled s p (pagesFilled s block c source n q) block pages n (eraseMost + n * pageMost (s .geometry))
   unfolding pagesFilled
-  pages-leave q r zero h = r
+  pages-leave q r zero h = weaker (omega arith) r
   pages-leave q r (suc n) h =
       let so-far = pagesFilled s block c source n q in
       let less = pages-leave q r n (omega (arith, h)) in
+      let more = suc-mul n (pageMost (s .geometry)) in
       cases (isPassed (so-far .outcome))
-      (λ t. page-next so-far n (omega (arith, h)) less t)
-      (λ f. subst (λ (x : Progress). Filled s p x block pages (suc n)) (sym (still q n f)) (stopped so-far n less f))
+      (λ t. weaker (omega (arith, more)) (page-next so-far n (omega (arith, h)) (eraseMost + n * pageMost (s .geometry)) less t))
+      (λ f. subst (λ (x : Progress). Filled s p x block pages (suc n) (eraseMost + suc n * pageMost (s .geometry))) (sym (still q n f)) (weaker (omega (arith, more)) (stopped so-far n less f)))
     where
       still : (q : Progress) (n : ℕ) → isPassed (pagesFilled s block c source n q .outcome) ≡ false → pagesFilled s block c source (suc n) q ≡ pagesFilled s block c source n q
       still q n f = ap (λ (k : ℕ). pagesFilled s block c source k q) (sym (one-more n)) ∙ fill-stopped s block c source n q f 1
 
-      stopped : (x : Progress) (n : ℕ) → Filled s p x block pages n → isPassed (x .outcome) ≡ false → Filled s p x block pages (suc n)
+      stopped : (x : Progress) (n : ℕ) {k : ℕ} → Filled s p x block pages n k → isPassed (x .outcome) ≡ false → Filled s p x block pages (suc n) k
       stopped x n r f =
           record {
             sound = r .sound;
@@ -191,10 +212,11 @@ module _ (s : Setting) (p : Progress) (block : ℕ) (below : block < s .geometry
             ahead = λ y. absurd (false≢true (sym f ∙ y));
             in-order = λ y. absurd (false≢true (sym f ∙ y));
             damaged = r .damaged;
+            spent = r .spent;
           }
 
   -- the whole fill, from p
-  pub fill-leaves : isPassed (p .outcome) ≡ true → Called s (p .line) → Filled s p (filled s block c source p) block pages (s .geometry .pages)
+  pub fill-leaves : isPassed (p .outcome) ≡ true → Called s (p .line) → Filled s p (filled s block c source p) block pages (s .geometry .pages) (fillMost (s .geometry))
   fill-leaves t called =
       let e = erase-leaves s p block below t called in
       pages-leave (eraseOn s block p)
@@ -205,5 +227,6 @@ module _ (s : Setting) (p : Progress) (block : ℕ) (below : block < s .geometry
         ahead = λ y i h l. ap (λ (row : List ℕ). pageIn (s .geometry) row i) (e .whole y) ∙ page-erased (s .geometry) i l;
         in-order = e .in-order;
         damaged = λ f. ⊎-elim inl (λ x. inr (inl x)) (e .partly f);
+        spent = e .spent;
       })
       (s .geometry .pages) (omega arith)

@@ -1,5 +1,5 @@
 -- What a program leaves of a request's blocks and pages. Assumes nothing.
-use Prim.Native.Nat.{ℕ, _+_, _≤_, _<_}
+use Prim.Native.Nat.{ℕ, _+_, _-_, _≤_, _<_}
 use mathlib.Core.Bool.{true, false}
 use mathlib.Core.List.{List}
 use mathlib.Core.Logic.{_⊎_, inl, inr, ⊎-elim}
@@ -15,7 +15,7 @@ use Rattle.array.specs.Device.{Setting}
 use Rattle.bus.specs.Line.{Line, sendAll}
 use Rattle.polling.specs.Polling.{isPassed, outcomeOf}
 use Rattle.sequences.specs.Cycles.{programCycles}
-use Rattle.operations.specs.Ends.{Called, CanProgram, End, endOf, programEnd, confirmedEnd, answered, withRow, rowBytesOf}
+use Rattle.operations.specs.Ends.{Called, CanProgram, End, endOf, programEnd, confirmedEnd, answered, totalFor, withRow, rowBytesOf}
 use Rattle.operations.proofs.ProgramLaws.{program-ends, program-legal, program-next}
 use Rattle.copies.specs.Blocks.{blockIn, pageIn}
 use Rattle.scan.specs.Progress.{Progress}
@@ -23,7 +23,7 @@ use Rattle.fill.specs.Steps.{programOn}
 use Rattle.fill.proofs.StepLaws.{program-on-line, program-on-outcome, whole-effect}
 use Rattle.runs.specs.Run.{isIllegal, Sound, Programmed, OthersSame, pageOn}
 use Rattle.runs.proofs.PlaceLaws.{page-place, page-there, page-elsewhere, page-other-block, page-long}
-use Rattle.runs.proofs.EraseLaws.{part-effect, ends-known}
+use Rattle.runs.proofs.EraseLaws.{part-effect, ends-known, total-most}
 
 module _ (s : Setting) (p : Progress) (block page : ℕ) (bytes : List ℕ) (t : isPassed (p .outcome) ≡ true) (can : CanProgram s (p .line) block page bytes) where
   abbrev next : Progress
@@ -49,6 +49,10 @@ module _ (s : Setting) (p : Progress) (block page : ℕ) (bytes : List ℕ) (t :
   history-is : next .line .chip .history ≡ programEnd s (p .line) block page bytes .history
   unfolding endOf
   history-is = ap (λ (e : End). e .history) end-is
+
+  left-is : next .line .left ≡ p .line .left - totalFor s (p .line .chip) (6 + length bytes)
+  unfolding endOf programEnd confirmedEnd
+  left-is = ap (λ (e : End). e .left) end-is
 
   sound : Sound s next
   unfolding programEnd confirmedEnd
@@ -117,4 +121,5 @@ module _ (s : Setting) (p : Progress) (block page : ℕ) (bytes : List ℕ) (t :
         partly = λ f.
             ⊎-elim (λ e. inl (ap (λ (a : List ℕ). pageIn (s .geometry) (blockIn (s .geometry) a block) page) e)) (λ e. inr (replaced (programmed old half) (made-long half) e)) (effect-part f);
         in-order = order-next;
+        spent = omega (arith, left-is, total-most s (p .line) (6 + length bytes), can .bytes-long);
       }

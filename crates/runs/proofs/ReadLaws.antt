@@ -1,10 +1,12 @@
 -- Resets and reads of a request on its way: nothing on the chip changes. Assumes nothing.
-use Prim.Native.Nat.{ℕ, zero, suc, _+_, _≤_, _<_}
+use Prim.Native.Nat.{ℕ, zero, suc, _+_, _-_, _*_, _≤_, _<_}
 use mathlib.Core.Bool.{true}
 use mathlib.Core.List.{List, []}
 use mathlib.Core.Path.{_≡_, refl, sym, ap, subst, _∙_}
+use native.Mathlib.Nat.{suc-mul}
 use native.Mathlib.Omega.{arith}
 use borrow.Table.Steps.{cases}
+use borrow.Author.Tests.{ltb-true}
 use lib.Dec.{ltb}
 use Rattle.geometry.specs.Limits.{Valid}
 use Rattle.geometry.specs.Sizes.{pageSize, rowCount, rowOf}
@@ -23,7 +25,7 @@ use Rattle.scan.specs.Scan.{pagesRead, blocksRead}
 use Rattle.scan.proofs.ReadOnLaws.{read-line, read-outcome, read-stopped, is-passed}
 use Rattle.calls.specs.Call.{sizedFor, callLine}
 use Rattle.calls.proofs.ResetLaws.{reset-called}
-use Rattle.runs.specs.Run.{isReadEnd, Unchanged}
+use Rattle.runs.specs.Run.{isReadEnd, Unchanged, Spent, readMost}
 use Rattle.runs.proofs.OutcomeLaws.{read-passed, read-known}
 
 -- how a read ends, by its fate word and the allowance
@@ -33,6 +35,10 @@ ends-as-read s l n =
     cases (ltb (l .left) (readTotal s (l .chip) n))
     (λ t. rw t)
     (λ t. cases (ltb (busyOf (wordFor s (l .chip))) 256) (λ u. rw (t, u)) (λ u. rw (t, u)))
+
+read-most : (s : Setting) (l : Line) (n : ℕ) → readTotal s (l .chip) n ≤ readMost n
+read-most s l n =
+    cases (ltb (busyOf (wordFor s (l .chip))) 256) (λ t. rw t (omega (arith, ltb-true (busyOf (wordFor s (l .chip))) 256 t))) (λ t. rw t (omega arith))
 
 module _ (s : Setting) (array history : List ℕ) where
   -- one read
@@ -58,6 +64,17 @@ module _ (s : Setting) (array history : List ℕ) where
           same-history = ap (λ (x : Line). x .chip .history) line-is ∙ ap (λ (e : End). e .history) ends ∙ u .same-history;
         }
 
+    pub read-spends : (p : Progress) → Unchanged s array history p → Spent p (readOn s row column n p) (readMost n)
+    unfolding endOfRead readEnd answered isPassed
+    read-spends p u =
+        cases (isPassed (p .outcome))
+        (λ t.
+        let l = p .line in
+        let can : CanRead s l row column n = record { called = u .sound .called (ap answered (is-passed (p .outcome) t)); row-below = row-fits; column-below = column-fits; within = within } in
+        let left-is : readOn s row column n p .line .left ≡ l .left - readTotal s (l .chip) n = ap (λ (x : Line). x .left) (read-line s row column n p l refl t) ∙ ap (λ (e : End). e .left) (read-ends s l row column n can) in
+        omega (arith, left-is, read-most s l n))
+        (λ f. omega (arith, ap (λ (x : Progress). x .line .left) (read-stopped s row column n p f)))
+
     pub read-unchanged : (p : Progress) → Unchanged s array history p → Unchanged s array history (readOn s row column n p)
     read-unchanged p u =
         cases (isPassed (p .outcome))
@@ -74,11 +91,27 @@ module _ (s : Setting) (array history : List ℕ) where
         (pagesRead s block n p)
         (pages-unchanged block b n (omega (arith, h)) p u)
 
+    pub pages-spend : (block : ℕ) → block < s .geometry .blocks → (n : ℕ) → n ≤ s .geometry .pages → (p : Progress) → Unchanged s array history p → Spent p (pagesRead s block n p) (n * readMost (pageSize (s .geometry)))
+    unfolding pagesRead
+    pages-spend block b zero h p u = omega arith
+    pages-spend block b (suc n) h p u =
+        let last =
+        read-spends (rowOf (s .geometry) block n) 0 (pageSize (s .geometry)) (row-below (s .geometry) v block n b (omega (arith, h))) (omega (arith, v .main-least)) (omega arith)
+        (pagesRead s block n p) (pages-unchanged block b n (omega (arith, h)) p u) in
+        omega (arith, last, pages-spend block b n (omega (arith, h)) p u, suc-mul n (readMost (pageSize (s .geometry))))
+
     pub blocks-unchanged : (n : ℕ) → n ≤ s .geometry .blocks → (p : Progress) → Unchanged s array history p → Unchanged s array history (blocksRead s n p)
     unfolding blocksRead
     blocks-unchanged zero h p u = u
     blocks-unchanged (suc n) h p u =
         pages-unchanged n (omega (arith, h)) (s .geometry .pages) (omega arith) (blocksRead s n p) (blocks-unchanged n (omega (arith, h)) p u)
+
+    pub blocks-spend : (n : ℕ) → n ≤ s .geometry .blocks → (p : Progress) → Unchanged s array history p → Spent p (blocksRead s n p) (n * (s .geometry .pages * readMost (pageSize (s .geometry))))
+    unfolding blocksRead
+    blocks-spend zero h p u = omega arith
+    blocks-spend (suc n) h p u =
+        let last = pages-spend n (omega (arith, h)) (s .geometry .pages) (omega arith) (blocksRead s n p) (blocks-unchanged n (omega (arith, h)) p u) in
+        omega (arith, last, blocks-spend n (omega (arith, h)) p u, suc-mul n (s .geometry .pages * readMost (pageSize (s .geometry))))
 
 -- the reset with which a call begins
 module _ (s : Setting) (d : Device) (n : ℕ) (t : sizedFor s d ≡ true) where
@@ -92,6 +125,10 @@ module _ (s : Setting) (d : Device) (n : ℕ) (t : sizedFor s d ≡ true) where
   ends-as : isReadEnd (resetEnd (callLine d n) .outcome) ≡ true
   unfolding resetEnd isReadEnd
   ends-as = cases (ltb n 3) (λ u. rw u) (λ u. rw u)
+
+  pub reset-spends : n ≤ begun .line .left + 3
+  unfolding endOfReset resetEnd resetOn isPassed
+  reset-spends = omega (arith, ap (λ (e : End). e .left) (reset-ends s (callLine d n) refl refl))
 
   pub reset-unchanged : Unchanged s (d .array) (d .history) begun
   unfolding endOfReset resetEnd resetOn isPassed

@@ -1,5 +1,5 @@
 -- A request on its way, told without its cycles: what each of its operations leaves of the chip.
-use Prim.Native.Nat.{ℕ, _+_, _≤_, _<_}
+use Prim.Native.Nat.{ℕ, _+_, _*_, _≤_, _<_}
 use mathlib.Core.Bool.{Bool, true, false}
 use mathlib.Core.List.{List}
 use mathlib.Core.Logic.{_⊎_}
@@ -59,6 +59,27 @@ pageOn s p b i = pageIn (s .geometry) (blockOn s p b) i
 abbrev pub OthersSame : Setting → Progress → Progress → ℕ → Type 0
 OthersSame s p q block = (b : ℕ) → b < s .geometry .blocks → (b ≡ block → ⊥) → blockOn s q b ≡ blockOn s p b
 
+-- no more than k cycles were sent
+abbrev pub Spent : Progress → Progress → ℕ → Type 0
+Spent p q k = p .line .left ≤ q .line .left + k
+
+-- the cycles of a read of n bytes, of a program and of an erase whose status is read 256 times
+abbrev pub readMost : ℕ → ℕ
+readMost n = 265 + n
+
+abbrev pub programMost : Geometry → ℕ
+programMost g = 264 + pageSize g
+
+abbrev pub eraseMost : ℕ
+eraseMost = 262
+
+-- those of a page that is filled after a kept read, and of a whole fill
+abbrev pub pageMost : Geometry → ℕ
+pageMost g = readMost (g .main) + programMost g
+
+abbrev pub fillMost : Geometry → ℕ
+fillMost g = eraseMost + g .pages * pageMost g
+
 -- an erase that led from p to q
 pub record Erased (s : Setting) (p q : Progress) (block : ℕ) : Type 0 where
   pub sound : Sound s q
@@ -66,6 +87,7 @@ pub record Erased (s : Setting) (p q : Progress) (block : ℕ) : Type 0 where
   pub whole : isPassed (q .outcome) ≡ true → blockOn s q block ≡ replicate (blockSize (s .geometry)) 255
   pub partly : isPassed (q .outcome) ≡ false → (blockOn s q block ≡ blockOn s p block) ⊎ (blockOn s q block ≡ raised (blockOn s p block) (s .mask))
   pub in-order : isPassed (q .outcome) ≡ true → getD (q .line .chip .history) block 0 ≤ 0
+  pub spent : Spent p q eraseMost
 
 -- a program that led from p to q
 pub record Programmed (s : Setting) (p q : Progress) (block page : ℕ) (bytes : List ℕ) : Type 0 where
@@ -76,6 +98,7 @@ pub record Programmed (s : Setting) (p q : Progress) (block page : ℕ) (bytes :
   pub partly : isPassed (q .outcome) ≡ false
       → (pageOn s q block page ≡ pageOn s p block page) ⊎ (pageOn s q block page ≡ programmed (pageOn s p block page) (weakened bytes (s .mask)))
   pub in-order : isPassed (q .outcome) ≡ true → getD (q .line .chip .history) block 0 ≤ page + 1
+  pub spent : Spent p q (programMost (s .geometry))
 
 -- where the bytes of page n of a copy come from: the caller, or the same page of another block
 pub data Provides (g : Geometry) (array : List ℕ) (block : ℕ) (c : Copy) (n : ℕ) : Source → List ℕ → Type 0 where
@@ -102,11 +125,12 @@ Damaged s p q block pages =
     (blockOn s q block ≡ blockOn s p block)
     ⊎ ((blockOn s q block ≡ raised (blockOn s p block) (s .mask)) ⊎ ((i : ℕ) → i < s .geometry .pages → Over (pages i) (pageOn s q block i)))
 
--- a fill on its way from p: the erase and the first n pages led to q
-pub record Filled (s : Setting) (p q : Progress) (block : ℕ) (pages : ℕ → List ℕ) (n : ℕ) : Type 0 where
+-- a fill on its way from p: the erase and the first n pages led to q, by no more than k cycles
+pub record Filled (s : Setting) (p q : Progress) (block : ℕ) (pages : ℕ → List ℕ) (n k : ℕ) : Type 0 where
   pub sound : Sound s q
   pub others : OthersSame s p q block
   pub done : isPassed (q .outcome) ≡ true → (i : ℕ) → i < n → pageOn s q block i ≡ pages i
   pub ahead : isPassed (q .outcome) ≡ true → (i : ℕ) → n ≤ i → i < s .geometry .pages → pageOn s q block i ≡ replicate (pageSize (s .geometry)) 255
   pub in-order : isPassed (q .outcome) ≡ true → getD (q .line .chip .history) block 0 ≤ n
   pub damaged : isPassed (q .outcome) ≡ false → Damaged s p q block pages
+  pub spent : Spent p q k

@@ -1,4 +1,4 @@
--- `format::erase_all` meets its contract: after each block the round is on its way as RoundLaws tells. Assumes nothing.
+-- `erasing::erase_all` meets its contract: after each block the round is on its way as RoundLaws tells. Assumes nothing.
 use Prim.Native.Nat.{_-_, _≤_}
 use mathlib.Core.Path.{_≡_, refl, _∙_}
 use native.Mathlib.Omega.{arith}
@@ -8,9 +8,9 @@ use lib.ListN.{length}
 use Rattle.array.specs.Device.{setting}
 use Rattle.bus.specs.Line.{line}
 use Rattle.polling.proofs.PollLaws.{passed-by-tag, other-by-tag}
-use Rattle.format.proofs.RoundLaws.{Rounding, round-begins, round-stops, round-goes, round-ends}
-use Rattle.format.proofs.erase_all.Statement.{statement}
-use Rattle.format.proofs.erase_all.Tie as tie
+use Rattle.erasing.proofs.RoundLaws.{Rounding, round-begins, round-stops, round-goes, round-ends}
+use Rattle.erasing.proofs.erase_all.Statement.{statement}
+use Rattle.erasing.proofs.erase_all.Tie as tie
 
 abbrev Inv-loop : tie.InvT-loop
 Inv-loop g array₀ register₀ history₀ mask fates marked page₀ b₀ invalid₀ above₀ block₀ blocks array register history page b invalid above block =

@@ -1,9 +1,9 @@
--- `format::note_mark` meets its contract. Assumes nothing.
+-- `marks::note_mark` meets its contract. Assumes nothing.
 use mathlib.Core.Path.{_∙_}
 use borrow.Author.Tests.{eq-eqb, ne-eqb}
 use borrow.Author.Needs.{needs}
-use Rattle.format.proofs.note_mark.Statement.{statement}
-use Rattle.format.proofs.note_mark.Tie as tie
+use Rattle.marks.proofs.note_mark.Statement.{statement}
+use Rattle.marks.proofs.note_mark.Tie as tie
 
 set-bit-requires : tie.Need-set-bit-requires
 set-bit-requires c κs = search needs

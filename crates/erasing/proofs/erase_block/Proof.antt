@@ -1,4 +1,4 @@
--- `format::erase_block` meets its contract. Assumes nothing.
+-- `erasing::erase_block` meets its contract. Assumes nothing.
 use Prim.Native.Nat.{ℕ}
 use mathlib.Core.Path.{sym, ap, _∙_}
 use native.Mathlib.Omega.{arith}
@@ -9,10 +9,10 @@ use Rattle.sequences.specs.Cycles.{eraseCycles}
 use Rattle.copies.specs.declared.Summary.{Summary}
 use Rattle.copies.proofs.BlockLaws.{summed-above}
 use Rattle.fill.proofs.OutcomeLaws.{failed-by-tag, unfailed-by-tag}
-use Rattle.format.proofs.RoundLaws.{block-marked, block-unfailed, failed-called, block-failed}
+use Rattle.erasing.proofs.RoundLaws.{block-marked, block-unfailed, failed-called, block-failed}
 use borrow.Author.Needs.{needs}
-use Rattle.format.proofs.erase_block.Statement.{statement}
-use Rattle.format.proofs.erase_block.Tie as tie
+use Rattle.erasing.proofs.erase_block.Statement.{statement}
+use Rattle.erasing.proofs.erase_block.Tie as tie
 
 is-set-requires : tie.Need-is-set-requires
 is-set-requires c κs = search needs

@@ -1,13 +1,13 @@
--- `format::read_mark` meets its contract. Assumes nothing.
+-- `marks::read_mark` meets its contract. Assumes nothing.
 use mathlib.Core.Path.{refl}
 use denote.Ref.{now}
 use lib.ListN.{replicate}
 use Rattle.array.specs.Device.{setting}
 use Rattle.bus.specs.Line.{line}
-use Rattle.format.proofs.MarkLaws.{mark-read}
+use Rattle.marks.proofs.MarkLaws.{mark-read}
 use borrow.Author.Needs.{needs}
-use Rattle.format.proofs.read_mark.Statement.{statement}
-use Rattle.format.proofs.read_mark.Tie as tie
+use Rattle.marks.proofs.read_mark.Statement.{statement}
+use Rattle.marks.proofs.read_mark.Tie as tie
 
 row-of-requires : tie.Need-row-of-requires
 row-of-requires c κs = search needs

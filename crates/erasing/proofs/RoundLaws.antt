@@ -26,7 +26,7 @@ use Rattle.scan.proofs.ReadOnLaws.{is-passed}
 use Rattle.fill.specs.Steps.{eraseOn, resumed, isFailed}
 use Rattle.fill.proofs.OutcomeLaws.{failed-answered}
 use Rattle.fill.proofs.StepLaws.{passed-answered, erase-called, erase-on-line, erase-on-outcome}
-use Rattle.format.specs.Format.{afterErase, blockErased, failedAt, aboveAt, erasedTo, BlockDone, RoundDone}
+use Rattle.erasing.specs.Round.{afterErase, blockErased, failedAt, aboveAt, erasedTo, BlockDone, RoundDone}
 
 -- a block with a factory mark
 pub block-marked : (s : Setting) (marked : List ℕ) (l : Line) (block : ℕ) → bitAt marked block ≡ true → Called s l → BlockDone s marked l l Passed block 0 0

@@ -30,7 +30,7 @@ use Rattle.found.specs.Found.{marksTo}
 use Rattle.scan.specs.Progress.{Progress, progress, readOn}
 use Rattle.scan.proofs.ReadOnLaws.{read-leaves, read-line, read-outcome, read-stopped, is-passed}
 use Rattle.scan.proofs.ScanLaws.{row-is-page}
-use Rattle.format.specs.Format.{MarkRead, MarksFound, marksRead}
+use Rattle.marks.specs.Marks.{MarkRead, MarksFound, marksRead}
 
 -- a byte of a part
 part-byte : (at n k : ℕ) (xs : List ℕ) → k < n → getD (part at n xs) k 0 ≡ getD xs (at + k) 0

@@ -1,9 +1,9 @@
--- `format::note_failed` meets its contract. Assumes nothing.
+-- `erasing::note_failed` meets its contract. Assumes nothing.
 use mathlib.Core.Path.{_∙_}
 use borrow.Author.Tests.{eq-eqb, ne-eqb}
 use borrow.Author.Needs.{needs}
-use Rattle.format.proofs.note_failed.Statement.{statement}
-use Rattle.format.proofs.note_failed.Tie as tie
+use Rattle.erasing.proofs.note_failed.Statement.{statement}
+use Rattle.erasing.proofs.note_failed.Tie as tie
 
 set-bit-requires : tie.Need-set-bit-requires
 set-bit-requires c κs = search needs

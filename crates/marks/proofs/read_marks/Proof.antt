@@ -1,4 +1,4 @@
--- `format::read_marks` meets its contract: after each block the marks are those of the blocks so far. Assumes nothing.
+-- `marks::read_marks` meets its contract: after each block the marks are those of the blocks so far. Assumes nothing.
 use Prim.Native.Nat.{_-_, _≤_}
 use mathlib.Core.Path.{_≡_, refl, _∙_}
 use native.Mathlib.Omega.{arith}
@@ -8,9 +8,9 @@ use lib.ListN.{length}
 use Rattle.array.specs.Device.{setting}
 use Rattle.bus.specs.Line.{line}
 use Rattle.polling.proofs.PollLaws.{passed-by-tag, other-by-tag}
-use Rattle.format.proofs.MarkLaws.{Marking, marks-begin, first-stops, second-stops, marks-go, marks-end}
-use Rattle.format.proofs.read_marks.Statement.{statement}
-use Rattle.format.proofs.read_marks.Tie as tie
+use Rattle.marks.proofs.MarkLaws.{Marking, marks-begin, first-stops, second-stops, marks-go, marks-end}
+use Rattle.marks.proofs.read_marks.Statement.{statement}
+use Rattle.marks.proofs.read_marks.Tie as tie
 
 abbrev Inv-loop : tie.InvT-loop
 Inv-loop g array₀ register₀ history₀ mask fates b₀ marked₀ block₀ blocks array register history b marked block =

@@ -1,0 +1,172 @@
+// The first round of erases: every unmarked block, blocks rising; a block whose erase failed is read.
+use bus::Bus;
+use geometry::Geometry;
+use polling::Outcome;
+ghost use mathlib.Core.Bool.{cond};
+ghost use lib.Dec.{eqb};
+ghost use mathlib.Core.Path.{_≡_};
+ghost use Prim.Native.Nat.{_<_, max};
+ghost use lib.ListN.{length};
+ghost use Rattle.geometry.specs.Sizes.{pageSize};
+ghost use Rattle.array.specs.Device.{setting};
+ghost use Rattle.bus.specs.Line.{line};
+ghost use Rattle.polling.specs.declared.Outcome.the-variants.{Passed};
+ghost use Rattle.operations.specs.Ends.{Called};
+ghost use Rattle.bitmaps.specs.Bitmap.{withBit};
+ghost use Rattle.erasing.specs.Round.{BlockDone, RoundDone};
+
+// The bus after one block of the first round, how its last operation ended, 1 where the erase failed, and then one above
+// the greatest number on a whole page.
+struct BlockErased {
+    bus: Bus,
+    outcome: Outcome,
+    failed: usize,
+    above: u64,
+}
+
+// Erases a block unless it bears a factory mark. Directly after an erase that failed every page is read whole.
+fn erase_block(
+    from: Bus,
+    g: Geometry,
+    array: &mut [u8],
+    register: &mut [u8],
+    history: &mut [u8],
+    mask: &[u8],
+    fates: &[u32],
+    marked: &[u8; 512],
+    block: usize,
+    page: &mut [u8],
+) -> BlockErased
+    requires { ⌜ Called (setting g (now mask) (now fates)) (line from (now array) (now register) (now history)) ⌝ }
+    requires { ⌜ block < g .blocks ⌝ }
+    requires { ⌜ length (now page) ≡ pageSize g ⌝ }
+    ensures { λ r. ⌜ BlockDone (setting g (now (mask .entry)) (now (fates .entry))) (now (marked .entry)) (line from (now (array .entry)) (now (register .entry)) (now (history .entry))) (line (r .bus) (now (array .exit)) (now (register .exit)) (now (history .exit))) (r .outcome) block (r .failed) (r .above) ⌝ }
+{
+    if bitmaps::is_set(marked, block) {
+        return BlockErased {
+            bus: from,
+            outcome: Outcome::Passed,
+            failed: 0,
+            above: 0,
+        };
+    }
+    let row = geometry::row_of(g, block, 0);
+    let erased = operations::erase(from, g, array, register, history, mask, fates, row);
+    let b = erased.bus;
+    let outcome = erased.outcome;
+    let Outcome::Failed = outcome else {
+        return BlockErased {
+            bus: b,
+            outcome,
+            failed: 0,
+            above: 0,
+        };
+    };
+    let mut bits = [0u8; 512];
+    let scanned = scan::scan_block(
+        b,
+        g,
+        array,
+        register,
+        history,
+        mask,
+        fates,
+        block,
+        page,
+        &mut bits,
+    );
+    let bus = scanned.bus;
+    let ended = scanned.outcome;
+    let summary = scanned.summary;
+    BlockErased {
+        bus,
+        outcome: ended,
+        failed: 1,
+        above: summary.above,
+    }
+}
+
+// The bus after the first round, how its last operation ended, the blocks that failed, and one above the greatest number
+// on a whole page of them.
+pub struct Erased {
+    pub bus: Bus,
+    pub outcome: Outcome,
+    pub invalid: [u8; 512],
+    pub above: u64,
+}
+
+// Sets the bit of a block whose erase failed.
+fn note_failed(invalid: &mut [u8; 512], block: usize, failed: usize)
+    requires { ⌜ block < 4096 ⌝ }
+    ensures { λ _. ⌜ now (invalid .exit) ≡ cond (eqb failed 0) (now (invalid .entry)) (withBit (now (invalid .entry)) block) ⌝ }
+{
+    if failed != 0 {
+        bitmaps::set_bit(invalid, block);
+    }
+}
+
+// The greater of two numbers.
+fn greater(x: u64, y: u64) -> u64
+    ensures { λ r. ⌜ r ≡ max x y ⌝ }
+{
+    if x < y {
+        return y;
+    }
+    x
+}
+
+// Erases every block that bears no factory mark, blocks rising.
+pub fn erase_all(
+    from: Bus,
+    g: Geometry,
+    array: &mut [u8],
+    register: &mut [u8],
+    history: &mut [u8],
+    mask: &[u8],
+    fates: &[u32],
+    marked: &[u8; 512],
+    page: &mut [u8],
+) -> Erased
+    requires { ⌜ Called (setting g (now mask) (now fates)) (line from (now array) (now register) (now history)) ⌝ }
+    requires { ⌜ length (now page) ≡ pageSize g ⌝ }
+    ensures { λ r. ⌜ RoundDone (setting g (now (mask .entry)) (now (fates .entry))) (now (marked .entry)) (line from (now (array .entry)) (now (register .entry)) (now (history .entry))) (line (r .bus) (now (array .exit)) (now (register .exit)) (now (history .exit))) (r .outcome) (r .invalid) (r .above) ⌝ }
+{
+    let mut b = from;
+    let mut invalid = [0u8; 512];
+    let mut above: u64 = 0;
+    let mut block: usize = 0;
+    let blocks = g.blocks;
+    while block < blocks {
+        let done = erase_block(
+            b,
+            g,
+            array,
+            register,
+            history,
+            mask,
+            fates,
+            marked,
+            block,
+            page,
+        );
+        b = done.bus;
+        let outcome = done.outcome;
+        let Outcome::Passed = outcome else {
+            return Erased {
+                bus: b,
+                outcome,
+                invalid,
+                above,
+            };
+        };
+        note_failed(&mut invalid, block, done.failed);
+        above = greater(above, done.above);
+        block += 1;
+    }
+    Erased {
+        bus: b,
+        outcome: Outcome::Passed,
+        invalid,
+        above,
+    }
+}

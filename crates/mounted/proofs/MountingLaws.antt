@@ -1,0 +1,139 @@
+-- Every mount ends as Mounting tells, and sends fewer cycles than the allowance that cuts nothing. Assumes nothing.
+use Prim.Native.Nat.{ℕ, _+_, _≤_}
+use mathlib.Core.Bool.{Bool, true, false, cond, true≢false, false≢true}
+use mathlib.Core.List.{List, []}
+use mathlib.Core.Logic.{_⊎_, inl, inr, ⊎-elim}
+use mathlib.Core.Path.{_≡_, refl, ap, subst, _∙_}
+use native.Mathlib.Nat.{mul-le-mul}
+use native.Mathlib.Omega.{arith}
+use borrow.Table.Steps.{cases}
+use lib.ListN.{length}
+use Rattle.geometry.specs.declared.Geometry.{Geometry}
+use Rattle.geometry.specs.Limits.{Valid}
+use Rattle.geometry.specs.Sizes.{pageSize}
+use Rattle.geometry.proofs.SizeLaws.{page-size-most}
+use Rattle.array.specs.Device.{Device, Setting}
+use Rattle.polling.specs.Polling.{isPassed}
+use Rattle.polling.specs.declared.Outcome.{Outcome}
+use Rattle.polling.specs.declared.Outcome.the-variants.{Passed, Failed, Silent, Cut, Illegal}
+use Rattle.copies.specs.Blocks.{blockIn, isMarked}
+use Rattle.copies.specs.Current.{currentTable, judgeTable, mountAnswer, clashes}
+use Rattle.copies.specs.Pick.{Pick, nothing, at}
+use Rattle.copies.specs.Table.{lists, rightTable}
+use Rattle.state.specs.State.{blank}
+use Rattle.state.specs.declared.State.{State}
+use Rattle.calls.specs.Call.{sizedFor, callLine, stopAnswer, endAt}
+use Rattle.calls.proofs.CallLaws.{sizes, called-sized}
+use Rattle.scan.specs.Progress.{Progress, progress, resetOn}
+use Rattle.scan.proofs.CountLaws.{allowance, blocks-count, reset-counts}
+use Rattle.fill.proofs.StepLaws.{passed-answered}
+use Rattle.mount.specs.Mount.{stateAfter, mountRun, mountEnd, mounting}
+use Rattle.runs.specs.Run.{isReadEnd, Unchanged, readMost}
+use Rattle.runs.proofs.ReadLaws.{blocks-unchanged, blocks-spend, reset-unchanged, reset-spends}
+use Rattle.mounted.specs.Mounting.{mountMost, Mounting}
+
+-- 0, 4, 5 or 6
+three-tests : (a b c : Bool) → cond a (cond b 5 (cond c 6 0)) 5 ≤ 6
+three-tests true true c = omega arith
+three-tests true false true = omega arith
+three-tests true false false = omega arith
+three-tests false b c = omega arith
+
+judge-most : (g : Geometry) (array : List ℕ) (o : Pick) → judgeTable g array o ≤ 6
+unfolding judgeTable
+judge-most g array nothing = omega arith
+judge-most g array (at t) =
+    three-tests (rightTable g (λ b. isMarked g (blockIn g array b)) (blockIn g array t)) (lists g (blockIn g array t) t) (clashes g array t (g .blocks))
+
+pub answer-most : (g : Geometry) (array : List ℕ) → mountAnswer g array ≤ 6
+unfolding mountAnswer
+answer-most g array = judge-most g array (currentTable g array)
+
+stop-answer : (o : Outcome) → isReadEnd o ≡ true → isPassed o ≡ false → (stopAnswer o ≡ 10) ⊎ (stopAnswer o ≡ 11)
+unfolding isReadEnd isPassed stopAnswer
+stop-answer Passed r f = absurd (true≢false f)
+stop-answer Failed r f = absurd (false≢true r)
+stop-answer Silent r f = inl refl
+stop-answer Cut r f = inr refl
+stop-answer Illegal r f = absurd (false≢true r)
+
+module _ (s : Setting) (d : Device) (n : ℕ) (t : sizedFor s d ≡ true) where
+  abbrev g : Geometry
+  g = s .geometry
+
+  abbrev run : Progress
+  run = mountRun s (callLine d n)
+
+  v : Valid g
+  v = sizes g (length (d .array)) (length (d .register)) (length (d .history)) (length (s .mask)) t .chip-fits .is-valid
+
+  same : Unchanged s (d .array) (d .history) run
+  same = blocks-unchanged s (d .array) (d .history) v (g .blocks) (omega arith) _ (reset-unchanged s d n t)
+
+  few : n ≤ run .line .left + mountMost g
+  few = omega (arith, reset-spends s d n t, blocks-spend s (d .array) (d .history) v (g .blocks) (omega arith) _ (reset-unchanged s d n t))
+
+  counted : length (run .cycles) + run .line .left ≡ n
+  counted = blocks-count s (g .blocks) (resetOn s (progress (callLine d n) Passed [] [])) ∙ reset-counts s (progress (callLine d n) Passed [] []) ∙ omega arith
+
+  run-sized : isPassed (run .outcome) ≡ true → sizedFor s (run .line .chip) ≡ true
+  run-sized y = called-sized s (run .line) (same .sound .called (passed-answered (run .outcome) y))
+
+  abbrev given : ℕ
+  given = mountAnswer g (d .array)
+
+  array-is : mountAnswer g (run .line .chip .array) ≡ given
+  array-is = ap (mountAnswer g) (same .same-array)
+
+  -- the scan passed
+  scanned : isPassed (run .outcome) ≡ true → Mounting s d n (endAt n (mountAnswer g (run .line .chip .array)) (stateAfter g (run .line .chip .array) (mountAnswer g (run .line .chip .array))) (run .line))
+  scanned y =
+      let small = answer-most g (run .line .chip .array) in
+      record {
+        legal = same .sound .legal;
+        same-array = same .same-array;
+        same-history = same .same-history;
+        stops = λ x. absurd (⊎-elim (λ e. omega (arith, e, small)) (λ e. omega (arith, e, small)) x);
+        answer-is = λ a b. array-is;
+        state-is = λ a b. ap (λ (x : List ℕ). stateAfter g x (mountAnswer g x)) (same .same-array);
+        answers = omega (arith, small);
+        still-sized = λ z. run-sized y;
+        still-ready = λ z. same .sound .called (passed-answered (run .outcome) y) .ready;
+        sent-is = omega (arith, counted);
+        sent-most = omega (arith, few);
+      }
+
+  -- it did not
+  cut-off : isPassed (run .outcome) ≡ false → Mounting s d n (endAt n (stopAnswer (run .outcome)) (blank 2) (run .line))
+  cut-off f =
+      let which = stop-answer (run .outcome) (same .ends) f in
+      let most : stopAnswer (run .outcome) ≤ 11 = ⊎-elim (λ e. omega (arith, e)) (λ e. omega (arith, e)) which in
+      let not-zero : stopAnswer (run .outcome) ≡ 0 → ⊥ = λ z. ⊎-elim (λ e. omega (arith, e, z)) (λ e. omega (arith, e, z)) which in
+      record {
+        legal = same .sound .legal;
+        same-array = same .same-array;
+        same-history = same .same-history;
+        stops = λ x. refl;
+        answer-is = λ a b. absurd (⊎-elim a b which);
+        state-is = λ a b. absurd (⊎-elim a b which);
+        answers = most;
+        still-sized = λ z. absurd (not-zero z);
+        still-ready = λ z. absurd (not-zero z);
+        sent-is = omega (arith, counted);
+        sent-most = omega (arith, few);
+      }
+
+  pub mount-ends : (state : State) → Mounting s d n (mounting s d n state)
+  unfolding mounting mountEnd
+  mount-ends state =
+      cases (isPassed (run .outcome))
+      (λ y. subst (Mounting s d n) (rw (t, y)) (scanned y))
+      (λ f. subst (Mounting s d n) (rw (t, f)) (cut-off f))
+
+-- the largest geometry, every operation with 256 status reads
+pub mount-fits : (g : Geometry) → Valid g → mountMost g ≤ 1210318851
+mount-fits g v =
+    let page : readMost (pageSize g) ≤ 4617 = omega (arith, page-size-most g v) in
+    let block = mul-le-mul (v .pages-most) page in
+    let all = mul-le-mul (v .blocks-most) block in
+    omega (arith, all)
