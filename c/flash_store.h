@@ -32,7 +32,7 @@ enum flash_store_answer {
     FLASH_STORE_WORN = 8,           /* no block left: stopped */
     FLASH_STORE_SILENT = 10,        /* 256 status reads of one operation all busy: stopped */
     FLASH_STORE_CUT = 11,           /* the allowed cycles are used and another is due: stopped */
-    FLASH_STORE_ILLEGAL = 255       /* the chip took a cycle as illegal: only from words that are not those of a ready chip */
+    FLASH_STORE_ILLEGAL = 255       /* the chip answered a cycle as illegal: stopped (docs/DECISIONS.md) */
 };
 
 enum {
@@ -40,7 +40,7 @@ enum {
     FLASH_STORE_WORDS = 11          /* the chip's command interface, laid out as docs/FORMAT.md says; all 0 at power on */
 };
 
-/* Cuts nothing: no call sends that many cycles. */
+/* The largest allowance cuts nothing. */
 #define FLASH_STORE_UNCUT UINT32_MAX
 
 /*
