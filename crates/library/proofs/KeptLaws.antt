@@ -1,4 +1,4 @@
--- What a call leaves as it was: a refused one everything but the cycles sent, one that goes on what the last one left. Assumes nothing.
+-- What a refused call leaves as it was, and that the next call takes the chip as this one left it. Assumes nothing.
 use Prim.Native.Nat.{ℕ}
 use mathlib.Core.Bool.{true, false}
 use mathlib.Core.List.{List, [], _∷_}
@@ -11,8 +11,8 @@ use Rattle.cells.specs.Bytes.{Bytes}
 use Rattle.interface.specs.declared.Interface.{Interface}
 use Rattle.interface.specs.Interface.{poweredOn}
 use Rattle.array.specs.Device.{Setting, device}
-use Rattle.state_bytes.specs.StateBytes.{bytesState, Ranged}
-use Rattle.state_bytes.proofs.RoundLaws.{load-stored, store-loaded}
+use Rattle.state_bytes.specs.StateBytes.{bytesState}
+use Rattle.state_bytes.proofs.RoundLaws.{store-loaded}
 use Rattle.calls.specs.Call.{Result, result, sizedFor}
 use Rattle.format.specs.Format.{formatting}
 use Rattle.mount.specs.Mount.{mounting}
@@ -85,9 +85,7 @@ buffer-kept s l n logical page buffer x =
     (λ t. rw t (read-keeps s (chipOf l) n (bytesState (l .state)) logical page buffer (λ e. x (rw t e))))
     (λ f. rw f)
 
--- the next call takes the state and the chip that this one left
-pub next-call : (r : Result) → Ranged (r .state) → (bytesState (putBack r .left .state) ≡ r .state) × (chipOf (putBack r .left) ≡ r .chip)
-next-call r h = (
-  load-stored (r .state) h,
-  ap (λ (i : Interface). device i (r .chip .array) (r .chip .register) (r .chip .history)) (words-read (r .chip .port)),
-)
+-- the next call takes the chip that this one left; its state is in the contracts (`PassedOn`)
+pub chip-passed-on : (r : Result) → chipOf (putBack r .left) ≡ r .chip
+chip-passed-on r =
+    ap (λ (i : Interface). device i (r .chip .array) (r .chip .register) (r .chip .history)) (words-read (r .chip .port))

@@ -1,8 +1,8 @@
 -- What the entry points rest on, and what follows from their definitions. Assumes nothing.
 use Prim.Native.Nat.{ℕ}
-use mathlib.Core.Bool.{true, false}
+use mathlib.Core.Bool.{true, false, false≢true}
 use mathlib.Core.List.{List, [], _∷_}
-use mathlib.Core.Path.{_≡_, refl, ap, ap₂, _∙_}
+use mathlib.Core.Path.{_≡_, refl, sym, ap, ap₂, _∙_}
 use native.Mathlib.Omega.{arith}
 use borrow.Author.Tests.{eqb-true}
 use lib.Dec.{eqb}
@@ -14,7 +14,7 @@ use Rattle.state.specs.declared.State.{State}
 use Rattle.state_bytes.specs.StateBytes.{stateBytes, bytesState}
 use Rattle.calls.specs.Call.{Result, result}
 use Rattle.reading.specs.Reading.{ReadResult, readResult, readingPage}
-use Rattle.library.specs.Library.{wordsOf, interfaceOf, Lent, lent, chipOf, lengthsRight, rightly, Handed, handed, putBack, answered, readHanded, readingLent}
+use Rattle.library.specs.Library.{wordsOf, interfaceOf, Lent, lent, chipOf, lengthsRight, rightly, Handed, handed, putBack, answered, PassedOn, readPage, readHanded, readingLent}
 
 -- the lengths asked for
 pub record Long (state words sent : ℕ) : Type 0 where
@@ -59,33 +59,37 @@ pub put-back : (answer n : ℕ) (state : State) (i : Interface) (bytes words sen
 put-back answer n state i bytes words sent e f l a p h = rw (e, f, single sent n l)
 
 -- a call with a wrong length
-pub lent-wrongly : (l : Lent) (r : Result) → rightly l ≡ false → handed 100 l ≡ answered l r
+pub lent-wrongly : (l : Lent) (r : Result) → rightly l ≡ false → (handed 100 l ≡ answered l r) × PassedOn l r (l .state)
 unfolding answered
-lent-wrongly l r h = rw h
+lent-wrongly l r f = (rw f, λ t. absurd (false≢true (sym f ∙ t)))
+
+pub read-wrongly : (s : Setting) (l : Lent) (n logical page : ℕ) (buffer : List ℕ) → rightly l ≡ false
+    → (readHanded (handed 100 l) buffer ≡ readingLent s l n logical page buffer) × PassedOn l (readPage s l n logical page buffer .returned) (l .state)
+unfolding readingLent answered
+read-wrongly s l n logical page buffer f = (rw f, λ t. absurd (false≢true (sym f ∙ t)))
 
 -- a call with the right lengths hands back what its request does
-pub lent-rightly : (l : Lent) (x : Handed) (q r : Result) → rightly l ≡ true → x ≡ putBack q → q ≡ r → x ≡ answered l r
+lent-rightly : (l : Lent) (x : Handed) (q r : Result) (bytes : List ℕ) → rightly l ≡ true → x ≡ putBack q → bytesState bytes ≡ q .state → q ≡ r
+    → (x ≡ answered l r) × PassedOn l r bytes
 unfolding answered
-lent-rightly l x q r h e f = rw h (e ∙ ap putBack f)
+lent-rightly l x q r bytes t p b e = (rw t (p ∙ ap putBack e), λ u. b ∙ ap (λ (y : Result). y .state) e)
 
 -- the request on the state and the interface in the buffers
-pub request-handed : (request : Device → State → Result) (l : Lent) (x : Handed) (q : Result) (state : State) (i : Interface) → rightly l ≡ true
-    → state ≡ bytesState (l .state) → i ≡ interfaceOf (l .words) → q ≡ request (device i (l .array) (l .register) (l .history)) state → x ≡ putBack q
-    → x ≡ answered l (request (chipOf l) (bytesState (l .state)))
-request-handed request l x q state i h e f r p =
-    lent-rightly l x q _ h p (r ∙ ap₂ (λ (j : Interface) (s : State). request (device j (l .array) (l .register) (l .history)) s) f e)
+pub request-handed : (request : Device → State → Result) (l : Lent) (x : Handed) (q : Result) (bytes : List ℕ) (state : State) (i : Interface) → rightly l ≡ true
+    → state ≡ bytesState (l .state) → i ≡ interfaceOf (l .words) → q ≡ request (device i (l .array) (l .register) (l .history)) state
+    → x ≡ putBack q → bytesState bytes ≡ q .state
+    → (x ≡ answered l (request (chipOf l) (bytesState (l .state)))) × PassedOn l (request (chipOf l) (bytesState (l .state))) bytes
+request-handed request l x q bytes state i t e f r p b =
+    lent-rightly l x q _ bytes t p b (r ∙ ap₂ (λ (j : Interface) (s : State). request (device j (l .array) (l .register) (l .history)) s) f e)
 
-pub read-handed : (s : Setting) (l : Lent) (n logical page : ℕ) (buffer after : List ℕ) (x : Handed) (q : Result) (state : State) (i : Interface) → rightly l ≡ true
+pub read-handed : (s : Setting) (l : Lent) (n logical page : ℕ) (buffer after : List ℕ) (x : Handed) (q : Result) (bytes : List ℕ) (state : State) (i : Interface) → rightly l ≡ true
     → state ≡ bytesState (l .state) → i ≡ interfaceOf (l .words)
-    → readResult q after ≡ readingPage s (device i (l .array) (l .register) (l .history)) n state logical page buffer → x ≡ putBack q
-    → readHanded x after ≡ readingLent s l n logical page buffer
+    → readResult q after ≡ readingPage s (device i (l .array) (l .register) (l .history)) n state logical page buffer
+    → x ≡ putBack q → bytesState bytes ≡ q .state
+    → (readHanded x after ≡ readingLent s l n logical page buffer) × PassedOn l (readPage s l n logical page buffer .returned) bytes
 unfolding readingLent
-read-handed s l n logical page buffer after x q state i h e f r p =
-    let all : readResult q after ≡ readingPage s (chipOf l) n (bytesState (l .state)) logical page buffer =
-    r ∙ ap₂ (λ (j : Interface) (t : State). readingPage s (device j (l .array) (l .register) (l .history)) n t logical page buffer) f e in
-    ap₂ readHanded (lent-rightly l x q _ h p (ap (λ (y : ReadResult). y .returned) all))
-    (ap (λ (y : ReadResult). y .buffer) all ∙ rw h refl)
-
-pub read-wrongly : (s : Setting) (l : Lent) (n logical page : ℕ) (buffer : List ℕ) → rightly l ≡ false → readHanded (handed 100 l) buffer ≡ readingLent s l n logical page buffer
-unfolding readingLent answered
-read-wrongly s l n logical page buffer h = rw h
+read-handed s l n logical page buffer after x q bytes state i t e f r p b =
+    let all : readResult q after ≡ readPage s l n logical page buffer =
+    r ∙ ap₂ (λ (j : Interface) (y : State). readingPage s (device j (l .array) (l .register) (l .history)) n y logical page buffer) f e in
+    let back = lent-rightly l x q _ bytes t p b (ap (λ (y : ReadResult). y .returned) all) in
+    (ap₂ readHanded (back .0) (ap (λ (y : ReadResult). y .buffer) all ∙ rw t refl), back .1)

@@ -1,7 +1,8 @@
 -- The requests as a program in C makes them: lent buffers and numbers in, an answer and the buffers as they are left.
 use Prim.Native.Nat.{ℕ}
-use mathlib.Core.Bool.{Bool, false, cond}
+use mathlib.Core.Bool.{Bool, true, false, cond}
 use mathlib.Core.List.{List, [], _∷_}
+use mathlib.Core.Path.{_≡_}
 use lib.Dec.{eqb}
 use lib.ListN.{length, getD}
 use Rattle.geometry.specs.declared.Geometry.{Geometry}
@@ -11,7 +12,7 @@ use Rattle.state_bytes.specs.StateBytes.{stateBytes, bytesState}
 use Rattle.calls.specs.Call.{Result}
 use Rattle.format.specs.Format.{formatting}
 use Rattle.mount.specs.Mount.{mounting}
-use Rattle.reading.specs.Reading.{readingPage}
+use Rattle.reading.specs.Reading.{ReadResult, readingPage}
 
 abbrev pub geometryOf : ℕ → ℕ → ℕ → ℕ → ℕ → Geometry
 geometryOf main spare pages blocks logical = record { main = main; spare = spare; pages = pages; blocks = blocks; logical = logical }
@@ -77,12 +78,25 @@ putBack r =
 unfoldable pub answered : Lent → Result → Handed
 answered l r = cond (rightly l) (putBack r) (handed 100 l)
 
--- n: the cycles allowed
+-- the requests on the state and the chip that are lent; n: the cycles allowed
+abbrev pub formatResult : Setting → Lent → ℕ → Result
+formatResult s l n = formatting s (chipOf l) n (bytesState (l .state))
+
+abbrev pub mountResult : Setting → Lent → ℕ → Result
+mountResult s l n = mounting s (chipOf l) n (bytesState (l .state))
+
+abbrev pub readPage : Setting → Lent → ℕ → ℕ → ℕ → List ℕ → ReadResult
+readPage s l n logical page buffer = readingPage s (chipOf l) n (bytesState (l .state)) logical page buffer
+
 unfoldable pub formattingLent : Setting → Lent → ℕ → Handed
-formattingLent s l n = answered l (formatting s (chipOf l) n (bytesState (l .state)))
+formattingLent s l n = answered l (formatResult s l n)
 
 unfoldable pub mountingLent : Setting → Lent → ℕ → Handed
-mountingLent s l n = answered l (mounting s (chipOf l) n (bytesState (l .state)))
+mountingLent s l n = answered l (mountResult s l n)
+
+-- the next call, handed these bytes, gets the state of this one's result
+abbrev pub PassedOn : Lent → Result → List ℕ → Type 0
+PassedOn l r bytes = rightly l ≡ true → bytesState bytes ≡ r .state
 
 -- the reader's page buffer too
 pub record ReadHanded : Type 0 where
@@ -94,5 +108,5 @@ readHanded h buffer = record { handed = h; buffer = buffer }
 
 unfoldable pub readingLent : Setting → Lent → ℕ → ℕ → ℕ → List ℕ → ReadHanded
 readingLent s l n logical page buffer =
-    readHanded (answered l (readingPage s (chipOf l) n (bytesState (l .state)) logical page buffer .returned))
-    (cond (rightly l) (readingPage s (chipOf l) n (bytesState (l .state)) logical page buffer .buffer) buffer)
+    readHanded (answered l (readPage s l n logical page buffer .returned))
+    (cond (rightly l) (readPage s l n logical page buffer .buffer) buffer)

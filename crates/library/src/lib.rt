@@ -7,8 +7,9 @@ ghost use mathlib.Core.List.{List};
 ghost use Prim.Native.Nat.{ℕ};
 ghost use lib.ListN.{length};
 ghost use Rattle.array.specs.Device.{device, setting};
+ghost use Rattle.state_bytes.specs.StateBytes.{bytesState};
 ghost use Rattle.calls.specs.Call.{result};
-ghost use Rattle.library.specs.Library.{geometryOf, wordsOf, interfaceOf, lent, lengthsRight, handed, putBack, formattingLent, mountingLent, readHanded, readingLent};
+ghost use Rattle.library.specs.Library.{geometryOf, wordsOf, interfaceOf, lent, lengthsRight, handed, putBack, formatResult, mountResult, readPage, formattingLent, mountingLent, PassedOn, readHanded, readingLent};
 
 // A buffer of the state, the interface or the cycles sent has the wrong length.
 const LENT_WRONGLY: usize = 100;
@@ -70,6 +71,7 @@ fn hand_back(returned: Returned, state: &mut [u8], words: &mut [usize], sent: &m
     requires { ⌜ length (now words) ≡ 11 ⌝ }
     requires { ⌜ length (now sent) ≡ 1 ⌝ }
     ensures { λ r. ⌜ ((a p h : List ℕ) → handed r (lent (now (state .exit)) (now (words .exit)) a p h (now (sent .exit))) ≡ putBack (result (returned .answer) (returned .state) (device (returned .interface) a p h) (returned .sent))) ⌝ }
+    ensures { λ _. ⌜ bytesState (now (state .exit)) ≡ returned .state ⌝ }
 {
     let next = returned.state;
     let interface = returned.interface;
@@ -97,6 +99,7 @@ pub extern "C" fn flash_store_format(
     sent: &mut [usize],
 ) -> usize
     ensures { λ r. ⌜ handed r (lent (now (state .exit)) (now (words .exit)) (now (array .exit)) (now (register .exit)) (now (history .exit)) (now (sent .exit))) ≡ formattingLent (setting (geometryOf main spare pages blocks logical) (now (mask .entry)) (now (fates .entry))) (lent (now (state .entry)) (now (words .entry)) (now (array .entry)) (now (register .entry)) (now (history .entry)) (now (sent .entry))) allowed ⌝ }
+    ensures { λ _. ⌜ PassedOn (lent (now (state .entry)) (now (words .entry)) (now (array .entry)) (now (register .entry)) (now (history .entry)) (now (sent .entry))) (formatResult (setting (geometryOf main spare pages blocks logical) (now (mask .entry)) (now (fates .entry))) (lent (now (state .entry)) (now (words .entry)) (now (array .entry)) (now (register .entry)) (now (history .entry)) (now (sent .entry))) allowed) (now (state .exit)) ⌝ }
 {
     if !is_lent_rightly(state.len(), words.len(), sent.len()) {
         return LENT_WRONGLY;
@@ -142,6 +145,7 @@ pub extern "C" fn flash_store_mount(
     sent: &mut [usize],
 ) -> usize
     ensures { λ r. ⌜ handed r (lent (now (state .exit)) (now (words .exit)) (now (array .exit)) (now (register .exit)) (now (history .exit)) (now (sent .exit))) ≡ mountingLent (setting (geometryOf main spare pages blocks logical) (now (mask .entry)) (now (fates .entry))) (lent (now (state .entry)) (now (words .entry)) (now (array .entry)) (now (register .entry)) (now (history .entry)) (now (sent .entry))) allowed ⌝ }
+    ensures { λ _. ⌜ PassedOn (lent (now (state .entry)) (now (words .entry)) (now (array .entry)) (now (register .entry)) (now (history .entry)) (now (sent .entry))) (mountResult (setting (geometryOf main spare pages blocks logical) (now (mask .entry)) (now (fates .entry))) (lent (now (state .entry)) (now (words .entry)) (now (array .entry)) (now (register .entry)) (now (history .entry)) (now (sent .entry))) allowed) (now (state .exit)) ⌝ }
 {
     if !is_lent_rightly(state.len(), words.len(), sent.len()) {
         return LENT_WRONGLY;
@@ -190,6 +194,7 @@ pub extern "C" fn flash_store_read(
     buffer: &mut [u8],
 ) -> usize
     ensures { λ r. ⌜ readHanded (handed r (lent (now (state .exit)) (now (words .exit)) (now (array .exit)) (now (register .exit)) (now (history .exit)) (now (sent .exit)))) (now (buffer .exit)) ≡ readingLent (setting (geometryOf main spare pages blocks logical) (now (mask .entry)) (now (fates .entry))) (lent (now (state .entry)) (now (words .entry)) (now (array .entry)) (now (register .entry)) (now (history .entry)) (now (sent .entry))) allowed block page (now (buffer .entry)) ⌝ }
+    ensures { λ _. ⌜ PassedOn (lent (now (state .entry)) (now (words .entry)) (now (array .entry)) (now (register .entry)) (now (history .entry)) (now (sent .entry))) (readPage (setting (geometryOf main spare pages blocks logical) (now (mask .entry)) (now (fates .entry))) (lent (now (state .entry)) (now (words .entry)) (now (array .entry)) (now (register .entry)) (now (history .entry)) (now (sent .entry))) allowed block page (now (buffer .entry)) .returned) (now (state .exit)) ⌝ }
 {
     if !is_lent_rightly(state.len(), words.len(), sent.len()) {
         return LENT_WRONGLY;

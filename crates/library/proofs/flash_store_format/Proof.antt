@@ -56,7 +56,7 @@ returns-2 : tie.Need-returns-2
 unfolding formattingLent
 returns-2 c =
     let s = c .before .before .before .before .before .before .before .before .before .before .before .before .before .before .before .before .before .before .before .before .before .before .before .before .before .before .before .before .before .before .before .before .before .before in
-    request-handed (λ (d : Device) (state : State). formatting (setting (geometryOf (s .args .main) (s .args .spare) (s .args .pages) (s .args .blocks) (s .args .logical)) (now (s .args .mask)) (now (s .args .fates))) d (s .args .allowed) state) (lent (now (s .args .state)) (now (s .args .words)) (now (s .args .array)) (now (s .args .register)) (now (s .args .history)) (now (s .args .sent))) _ _ (c .before .before .before .before .before .before .before .before .before .before .before .before .before .before .before .before .before .before .before .before .before .before .load .result) (c .before .before .before .before .before .before .before .before .before .before .before .before .before .before .before .before .before .before .before .before .interface-of .result) (sym (c .before .before .before .before .before .before .before .before .before .before .before .before .before .before .before .before .before .before .before .before .before .before .before .before .before .is-lent-rightly .ensures) ∙ not-false _ (c .before .before .before .before .before .before .before .before .before .before .before .before .before .before .before .before .before .before .before .before .before .before .before .before .if1 .left)) (c .before .before .before .before .before .before .before .before .before .before .before .before .before .before .before .before .before .before .before .before .before .before .load .ensures) (c .before .before .before .before .before .before .before .before .before .before .before .before .before .before .before .before .before .before .before .before .interface-of .ensures) (c .before .before .before .before .before .before .before .before .before .before .before .before .before .before .before .before .format .ensures) (c .before .before .before .before .before .before .hand-back .ensures _ _ _)
+    request-handed (λ (d : Device) (state : State). formatting (setting (geometryOf (s .args .main) (s .args .spare) (s .args .pages) (s .args .blocks) (s .args .logical)) (now (s .args .mask)) (now (s .args .fates))) d (s .args .allowed) state) (lent (now (s .args .state)) (now (s .args .words)) (now (s .args .array)) (now (s .args .register)) (now (s .args .history)) (now (s .args .sent))) _ _ _ (c .before .before .before .before .before .before .before .before .before .before .before .before .before .before .before .before .before .before .before .before .before .before .load .result) (c .before .before .before .before .before .before .before .before .before .before .before .before .before .before .before .before .before .before .before .before .interface-of .result) (sym (c .before .before .before .before .before .before .before .before .before .before .before .before .before .before .before .before .before .before .before .before .before .before .before .before .before .is-lent-rightly .ensures) ∙ not-false _ (c .before .before .before .before .before .before .before .before .before .before .before .before .before .before .before .before .before .before .before .before .before .before .before .before .if1 .left)) (c .before .before .before .before .before .before .before .before .before .before .before .before .before .before .before .before .before .before .before .before .before .before .load .ensures) (c .before .before .before .before .before .before .before .before .before .before .before .before .before .before .before .before .before .before .before .before .interface-of .ensures) (c .before .before .before .before .before .before .before .before .before .before .before .before .before .before .before .before .format .ensures) (c .before .before .before .before .before .before .hand-back .ensures .0 _ _ _) (c .before .before .before .before .before .before .hand-back .ensures .1)
 
 pub flash-store-format-spec : {M : Type 1} → statement M
 flash-store-format-spec =

@@ -55,7 +55,7 @@ same-length-7 c = search needs
 returns-2 : tie.Need-returns-2
 returns-2 c =
     let s = c .before .before .before .before .before .before .before .before .before .before .before .before .before .before .before .before .before .before .before .before .before .before .before .before .before .before .before .before .before .before .before .before .before .before .before .before .before .before in
-    read-handed (setting (geometryOf (s .args .main) (s .args .spare) (s .args .pages) (s .args .blocks) (s .args .logical)) (now (s .args .mask)) (now (s .args .fates))) (lent (now (s .args .state)) (now (s .args .words)) (now (s .args .array)) (now (s .args .register)) (now (s .args .history)) (now (s .args .sent))) (s .args .allowed) (s .args .block) (s .args .page) (now (s .args .buffer)) _ _ _ (c .before .before .before .before .before .before .before .before .before .before .before .before .before .before .before .before .before .before .before .before .before .before .before .before .before .load .result) (c .before .before .before .before .before .before .before .before .before .before .before .before .before .before .before .before .before .before .before .before .before .before .before .interface-of .result) (sym (c .before .before .before .before .before .before .before .before .before .before .before .before .before .before .before .before .before .before .before .before .before .before .before .before .before .before .before .before .is-lent-rightly .ensures) ∙ not-false _ (c .before .before .before .before .before .before .before .before .before .before .before .before .before .before .before .before .before .before .before .before .before .before .before .before .before .before .before .if1 .left)) (c .before .before .before .before .before .before .before .before .before .before .before .before .before .before .before .before .before .before .before .before .before .before .before .before .before .load .ensures) (c .before .before .before .before .before .before .before .before .before .before .before .before .before .before .before .before .before .before .before .before .before .before .before .interface-of .ensures) (c .before .before .before .before .before .before .before .before .before .before .before .before .before .before .before .before .before .before .read .ensures) (c .before .before .before .before .before .before .hand-back .ensures _ _ _)
+    read-handed (setting (geometryOf (s .args .main) (s .args .spare) (s .args .pages) (s .args .blocks) (s .args .logical)) (now (s .args .mask)) (now (s .args .fates))) (lent (now (s .args .state)) (now (s .args .words)) (now (s .args .array)) (now (s .args .register)) (now (s .args .history)) (now (s .args .sent))) (s .args .allowed) (s .args .block) (s .args .page) (now (s .args .buffer)) _ _ _ _ (c .before .before .before .before .before .before .before .before .before .before .before .before .before .before .before .before .before .before .before .before .before .before .before .before .before .load .result) (c .before .before .before .before .before .before .before .before .before .before .before .before .before .before .before .before .before .before .before .before .before .before .before .interface-of .result) (sym (c .before .before .before .before .before .before .before .before .before .before .before .before .before .before .before .before .before .before .before .before .before .before .before .before .before .before .before .before .is-lent-rightly .ensures) ∙ not-false _ (c .before .before .before .before .before .before .before .before .before .before .before .before .before .before .before .before .before .before .before .before .before .before .before .before .before .before .before .if1 .left)) (c .before .before .before .before .before .before .before .before .before .before .before .before .before .before .before .before .before .before .before .before .before .before .before .before .before .load .ensures) (c .before .before .before .before .before .before .before .before .before .before .before .before .before .before .before .before .before .before .before .before .before .before .before .interface-of .ensures) (c .before .before .before .before .before .before .before .before .before .before .before .before .before .before .before .before .before .before .read .ensures) (c .before .before .before .before .before .before .hand-back .ensures .0 _ _ _) (c .before .before .before .before .before .before .hand-back .ensures .1)
 
 pub flash-store-read-spec : {M : Type 1} → statement M
 flash-store-read-spec =
