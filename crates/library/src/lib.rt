@@ -81,6 +81,7 @@ fn hand_back(returned: Returned, state: &mut [u8], words: &mut [usize], sent: &m
     returned.answer
 }
 
+// Formats the chip. c/flash_store.h says what is lent.
 #[no_mangle]
 pub extern "C" fn flash_store_format(
     main: usize,
@@ -127,6 +128,7 @@ pub extern "C" fn flash_store_format(
     hand_back(returned, state, words, sent)
 }
 
+// Mounts.
 #[no_mangle]
 pub extern "C" fn flash_store_mount(
     main: usize,
@@ -173,6 +175,7 @@ pub extern "C" fn flash_store_mount(
     hand_back(returned, state, words, sent)
 }
 
+// Reads one logical page into the buffer.
 #[no_mangle]
 pub extern "C" fn flash_store_read(
     main: usize,
