@@ -15,24 +15,24 @@ fn wide(x: u8) -> usize
 }
 
 // The set bits of a byte.
-fn ones_of(x: u8) -> usize
+fn ones_of(x: u8) -> u16
     ensures { λ r. ⌜ (r ≡ ones x) × (r ≤ 8) ⌝ }
 {
-    u8::count_ones(x) as usize
+    u8::count_ones(x) as u16
 }
 
-// The zero bits of some bytes: eight less the ones of each.
+// The zero bits of some bytes: eight less the ones of each. The sum has 16 bits, so that more bytes are counted at once.
 pub fn zero_bits(bytes: &[u8]) -> usize
-    requires { ⌜ length (now bytes) ≤ 8192 ⌝ }
+    requires { ⌜ length (now bytes) ≤ 8191 ⌝ }
     ensures { λ r. ⌜ r ≡ zeroBits (now (bytes .entry)) ⌝ }
 {
-    let mut sum: usize = 0;
+    let mut sum: u16 = 0;
     let mut i = 0;
     while i < bytes.len() {
         sum += 8 - ones_of(bytes[i]);
         i += 1;
     }
-    sum
+    sum as usize
 }
 
 // Whether every byte is FFh.

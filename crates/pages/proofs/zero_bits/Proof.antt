@@ -36,6 +36,9 @@ loop-less c = omega arith
 loop-again : tie.Need-loop-again Inv-loop μ-loop
 loop-again c = counted-more _ (c .before .before .before .loop .inv) (omega arith) (c .ones-of .ensures .0)
 
+cast-result : tie.Need-cast-result Inv-loop μ-loop
+cast-result c = omega arith
+
 returns : tie.Need-returns Inv-loop μ-loop
 returns c = counted-all (c .before .loop .inv) (omega arith)
 
@@ -53,4 +56,5 @@ zero-bits-spec =
     add-i
     loop-less
     loop-again
+    cast-result
     returns)

@@ -1,0 +1,119 @@
+/* Times a full mount through the chip model against one pass that counts the zero bits of the same array, by bytes and by words. */
+#include <stdio.h>
+#include <stdlib.h>
+#include <string.h>
+#include <time.h>
+
+#include "../c/flash_store.h"
+
+enum { MAIN = 2048, SPARE = 128, PAGE = MAIN + SPARE, PAGES = 64, BLOCK = PAGE * PAGES, MOST = 4096, REPEATS = 5 };
+
+static uint8_t state[FLASH_STORE_STATE_BYTES], page_register[PAGE], history[MOST], mask[BLOCK];
+static size_t words[FLASH_STORE_WORDS];
+static const uint32_t fates[1]; /* none is lent: every operation passes */
+
+static double now(void) {
+    struct timespec t;
+    clock_gettime(CLOCK_MONOTONIC, &t);
+    return t.tv_sec + t.tv_nsec * 1e-9;
+}
+
+static double least(double a, double b) { return a < b ? a : b; }
+
+__attribute__((noinline)) static size_t zero_bits(const uint8_t *bytes, size_t length) {
+    size_t zeros = 0;
+    for (size_t i = 0; i < length; i++) {
+        zeros += 8 - __builtin_popcount(bytes[i]);
+    }
+    return zeros;
+}
+
+__attribute__((noinline)) static size_t zero_bits_of_words(const uint64_t *words, size_t length) {
+    size_t zeros = 0;
+    for (size_t i = 0; i < length; i++) {
+        zeros += 64 - __builtin_popcountll(words[i]);
+    }
+    return zeros;
+}
+
+static void put_number(uint8_t *at, size_t bytes, size_t number) {
+    for (size_t i = 0; i < bytes; i++) {
+        at[i] = number >> (8 * i) & 0xff;
+    }
+}
+
+/* Label and check of a page whose main bytes are there (docs/FORMAT.md). */
+static void finish(uint8_t *page, uint8_t kind, size_t logical, size_t place, size_t number) {
+    uint8_t *spare = page + MAIN;
+    memset(spare, 0xff, SPARE);
+    spare[1] = kind;
+    put_number(spare + 2, 2, logical);
+    put_number(spare + 4, 1, place);
+    put_number(spare + 5, 4, number);
+    put_number(spare + 9, 2, zero_bits(page, MAIN + 9));
+}
+
+/* Block 0 holds the table, with no invalid block; every other block a complete copy. */
+static void fill(uint8_t *array, size_t blocks) {
+    uint64_t random = 1;
+    for (size_t b = 0; b < blocks; b++) {
+        for (size_t p = 0; p < PAGES; p++) {
+            uint8_t *page = array + b * BLOCK + p * PAGE;
+            memset(page, 0xff, MAIN);
+            if (b > 0) {
+                for (size_t i = 0; i < MAIN; i += 8) {
+                    random = random * 6364136223846793005u + 1442695040888963407u;
+                    put_number(page + i, 8, random);
+                }
+            } else if (p == 0) {
+                put_number(page, 2, blocks);
+                put_number(page + 2, 2, blocks - 2);
+                put_number(page + 4, 2, 0);
+                put_number(page + 6, 2, 8);
+                memset(page + 8, 0, (blocks + 7) / 8);
+            }
+            finish(page, b > 0 ? 0x44 : 0x54, b > 0 ? (b - 1) % (blocks - 2) : 0, p, b + 1);
+        }
+    }
+}
+
+/* Mount and counts, best of the repeats; 1 where an answer, the cycles or the counts are not the expected ones. */
+static int measure(const char *name, uint8_t *array, size_t blocks, size_t expected) {
+    size_t size = BLOCK * blocks, cycles = 3 + blocks * PAGES * (PAGE + 10);
+    size_t sent[1] = {0}, answer = expected, by_bytes = 0, by_words = 0;
+    double mount = 1e9, bytes_time = 1e9, words_time = 1e9;
+    for (int k = 0; k < REPEATS && answer == expected; k++) {
+        double t = now();
+        answer = flash_store_mount(MAIN, SPARE, PAGES, blocks, blocks - 2, state, sizeof state, words, FLASH_STORE_WORDS,
+                                   array, size, page_register, PAGE, history, blocks, mask, BLOCK, fates, 0,
+                                   FLASH_STORE_UNCUT, sent, 1);
+        mount = least(mount, now() - t);
+        t = now();
+        by_bytes = zero_bits(array, size);
+        bytes_time = least(bytes_time, now() - t);
+        t = now();
+        by_words = zero_bits_of_words((const uint64_t *)array, size / 8);
+        words_time = least(words_time, now() - t);
+    }
+    printf("%-11s %5zu blocks  answer %zu  %9zu cycles  mount %.3f s  bytes %.3f s, %.1f times  words %.3f s, %.1f times\n",
+           name, blocks, answer, sent[0], mount, bytes_time, mount / bytes_time, words_time, mount / words_time);
+    return answer != expected || sent[0] != cycles || by_bytes != by_words;
+}
+
+int main(void) {
+    uint8_t *array = malloc((size_t)BLOCK * MOST);
+    int differs = 0;
+    if (!array) {
+        return 1;
+    }
+    for (size_t blocks = MOST / 8; blocks <= MOST; blocks *= 2) {
+        fill(array, blocks);
+        differs |= measure("whole pages", array, blocks, FLASH_STORE_DONE);
+    }
+    for (size_t blocks = MOST / 8; blocks <= MOST; blocks *= 2) {
+        memset(array, 0xff, BLOCK * blocks);
+        differs |= measure("erased", array, blocks, FLASH_STORE_NO_TABLE);
+    }
+    free(array);
+    return differs;
+}

@@ -1,0 +1,90 @@
+/*
+ * The flash store of the telemetry box, for C on x86-64 Linux. Link target/staticlib/liblibrary.a, which
+ * `rt staticlib library` proves and builds.
+ *
+ * Every buffer is lent as a pointer and the number of its elements, in this order. Any numbers, lengths and contents get
+ * an answer. The caller sees to what no call can test: each pointer points to as many elements as its length says,
+ * aligned for their type, not NULL (not even with length 0), and no buffer that a call writes overlaps another buffer of
+ * the same call. The library keeps nothing between calls.
+ */
+#ifndef FLASH_STORE_H
+#define FLASH_STORE_H
+
+#include <stddef.h>
+#include <stdint.h>
+
+#ifdef __cplusplus
+extern "C" {
+#endif
+
+/* The answers, in the order in which they are tested; SILENT and CUT come as they happen, CUT first. */
+enum flash_store_answer {
+    FLASH_STORE_DONE = 0,
+    FLASH_STORE_LENT_WRONGLY = 100, /* state, words or sent has the wrong length: no cycle, nothing changed */
+    FLASH_STORE_GEOMETRY = 1,       /* a limit broken, or the chip or the mask has the wrong length: no cycle, nothing changed */
+    FLASH_STORE_MOUNT_FIRST = 7,    /* state not mounted, or stopped by 8 to 11: no cycle, nothing changed */
+    FLASH_STORE_ADDRESS = 2,        /* no such logical block or page: no cycle, nothing changed */
+    FLASH_STORE_LENGTH = 3,         /* page buffer not main bytes long: no cycle, nothing changed */
+    FLASH_STORE_NO_TABLE = 4,       /* no complete table: not mounted, chip unchanged */
+    FLASH_STORE_WRONG_TABLE = 5,    /* the current table is wrong: not mounted, chip unchanged */
+    FLASH_STORE_CLASH = 6,          /* two blocks with one number, or a copy of a logical block >= N: not mounted, chip unchanged */
+    FLASH_STORE_SPENT = 9,          /* no sequence number left: stopped */
+    FLASH_STORE_WORN = 8,           /* no block left: stopped */
+    FLASH_STORE_SILENT = 10,        /* 256 status reads of one operation all busy: stopped */
+    FLASH_STORE_CUT = 11,           /* the allowed cycles are used and another is due: stopped */
+    FLASH_STORE_ILLEGAL = 255       /* the chip answered a cycle as illegal: stopped (docs/DECISIONS.md) */
+};
+
+enum {
+    FLASH_STORE_STATE_BYTES = 9248, /* the mounted state, laid out as docs/FORMAT.md says */
+    FLASH_STORE_WORDS = 11          /* the chip's command interface, laid out as docs/FORMAT.md says; all 0 at power on */
+};
+
+/* The largest allowance cuts nothing. */
+#define FLASH_STORE_UNCUT UINT32_MAX
+
+/*
+ * What all three calls take:
+ *   main, spare         bytes of a page: 32 to 4,096 and 16 to 256
+ *   pages               pages of a block: 4, 8, 16, 32 or 64
+ *   blocks              blocks of the chip: 4 to 4,096, at most 8 x (main - 8)
+ *   logical             logical blocks, N: 1 to blocks - 2
+ *   state               FLASH_STORE_STATE_BYTES; any bytes before the first mount or formatting, then as the last call left them
+ *   words               FLASH_STORE_WORDS; as the last call left them
+ *   array               (main + spare) x pages x blocks bytes: the cells of the chip
+ *   page_register       main + spare bytes: the chip's page register
+ *   history             one byte a block: the lowest page that may be programmed, 255 after an erase that did not pass; 0 for a new chip
+ *   mask                (main + spare) x pages bytes: which bits an operation takes that does not pass
+ *   fates               a word for each read, program and erase, in order: bits 0 to 15 the busy status reads, bit 16 failed
+ *   allowed             cycles before a cut
+ *   sent                1: set to the cycles sent, with every answer but LENT_WRONGLY
+ * state, words, array, page_register, history and sent are written; mask and fates are not. The answer is returned.
+ */
+
+/* Formats the chip: erases every unmarked block and fills a table. Mounted with answer 0. */
+size_t flash_store_format(size_t main, size_t spare, size_t pages, size_t blocks, size_t logical, uint8_t *state,
+                          size_t state_len, size_t *words, size_t words_len, uint8_t *array, size_t array_len,
+                          uint8_t *page_register, size_t page_register_len, uint8_t *history, size_t history_len,
+                          const uint8_t *mask, size_t mask_len, const uint32_t *fates, size_t fates_len,
+                          uint32_t allowed, size_t *sent, size_t sent_len);
+
+/* Mounts: reads every page and leaves array and history as they are. Mounted with answer 0. */
+size_t flash_store_mount(size_t main, size_t spare, size_t pages, size_t blocks, size_t logical, uint8_t *state,
+                         size_t state_len, size_t *words, size_t words_len, uint8_t *array, size_t array_len,
+                         uint8_t *page_register, size_t page_register_len, uint8_t *history, size_t history_len,
+                         const uint8_t *mask, size_t mask_len, const uint32_t *fates, size_t fates_len,
+                         uint32_t allowed, size_t *sent, size_t sent_len);
+
+/* Reads page `page` of logical block `block` into buffer, main bytes long, which changes with answer 0 only. */
+size_t flash_store_read(size_t main, size_t spare, size_t pages, size_t blocks, size_t logical, uint8_t *state,
+                        size_t state_len, size_t *words, size_t words_len, uint8_t *array, size_t array_len,
+                        uint8_t *page_register, size_t page_register_len, uint8_t *history, size_t history_len,
+                        const uint8_t *mask, size_t mask_len, const uint32_t *fates, size_t fates_len,
+                        uint32_t allowed, size_t *sent, size_t sent_len, size_t block, size_t page, uint8_t *buffer,
+                        size_t buffer_len);
+
+#ifdef __cplusplus
+}
+#endif
+
+#endif

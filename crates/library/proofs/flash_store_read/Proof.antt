@@ -1,0 +1,77 @@
+-- `library::flash_store_read` meets its contract. Assumes nothing.
+use mathlib.Core.Path.{sym, _∙_}
+use borrow.Author.Tests.{not-true, not-false}
+use denote.Ref.{now}
+use Rattle.array.specs.Device.{setting}
+use Rattle.library.specs.Library.{geometryOf, lent}
+use Rattle.library.proofs.LibraryLaws.{right-long, read-wrongly, read-handed}
+use borrow.Author.Needs.{needs}
+use Rattle.library.proofs.flash_store_read.Statement.{statement}
+use Rattle.library.proofs.flash_store_read.Tie as tie
+
+is-lent-rightly-requires : tie.Need-is-lent-rightly-requires
+is-lent-rightly-requires c κs = search needs
+
+returns : tie.Need-returns
+returns c =
+    let s = c .before .before .before .before .before .before .before .before .before .before .before in
+    read-wrongly (setting (geometryOf (s .args .main) (s .args .spare) (s .args .pages) (s .args .blocks) (s .args .logical)) (now (s .args .mask)) (now (s .args .fates))) (lent (now (s .args .state)) (now (s .args .words)) (now (s .args .array)) (now (s .args .register)) (now (s .args .history)) (now (s .args .sent))) (s .args .allowed) (s .args .block) (s .args .page) (now (s .args .buffer)) (sym (c .before .is-lent-rightly .ensures) ∙ not-true _ (c .if1 .taken))
+
+load-requires : tie.Need-load-requires
+load-requires c κs = right-long _ _ _ (sym (c .before .before .is-lent-rightly .ensures) ∙ not-false _ (c .before .if1 .left)) .state-long
+
+interface-of-requires : tie.Need-interface-of-requires
+interface-of-requires c κs = right-long _ _ _ (sym (c .before .before .before .before .is-lent-rightly .ensures) ∙ not-false _ (c .before .before .before .if1 .left)) .words-long
+
+read-requires : tie.Need-read-requires
+read-requires c κs = search needs
+
+hand-back-requires : tie.Need-hand-back-requires
+hand-back-requires c κs =
+    let long = right-long _ _ _ (sym (c .before .before .before .before .before .before .before .before .before .before .before .before .before .before .before .before .before .before .before .before .before .is-lent-rightly .ensures) ∙ not-false _ (c .before .before .before .before .before .before .before .before .before .before .before .before .before .before .before .before .before .before .before .before .if1 .left)) in
+    (long .state-long, (long .words-long, long .sent-long))
+
+same-length : tie.Need-same-length
+same-length c = search needs
+
+same-length-2 : tie.Need-same-length-2
+same-length-2 c = search needs
+
+same-length-3 : tie.Need-same-length-3
+same-length-3 c = search needs
+
+same-length-4 : tie.Need-same-length-4
+same-length-4 c = search needs
+
+same-length-5 : tie.Need-same-length-5
+same-length-5 c = search needs
+
+same-length-6 : tie.Need-same-length-6
+same-length-6 c = search needs
+
+same-length-7 : tie.Need-same-length-7
+same-length-7 c = search needs
+
+returns-2 : tie.Need-returns-2
+returns-2 c =
+    let s = c .before .before .before .before .before .before .before .before .before .before .before .before .before .before .before .before .before .before .before .before .before .before .before .before .before .before .before .before .before .before .before .before .before .before .before .before .before .before in
+    read-handed (setting (geometryOf (s .args .main) (s .args .spare) (s .args .pages) (s .args .blocks) (s .args .logical)) (now (s .args .mask)) (now (s .args .fates))) (lent (now (s .args .state)) (now (s .args .words)) (now (s .args .array)) (now (s .args .register)) (now (s .args .history)) (now (s .args .sent))) (s .args .allowed) (s .args .block) (s .args .page) (now (s .args .buffer)) _ _ _ _ (c .before .before .before .before .before .before .before .before .before .before .before .before .before .before .before .before .before .before .before .before .before .before .before .before .before .load .result) (c .before .before .before .before .before .before .before .before .before .before .before .before .before .before .before .before .before .before .before .before .before .before .before .interface-of .result) (sym (c .before .before .before .before .before .before .before .before .before .before .before .before .before .before .before .before .before .before .before .before .before .before .before .before .before .before .before .before .is-lent-rightly .ensures) ∙ not-false _ (c .before .before .before .before .before .before .before .before .before .before .before .before .before .before .before .before .before .before .before .before .before .before .before .before .before .before .before .if1 .left)) (c .before .before .before .before .before .before .before .before .before .before .before .before .before .before .before .before .before .before .before .before .before .before .before .before .before .load .ensures) (c .before .before .before .before .before .before .before .before .before .before .before .before .before .before .before .before .before .before .before .before .before .before .before .interface-of .ensures) (c .before .before .before .before .before .before .before .before .before .before .before .before .before .before .before .before .before .before .read .ensures) (c .before .before .before .before .before .before .hand-back .ensures .0 _ _ _) (c .before .before .before .before .before .before .hand-back .ensures .1)
+
+pub flash-store-read-spec : {M : Type 1} → statement M
+flash-store-read-spec =
+    tie.close
+    (tie.spec
+    is-lent-rightly-requires
+    returns
+    load-requires
+    interface-of-requires
+    read-requires
+    hand-back-requires
+    same-length
+    same-length-2
+    same-length-3
+    same-length-4
+    same-length-5
+    same-length-6
+    same-length-7
+    returns-2)
