@@ -29,7 +29,7 @@ use Rattle.format.specs.Format.{endOfRun, stopped, tablesRun, roundRun, 
 
 -- the cycles of marks and of the first round
 module _ (s : Setting) where
-  marks-count : (n : ℕ) (p : Progress) → allowance (marksRead s n p) ≡ allowance p
+  pub marks-count : (n : ℕ) (p : Progress) → allowance (marksRead s n p) ≡ allowance p
   unfolding marksRead
   marks-count zero p = refl
   marks-count (suc n) p =
@@ -48,7 +48,7 @@ module _ (s : Setting) where
       (λ t. cases (bitAt marked b) (λ u. rw (t, u)) (λ u. rw (t, u) (after-count b (eraseOn s b p) ∙ erase-counts s b p)))
       (λ t. rw t)
 
-  round-count : (marked : List ℕ) (n : ℕ) (p : Progress) → allowance (erasedTo s marked n p .progress) ≡ allowance p
+  pub round-count : (marked : List ℕ) (n : ℕ) (p : Progress) → allowance (erasedTo s marked n p .progress) ≡ allowance p
   unfolding erasedTo
   round-count marked zero p = refl
   round-count marked (suc n) p = block-count marked n (erasedTo s marked n p .progress) ∙ round-count marked n p

@@ -3,3 +3,4 @@ pub mod BitmapLaws
 pub mod TablesLaws
 pub mod RoundLaws
 pub mod FormatLaws
+pub mod FormattingLaws

@@ -16,6 +16,8 @@ use Rattle.copies.specs.Current.{currentTable, mountAnswer, reading}
 use Rattle.copies.specs.Pick.{at}
 use Rattle.copies.specs.Table.{lists, bitmapBytes}
 use Rattle.state.specs.declared.State.{State}
+use Rattle.calls.specs.Call.{Result, sizedFor}
+use Rattle.format.specs.Format.{formatRun}
 use Rattle.mount.specs.Mount.{mountedState}
 use Rattle.tables.specs.Tables.{Tabled}
 use Rattle.runs.specs.Run.{readMost, eraseMost, fillMost}
@@ -69,3 +71,20 @@ pub record FormatLeft (s : Setting) (d : Device) (n : ℕ) (t : Tabled) : Type 0
   pub called : t .answer ≡ 0 → Called s (t .progress .line)
   pub formatted : t .answer ≡ 0 → Formatted (s .geometry) (t .progress .line .chip .array) (t .state)
   pub spent : n ≤ t .progress .line .left + formatMost (s .geometry)
+
+-- a formatting that was acknowledged: what demand 3 starts from, and a chip ready for the next call
+pub record Acknowledged (s : Setting) (r : Result) : Type 0 where
+  pub formatted : Formatted (s .geometry) (r .chip .array) (r .state)
+  pub still-sized : sizedFor s (r .chip) ≡ true
+  pub still-ready : r .chip .port .phase ≤ 2
+
+-- a formatting of a chip whose sizes go together, whatever its state, fates, mask and allowance of n cycles: every
+-- cycle legal, blocks with a factory mark untouched, and no more cycles than formatMost
+pub record Formatting (s : Setting) (d : Device) (n : ℕ) (r : Result) : Type 0 where
+  pub legal : r .chip .port .illegal ≡ 0
+  pub answers : r .answer ≤ 11
+  pub marked-kept : (b : ℕ) → b < s .geometry .blocks → isMarked (s .geometry) (blockIn (s .geometry) (d .array) b) ≡ true
+      → blockIn (s .geometry) (r .chip .array) b ≡ blockIn (s .geometry) (d .array) b
+  pub acknowledged : r .answer ≡ 0 → Acknowledged s r
+  pub sent-is : r .sent ≡ length (formatRun s d n .progress .cycles)
+  pub sent-most : r .sent ≤ formatMost (s .geometry)

@@ -1,0 +1,99 @@
+-- Every formatting ends as Formatting tells, and sends fewer cycles than the allowance that cuts nothing. Assumes nothing.
+use Prim.Native.Nat.{ℕ, _+_, _*_, _≤_}
+use mathlib.Core.Bool.{true, false, cond}
+use mathlib.Core.List.{List, []}
+use mathlib.Core.Path.{_≡_, refl, sym, ap, subst, _∙_}
+use native.Mathlib.Nat.{mul-le-mul}
+use native.Mathlib.Omega.{arith}
+use borrow.Table.Steps.{cases}
+use lib.ListN.{length}
+use Rattle.geometry.specs.declared.Geometry.{Geometry}
+use Rattle.geometry.specs.Limits.{Valid}
+use Rattle.geometry.specs.Sizes.{pageSize}
+use Rattle.geometry.proofs.SizeLaws.{page-size-most}
+use Rattle.cells.specs.Bytes.{Bytes}
+use Rattle.array.specs.Device.{Device, Setting}
+use Rattle.polling.specs.Polling.{isPassed}
+use Rattle.polling.specs.declared.Outcome.the-variants.{Passed}
+use Rattle.state.specs.declared.State.{State}
+use Rattle.found.specs.Found.{marksTo}
+use Rattle.calls.specs.Call.{Result, sizedFor, callLine}
+use Rattle.calls.proofs.CallLaws.{called-sized}
+use Rattle.scan.specs.Progress.{Progress, progress, resetOn}
+use Rattle.scan.proofs.CountLaws.{allowance, reset-counts}
+use Rattle.marks.specs.Marks.{marksRead}
+use Rattle.erasing.specs.Round.{Round, erasedTo}
+use Rattle.tables.proofs.CountLaws.{tables-count}
+use Rattle.format.specs.Format.{tooFew, tablesOf, tablesRun, roundRun, marksRun, formatRun, endOfRun, formatting}
+use Rattle.format.proofs.WholeLaws.{marks-count, round-count}
+use Rattle.runs.specs.Run.{readMost, pageMost, fillMost}
+use Rattle.formatted.specs.Settled.{blockMost, formatMost, Acknowledged, Formatting}
+use Rattle.formatted.proofs.FormatLaws.{format-leaves}
+
+-- the cycles of a run and those left are as many as were allowed
+module _ (s : Setting) where
+  tables-run-count : (marked invalid : List ℕ) (above : ℕ) (p : Progress) → allowance (tablesRun s marked invalid above p .progress) ≡ allowance p
+  unfolding tablesRun
+  tables-run-count marked invalid above p =
+      cases (tooFew (s .geometry) marked invalid) (λ t. rw t) (λ t. rw t (tables-count s _ _ _ p))
+
+  round-run-count : (marked : List ℕ) (p : Progress) → allowance (roundRun s marked p .progress) ≡ allowance p
+  unfolding roundRun
+  round-run-count marked p =
+      let r = erasedTo s marked (s .geometry .blocks) p in
+      let here = round-count s marked (s .geometry .blocks) p in
+      cases (isPassed (r .progress .outcome)) (λ t. rw t (tables-run-count marked (r .invalid) (r .above) (r .progress) ∙ here)) (λ t. rw t here)
+
+  marks-run-count : (p : Progress) → allowance (marksRun s p .progress) ≡ allowance p
+  unfolding marksRun
+  marks-run-count p =
+      let q = marksRead s (s .geometry .blocks) p in
+      let here = marks-count s (s .geometry .blocks) p in
+      cases (isPassed (q .outcome)) (λ t. rw t (round-run-count (marksTo (s .geometry) (q .line .chip .array) (s .geometry .blocks)) q ∙ here)) (λ t. rw t here)
+
+module _ (s : Setting) (d : Device) (n : ℕ) (mask-bytes : Bytes (s .mask)) (t : sizedFor s d ≡ true) where
+  counted : length (formatRun s d n .progress .cycles) + formatRun s d n .progress .line .left ≡ n
+  counted = marks-run-count s (resetOn s (progress (callLine d n) Passed [] [])) ∙ reset-counts s (progress (callLine d n) Passed [] []) ∙ omega arith
+
+  run-ends : Formatting s d n (endOfRun n (formatRun s d n))
+  run-ends =
+      let left = format-leaves s d n t mask-bytes in
+      record {
+        legal = left .legal;
+        answers = left .answers;
+        marked-kept = left .marked-kept;
+        acknowledged = λ z.
+            record { formatted = left .formatted z; still-sized = called-sized s (formatRun s d n .progress .line) (left .called z); still-ready = left .called z .ready };
+        sent-is = omega (arith, counted);
+        sent-most = omega (arith, left .spent);
+      }
+
+  pub format-ends : (state : State) → Formatting s d n (formatting s d n state)
+  unfolding formatting
+  format-ends state = subst (Formatting s d n) {x = endOfRun n (formatRun s d n)} (rw t) run-ends
+
+-- sizes that do not go together
+format-refused : (s : Setting) (d : Device) (n : ℕ) (state : State) → sizedFor s d ≡ false → formatting s d n state .answer ≡ 1
+unfolding formatting
+format-refused s d n state f = rw f
+
+-- of any chip, from any state, with any fates, mask and allowance
+pub format-acknowledged : (s : Setting) (d : Device) (n : ℕ) (state : State) → Bytes (s .mask) → formatting s d n state .answer ≡ 0 → Acknowledged s (formatting s d n state)
+format-acknowledged s d n state mask-bytes z =
+    cases (sizedFor s d)
+    (λ t. format-ends s d n mask-bytes t state .acknowledged z)
+    (λ f. absurd (omega (arith, z, format-refused s d n state f)))
+
+-- the largest geometry, every operation with 256 status reads
+pub format-fits : (g : Geometry) → Valid g → formatMost g ≤ 3567910915
+format-fits g v =
+    let size = page-size-most g v in
+    let read : readMost (pageSize g) ≤ 4617 = omega (arith, size) in
+    let reads = mul-le-mul (v .pages-most) read in
+    let block : blockMost g ≤ 295750 = omega (arith, reads) in
+    let blocks = mul-le-mul (v .blocks-most) block in
+    let page : pageMost g ≤ 8977 = omega (arith, size, v .main-most) in
+    let pages = mul-le-mul (v .pages-most) page in
+    let fill : fillMost g ≤ 574790 = omega (arith, pages) in
+    let fills = mul-le-mul (v .blocks-most) fill in
+    omega (arith, v .blocks-most, blocks, fills)
