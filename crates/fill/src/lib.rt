@@ -4,22 +4,17 @@ use geometry::Geometry;
 use polling::Done;
 use polling::Outcome;
 ghost use mathlib.Core.Bool.{true};
-ghost use mathlib.Core.List.{List};
 ghost use mathlib.Core.Path.{_≡_};
-ghost use Prim.Native.Nat.{_<_};
-ghost use lib.ListN.{length, take};
-ghost use Rattle.geometry.specs.Limits.{Valid};
+ghost use Prim.Native.Nat.{_+_, _≤_, _<_};
+ghost use lib.ListN.{length, take, getD};
 ghost use Rattle.geometry.specs.Sizes.{pageSize, rowOf};
 ghost use Rattle.array.specs.Device.{setting};
-ghost use Rattle.chip.specs.Chip.{Cycle};
 ghost use Rattle.bus.specs.Line.{line, sendAll};
-ghost use Rattle.polling.specs.Polling.{outcomeOf};
-ghost use Rattle.polling.specs.declared.Outcome.the-variants.{Passed};
+ghost use Rattle.polling.specs.Polling.{isPassed, outcomeOf};
 ghost use Rattle.sequences.specs.Cycles.{programCycles};
-ghost use Rattle.operations.specs.Ends.{Called, answered};
-ghost use Rattle.operations.specs.Trace.{ArrayOperation};
-ghost use Rattle.scan.specs.Progress.{progress};
-ghost use Rattle.fill.specs.Fill.{copy, pageOf, Fillable, tableMain, tableFilled};
+ghost use Rattle.operations.specs.Ends.{Called};
+ghost use Rattle.fill.specs.Steps.{ComesTo};
+ghost use Rattle.fill.specs.Fill.{copy, pageOf, Fillable, mainOf, mainRead, erasedFor, stepFilled, filled, dataSource, tableFilled};
 
 // Finishes a page whose main bytes are in the buffer, and programs it.
 fn program_page(
@@ -46,21 +41,217 @@ fn program_page(
     operations::program(from, g, array, register, history, mask, fates, row, page)
 }
 
-// Writes the main bytes of a table's page into the buffer.
-fn write_table_page(page: &mut [u8], g: Geometry, place: usize, invalid: &[u8; 512])
-    requires { ⌜ Valid g ⌝ }
-    requires { ⌜ length (now page) ≡ pageSize g ⌝ }
-    ensures { λ _. ⌜ take (g .main) (now (page .exit)) ≡ tableMain g (now (invalid .entry)) place ⌝ }
-{
-    let main = g.main;
-    if place == 0 {
-        copies::table::build_first(&mut page[0..main], g.blocks, g.logical, invalid);
-        return;
-    }
-    pages::fill_ones(&mut page[0..main], 0);
+// What a copy holds beside the bytes of the page that is given: its label, the block of the old copy (none where it is not on
+// the chip), and which page is given (none where it is not in the block).
+pub struct Content {
+    pub kind: u8,
+    pub logical: usize,
+    pub number: u64,
+    pub old: usize,
+    pub place: usize,
 }
 
-// Fills a block with a table that lists the invalid blocks.
+// Erases the block before its first page.
+fn erase_for(
+    from: Bus,
+    g: Geometry,
+    array: &mut [u8],
+    register: &mut [u8],
+    history: &mut [u8],
+    mask: &[u8],
+    fates: &[u32],
+    block: usize,
+    place: usize,
+) -> Done
+    requires { ⌜ Called (setting g (now mask) (now fates)) (line from (now array) (now register) (now history)) ⌝ }
+    requires { ⌜ block < g .blocks ⌝ }
+    requires { ⌜ (0 < place → getD (now history) block 0 ≤ place) ⌝ }
+    ensures { λ r. ⌜ ComesTo (setting g (now (mask .entry)) (now (fates .entry))) (erasedFor (setting g (now (mask .entry)) (now (fates .entry))) block place) (line from (now (array .entry)) (now (register .entry)) (now (history .entry))) (line (r .bus) (now (array .exit)) (now (register .exit)) (now (history .exit))) (r .outcome) ⌝ }
+    ensures { λ r. ⌜ (isPassed (r .outcome) ≡ true → getD (now (history .exit)) block 0 ≤ place) ⌝ }
+{
+    if place != 0 {
+        return Done {
+            bus: from,
+            outcome: Outcome::Passed,
+        };
+    }
+    let row = geometry::row_of(g, block, 0);
+    operations::erase(from, g, array, register, history, mask, fates, row)
+}
+
+// Puts the main bytes of a page into the buffer: those given, those of the old copy, or FFh.
+fn put_main(
+    from: Bus,
+    g: Geometry,
+    array: &mut [u8],
+    register: &mut [u8],
+    history: &mut [u8],
+    mask: &[u8],
+    fates: &[u32],
+    place: usize,
+    content: Content,
+    bytes: &[u8],
+    page: &mut [u8],
+) -> Done
+    requires { ⌜ Called (setting g (now mask) (now fates)) (line from (now array) (now register) (now history)) ⌝ }
+    requires { ⌜ place < g .pages ⌝ }
+    requires { ⌜ length (now page) ≡ pageSize g ⌝ }
+    requires { ⌜ (place ≡ content .place → length (now bytes) ≡ g .main) ⌝ }
+    ensures { λ r. ⌜ ComesTo (setting g (now (mask .entry)) (now (fates .entry))) (mainRead (setting g (now (mask .entry)) (now (fates .entry))) place (dataSource g (content .old) (content .place) (now (bytes .entry)) place)) (line from (now (array .entry)) (now (register .entry)) (now (history .entry))) (line (r .bus) (now (array .exit)) (now (register .exit)) (now (history .exit))) (r .outcome) ⌝ }
+    ensures { λ r. ⌜ (isPassed (r .outcome) ≡ true → take (g .main) (now (page .exit)) ≡ mainOf g (now (array .entry)) place (dataSource g (content .old) (content .place) (now (bytes .entry)) place)) ⌝ }
+    ensures { λ _. ⌜ now (history .exit) ≡ now (history .entry) ⌝ }
+{
+    let main = g.main;
+    if place == content.place {
+        cells::copy(bytes, &mut page[0..main]);
+        return Done {
+            bus: from,
+            outcome: Outcome::Passed,
+        };
+    }
+    let old = content.old;
+    if old < g.blocks {
+        let row = geometry::row_of(g, old, place);
+        return operations::read(
+            from,
+            g,
+            array,
+            register,
+            history,
+            mask,
+            fates,
+            row,
+            0,
+            &mut page[0..main],
+        );
+    }
+    cells::erase_whole(&mut page[0..main]);
+    Done {
+        bus: from,
+        outcome: Outcome::Passed,
+    }
+}
+
+// Fills one page of a copy, the step of every fill: it ends with one page program.
+pub fn fill_page(
+    from: Bus,
+    g: Geometry,
+    array: &mut [u8],
+    register: &mut [u8],
+    history: &mut [u8],
+    mask: &[u8],
+    fates: &[u32],
+    block: usize,
+    place: usize,
+    content: Content,
+    bytes: &[u8],
+    page: &mut [u8],
+) -> Done
+    requires { ⌜ Called (setting g (now mask) (now fates)) (line from (now array) (now register) (now history)) ⌝ }
+    requires { ⌜ Fillable g block place (content .kind) (content .logical) (content .number) (length (now page)) ⌝ }
+    requires { ⌜ (0 < place → getD (now history) block 0 ≤ place) ⌝ }
+    requires { ⌜ (place ≡ content .place → length (now bytes) ≡ g .main) ⌝ }
+    ensures { λ r. ⌜ ComesTo (setting g (now (mask .entry)) (now (fates .entry))) (stepFilled (setting g (now (mask .entry)) (now (fates .entry))) block (copy (content .kind) (content .logical) (content .number)) (dataSource g (content .old) (content .place) (now (bytes .entry))) place) (line from (now (array .entry)) (now (register .entry)) (now (history .entry))) (line (r .bus) (now (array .exit)) (now (register .exit)) (now (history .exit))) (r .outcome) ⌝ }
+    ensures { λ r. ⌜ (isPassed (r .outcome) ≡ true → getD (now (history .exit)) block 0 ≤ place + 1) ⌝ }
+{
+    let ready = erase_for(from, g, array, register, history, mask, fates, block, place);
+    let b = ready.bus;
+    let erased = ready.outcome;
+    let Outcome::Passed = erased else {
+        return Done {
+            bus: b,
+            outcome: erased,
+        };
+    };
+    let put = put_main(
+        b,
+        g,
+        array,
+        register,
+        history,
+        mask,
+        fates,
+        place,
+        content,
+        bytes,
+        page,
+    );
+    let c = put.bus;
+    let read = put.outcome;
+    let Outcome::Passed = read else {
+        return Done {
+            bus: c,
+            outcome: read,
+        };
+    };
+    program_page(
+        c,
+        g,
+        array,
+        register,
+        history,
+        mask,
+        fates,
+        block,
+        place,
+        content.kind,
+        content.logical,
+        content.number,
+        page,
+    )
+}
+
+// Fills a block with a copy, page after page.
+pub fn fill_copy(
+    from: Bus,
+    g: Geometry,
+    array: &mut [u8],
+    register: &mut [u8],
+    history: &mut [u8],
+    mask: &[u8],
+    fates: &[u32],
+    block: usize,
+    content: Content,
+    bytes: &[u8],
+    page: &mut [u8],
+) -> Done
+    requires { ⌜ Called (setting g (now mask) (now fates)) (line from (now array) (now register) (now history)) ⌝ }
+    requires { ⌜ Fillable g block 0 (content .kind) (content .logical) (content .number) (length (now page)) ⌝ }
+    requires { ⌜ (content .place < g .pages → length (now bytes) ≡ g .main) ⌝ }
+    ensures { λ r. ⌜ ComesTo (setting g (now (mask .entry)) (now (fates .entry))) (filled (setting g (now (mask .entry)) (now (fates .entry))) block (copy (content .kind) (content .logical) (content .number)) (dataSource g (content .old) (content .place) (now (bytes .entry)))) (line from (now (array .entry)) (now (register .entry)) (now (history .entry))) (line (r .bus) (now (array .exit)) (now (register .exit)) (now (history .exit))) (r .outcome) ⌝ }
+{
+    let mut b = from;
+    let pages = g.pages;
+    let mut place: usize = 0;
+    while place < pages {
+        let done = fill_page(
+            b,
+            g,
+            array,
+            register,
+            history,
+            mask,
+            fates,
+            block,
+            place,
+            content,
+            bytes,
+            page,
+        );
+        b = done.bus;
+        let outcome = done.outcome;
+        let Outcome::Passed = outcome else {
+            return Done { bus: b, outcome };
+        };
+        place += 1;
+    }
+    Done {
+        bus: b,
+        outcome: Outcome::Passed,
+    }
+}
+
+// Fills a block with a table that lists the invalid blocks: page 0 is given, the others are FFh.
 pub fn fill_table(
     from: Bus,
     g: Geometry,
@@ -78,48 +269,29 @@ pub fn fill_table(
     requires { ⌜ block < g .blocks ⌝ }
     requires { ⌜ number < 4294967296 ⌝ }
     requires { ⌜ length (now page) ≡ pageSize g ⌝ }
-    ensures { λ r. ⌜ ((cs : List Cycle) (os : List ArrayOperation) → line (r .bus) (now (array .exit)) (now (register .exit)) (now (history .exit)) ≡ tableFilled (setting g (now (mask .entry)) (now (fates .entry))) block number (now (invalid .entry)) (progress (line from (now (array .entry)) (now (register .entry)) (now (history .entry))) Passed cs os) .line) ⌝ }
-    ensures { λ r. ⌜ ((cs : List Cycle) (os : List ArrayOperation) → r .outcome ≡ tableFilled (setting g (now (mask .entry)) (now (fates .entry))) block number (now (invalid .entry)) (progress (line from (now (array .entry)) (now (register .entry)) (now (history .entry))) Passed cs os) .outcome) ⌝ }
-    ensures { λ r. ⌜ (answered (r .outcome) ≡ true → Called (setting g (now (mask .entry)) (now (fates .entry))) (line (r .bus) (now (array .exit)) (now (register .exit)) (now (history .exit)))) ⌝ }
+    ensures { λ r. ⌜ ComesTo (setting g (now (mask .entry)) (now (fates .entry))) (tableFilled (setting g (now (mask .entry)) (now (fates .entry))) block number (now (invalid .entry))) (line from (now (array .entry)) (now (register .entry)) (now (history .entry))) (line (r .bus) (now (array .exit)) (now (register .exit)) (now (history .exit))) (r .outcome) ⌝ }
 {
-    let first = geometry::row_of(g, block, 0);
-    let erased = operations::erase(from, g, array, register, history, mask, fates, first);
-    let mut b = erased.bus;
-    let ended = erased.outcome;
-    let Outcome::Passed = ended else {
-        return Done {
-            bus: b,
-            outcome: ended,
-        };
+    let mut first = [0u8; 4096];
+    let main = g.main;
+    copies::table::build_first(&mut first[0..main], g.blocks, g.logical, invalid);
+    let content = Content {
+        kind: 0x54,
+        logical: 0,
+        number,
+        old: 65535,
+        place: 0,
     };
-    let pages = g.pages;
-    let mut place: usize = 0;
-    while place < pages {
-        write_table_page(page, g, place, invalid);
-        let done = program_page(
-            b,
-            g,
-            array,
-            register,
-            history,
-            mask,
-            fates,
-            block,
-            place,
-            0x54,
-            0,
-            number,
-            page,
-        );
-        b = done.bus;
-        let outcome = done.outcome;
-        let Outcome::Passed = outcome else {
-            return Done { bus: b, outcome };
-        };
-        place += 1;
-    }
-    Done {
-        bus: b,
-        outcome: Outcome::Passed,
-    }
+    fill_copy(
+        from,
+        g,
+        array,
+        register,
+        history,
+        mask,
+        fates,
+        block,
+        content,
+        &first[0..main],
+        page,
+    )
 }
