@@ -1,7 +1,7 @@
 -- The bytes of a page as they are written into a buffer. Assumes nothing.
 use Prim.Native.Nat.{ℕ, _+_, _-_, _≤_}
 use mathlib.Core.List.{List}
-use mathlib.Core.Path.{_≡_, refl, sym, ap, _∙_}
+use mathlib.Core.Path.{_≡_, sym, ap, _∙_}
 use native.Mathlib.Omega.{arith}
 use lib.ListN.{length, take, replicate, length-replicate}
 use lib.Seq.{length-take-le}
@@ -23,10 +23,6 @@ as-page g kind logical number place page bytes h e =
 pub page-long : (g : Geometry) → Valid g → (kind logical number place : ℕ) (main : List ℕ) → numberWidth kind ≡ 4 → length main ≡ g .main → length (pageOf g (copy kind logical number) place main) ≡ pageSize g
 page-long g v kind logical number place main w h =
     length-encoded (g .spare) (label kind logical place number) main (omega (arith, w, v .spare-least)) ∙ ap (λ (k : ℕ). k + g .spare) h
-
-pub table-width : numberWidth 84 ≡ 4
-unfolding numberWidth
-table-width = refl
 
 -- main bytes that were written into the buffer are as long as they are
 pub main-long : (g : Geometry) (page main : List ℕ) → length page ≡ pageSize g → take (g .main) page ≡ main → length main ≡ g .main

@@ -16,6 +16,16 @@ ghost use Rattle.operations.specs.Ends.{Called};
 ghost use Rattle.fill.specs.Steps.{ComesTo};
 ghost use Rattle.fill.specs.Fill.{copy, pageOf, Fillable, mainOf, mainRead, erasedFor, stepFilled, filled, dataSource, tableFilled};
 
+// What a copy holds beside the bytes of the page that is given: its label, the block of the old copy (none where it is not on
+// the chip), and which page is given (none where it is not in the block).
+pub struct Content {
+    pub kind: u8,
+    pub logical: usize,
+    pub number: u64,
+    pub old: usize,
+    pub place: usize,
+}
+
 // Finishes a page whose main bytes are in the buffer, and programs it.
 fn program_page(
     from: Bus,
@@ -27,28 +37,23 @@ fn program_page(
     fates: &[u32],
     block: usize,
     place: usize,
-    kind: u8,
-    logical: usize,
-    number: u64,
+    content: Content,
     page: &mut [u8],
 ) -> Done
-    requires { ⌜ Fillable g block place kind logical number (length (now page)) ⌝ }
-    ensures { λ r. ⌜ line (r .bus) (now (array .exit)) (now (register .exit)) (now (history .exit)) ≡ sendAll (setting g (now (mask .entry)) (now (fates .entry))) (line from (now (array .entry)) (now (register .entry)) (now (history .entry))) (programCycles (setting g (now (mask .entry)) (now (fates .entry))) (line from (now (array .entry)) (now (register .entry)) (now (history .entry))) (rowOf g block place) (pageOf g (copy kind logical number) place (take (g .main) (now (page .entry))))) ⌝ }
+    requires { ⌜ Fillable g block place (content .kind) (content .logical) (content .number) (length (now page)) ⌝ }
+    ensures { λ r. ⌜ line (r .bus) (now (array .exit)) (now (register .exit)) (now (history .exit)) ≡ sendAll (setting g (now (mask .entry)) (now (fates .entry))) (line from (now (array .entry)) (now (register .entry)) (now (history .entry))) (programCycles (setting g (now (mask .entry)) (now (fates .entry))) (line from (now (array .entry)) (now (register .entry)) (now (history .entry))) (rowOf g block place) (pageOf g (copy (content .kind) (content .logical) (content .number)) place (take (g .main) (now (page .entry))))) ⌝ }
     ensures { λ r. ⌜ r .outcome ≡ outcomeOf (line (r .bus) (now (array .exit)) (now (register .exit)) (now (history .exit))) ⌝ }
 {
-    pages::finish_page(page, g.main, kind, logical, place, number);
+    pages::finish_page(
+        page,
+        g.main,
+        content.kind,
+        content.logical,
+        place,
+        content.number,
+    );
     let row = geometry::row_of(g, block, place);
     operations::program(from, g, array, register, history, mask, fates, row, page)
-}
-
-// What a copy holds beside the bytes of the page that is given: its label, the block of the old copy (none where it is not on
-// the chip), and which page is given (none where it is not in the block).
-pub struct Content {
-    pub kind: u8,
-    pub logical: usize,
-    pub number: u64,
-    pub old: usize,
-    pub place: usize,
 }
 
 // Erases the block before its first page.
@@ -155,16 +160,12 @@ pub fn fill_page(
     ensures { λ r. ⌜ (isPassed (r .outcome) ≡ true → getD (now (history .exit)) block 0 ≤ place + 1) ⌝ }
 {
     let ready = erase_for(from, g, array, register, history, mask, fates, block, place);
-    let b = ready.bus;
     let erased = ready.outcome;
     let Outcome::Passed = erased else {
-        return Done {
-            bus: b,
-            outcome: erased,
-        };
+        return ready;
     };
     let put = put_main(
-        b,
+        ready.bus,
         g,
         array,
         register,
@@ -176,16 +177,12 @@ pub fn fill_page(
         bytes,
         page,
     );
-    let c = put.bus;
     let read = put.outcome;
     let Outcome::Passed = read else {
-        return Done {
-            bus: c,
-            outcome: read,
-        };
+        return put;
     };
     program_page(
-        c,
+        put.bus,
         g,
         array,
         register,
@@ -194,9 +191,7 @@ pub fn fill_page(
         fates,
         block,
         place,
-        content.kind,
-        content.logical,
-        content.number,
+        content,
         page,
     )
 }

@@ -1,15 +1,16 @@
 -- `fill::fill_table` meets its contract. Assumes nothing.
 use Prim.Native.Nat.{ℕ, _-_}
-use mathlib.Core.Path.{ap, _∙_}
+use mathlib.Core.Path.{refl, ap, _∙_}
 use native.Mathlib.Omega.{arith}
 use denote.Ref.{now}
 use lib.ListN.{drop, replicate}
 use Rattle.array.specs.Device.{setting}
+use Rattle.pages.specs.Layout.{numberWidth}
 use Rattle.copies.specs.Table.{tablePage}
 use Rattle.fill.specs.Fill.{Source, filled, tableCopy}
 use Rattle.fill.proofs.ComesLaws.{comes-as}
 use Rattle.fill.proofs.MainLaws.{lent-long, put-fits, put-lent, table-source}
-use Rattle.fill.proofs.PageLaws.{table-width, first-room}
+use Rattle.fill.proofs.PageLaws.{first-room}
 use borrow.Author.Needs.{needs}
 use Rattle.fill.proofs.fill_table.Statement.{statement}
 use Rattle.fill.proofs.fill_table.Tie as tie
@@ -38,11 +39,12 @@ part-fill-copy-end c =
     put-fits (g .main) (replicate 4096 0) (first-room g (c .before .before .before .before .before .before .before .before .before .before .before .before .before .before .pre .0 .is-valid)) (c .before .before .before .before .before .build-first .last .0) (drop (g .main - 0) (replicate 4096 0)) (c .before .before .before .before .before .build-first .kept .0)
 
 fill-copy-requires : tie.Need-fill-copy-requires
+unfolding numberWidth
 fill-copy-requires c κs =
     let s = c .before .before .before .before .before .before .before .before .before .before .before .before .before .before .before .before in
     let g = s .args .g in
     let v = s .pre .0 .is-valid in
-    (s .pre .0, (record { is-valid = v; block-below = s .pre .1 .0; place-below = omega (arith, v .pages-least); width-four = table-width; logical-fits = omega arith; number-fits = s .pre .1 .1 .0; page-long = s .pre .1 .1 .1 }, λ h. lent-long (g .main) _ (put-fits (g .main) (replicate 4096 0) (first-room g v) (c .before .before .before .before .before .before .before .build-first .last .0) (drop (g .main - 0) (replicate 4096 0)) (c .before .before .before .before .before .before .before .build-first .kept .0))))
+    (s .pre .0, (record { is-valid = v; block-below = s .pre .1 .0; place-below = omega (arith, v .pages-least); width-four = refl; logical-fits = omega arith; number-fits = s .pre .1 .1 .0; page-long = s .pre .1 .1 .1 }, λ h. lent-long (g .main) _ (put-fits (g .main) (replicate 4096 0) (first-room g v) (c .before .before .before .before .before .before .before .build-first .last .0) (drop (g .main - 0) (replicate 4096 0)) (c .before .before .before .before .before .before .before .build-first .kept .0))))
 
 same-length : tie.Need-same-length
 same-length c = search needs
