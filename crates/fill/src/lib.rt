@@ -1,11 +1,11 @@
-// A fill: a block is erased and its pages are programmed in order, each with its label and check.
+// What a step of a fill is made of: the erase before page 0, the main bytes of a page, and its program with label and check.
 use bus::Bus;
 use geometry::Geometry;
 use polling::Done;
 use polling::Outcome;
 ghost use mathlib.Core.Bool.{true};
 ghost use mathlib.Core.Path.{_≡_};
-ghost use Prim.Native.Nat.{_+_, _≤_, _<_};
+ghost use Prim.Native.Nat.{_≤_, _<_};
 ghost use lib.ListN.{length, take, getD};
 ghost use Rattle.geometry.specs.Sizes.{pageSize, rowOf};
 ghost use Rattle.array.specs.Device.{setting};
@@ -14,7 +14,7 @@ ghost use Rattle.polling.specs.Polling.{isPassed, outcomeOf};
 ghost use Rattle.sequences.specs.Cycles.{programCycles};
 ghost use Rattle.operations.specs.Ends.{Called};
 ghost use Rattle.fill.specs.Steps.{ComesTo};
-ghost use Rattle.fill.specs.Fill.{copy, pageOf, Fillable, mainOf, mainRead, erasedFor, stepFilled, filled, dataSource, tableFilled};
+ghost use Rattle.fill.specs.Fill.{copy, pageOf, Fillable, mainOf, mainRead, erasedFor, dataSource};
 
 // What a copy holds beside the bytes of the page that is given: its label, the block of the old copy (none where it is not on
 // the chip), and which page is given (none where it is not in the block).
@@ -27,7 +27,7 @@ pub struct Content {
 }
 
 // Finishes a page whose main bytes are in the buffer, and programs it.
-fn program_page(
+pub fn program_page(
     from: Bus,
     g: Geometry,
     array: &mut [u8],
@@ -57,7 +57,7 @@ fn program_page(
 }
 
 // Erases the block before its first page.
-fn erase_for(
+pub fn erase_for(
     from: Bus,
     g: Geometry,
     array: &mut [u8],
@@ -85,7 +85,7 @@ fn erase_for(
 }
 
 // Puts the main bytes of a page into the buffer: those given, those of the old copy, or FFh.
-fn put_main(
+pub fn put_main(
     from: Bus,
     g: Geometry,
     array: &mut [u8],
@@ -135,158 +135,4 @@ fn put_main(
         bus: from,
         outcome: Outcome::Passed,
     }
-}
-
-// Fills one page of a copy, the step of every fill: it ends with one page program.
-pub fn fill_page(
-    from: Bus,
-    g: Geometry,
-    array: &mut [u8],
-    register: &mut [u8],
-    history: &mut [u8],
-    mask: &[u8],
-    fates: &[u32],
-    block: usize,
-    place: usize,
-    content: Content,
-    bytes: &[u8],
-    page: &mut [u8],
-) -> Done
-    requires { ⌜ Called (setting g (now mask) (now fates)) (line from (now array) (now register) (now history)) ⌝ }
-    requires { ⌜ Fillable g block place (content .kind) (content .logical) (content .number) (length (now page)) ⌝ }
-    requires { ⌜ (0 < place → getD (now history) block 0 ≤ place) ⌝ }
-    requires { ⌜ (place ≡ content .place → length (now bytes) ≡ g .main) ⌝ }
-    ensures { λ r. ⌜ ComesTo (setting g (now (mask .entry)) (now (fates .entry))) (stepFilled (setting g (now (mask .entry)) (now (fates .entry))) block (copy (content .kind) (content .logical) (content .number)) (dataSource g (content .old) (content .place) (now (bytes .entry))) place) (line from (now (array .entry)) (now (register .entry)) (now (history .entry))) (line (r .bus) (now (array .exit)) (now (register .exit)) (now (history .exit))) (r .outcome) ⌝ }
-    ensures { λ r. ⌜ (isPassed (r .outcome) ≡ true → getD (now (history .exit)) block 0 ≤ place + 1) ⌝ }
-{
-    let ready = erase_for(from, g, array, register, history, mask, fates, block, place);
-    let erased = ready.outcome;
-    let Outcome::Passed = erased else {
-        return ready;
-    };
-    let put = put_main(
-        ready.bus,
-        g,
-        array,
-        register,
-        history,
-        mask,
-        fates,
-        place,
-        content,
-        bytes,
-        page,
-    );
-    let read = put.outcome;
-    let Outcome::Passed = read else {
-        return put;
-    };
-    program_page(
-        put.bus,
-        g,
-        array,
-        register,
-        history,
-        mask,
-        fates,
-        block,
-        place,
-        content,
-        page,
-    )
-}
-
-// Fills a block with a copy, page after page.
-pub fn fill_copy(
-    from: Bus,
-    g: Geometry,
-    array: &mut [u8],
-    register: &mut [u8],
-    history: &mut [u8],
-    mask: &[u8],
-    fates: &[u32],
-    block: usize,
-    content: Content,
-    bytes: &[u8],
-    page: &mut [u8],
-) -> Done
-    requires { ⌜ Called (setting g (now mask) (now fates)) (line from (now array) (now register) (now history)) ⌝ }
-    requires { ⌜ Fillable g block 0 (content .kind) (content .logical) (content .number) (length (now page)) ⌝ }
-    requires { ⌜ (content .place < g .pages → length (now bytes) ≡ g .main) ⌝ }
-    ensures { λ r. ⌜ ComesTo (setting g (now (mask .entry)) (now (fates .entry))) (filled (setting g (now (mask .entry)) (now (fates .entry))) block (copy (content .kind) (content .logical) (content .number)) (dataSource g (content .old) (content .place) (now (bytes .entry)))) (line from (now (array .entry)) (now (register .entry)) (now (history .entry))) (line (r .bus) (now (array .exit)) (now (register .exit)) (now (history .exit))) (r .outcome) ⌝ }
-{
-    let mut b = from;
-    let pages = g.pages;
-    let mut place: usize = 0;
-    while place < pages {
-        let done = fill_page(
-            b,
-            g,
-            array,
-            register,
-            history,
-            mask,
-            fates,
-            block,
-            place,
-            content,
-            bytes,
-            page,
-        );
-        b = done.bus;
-        let outcome = done.outcome;
-        let Outcome::Passed = outcome else {
-            return Done { bus: b, outcome };
-        };
-        place += 1;
-    }
-    Done {
-        bus: b,
-        outcome: Outcome::Passed,
-    }
-}
-
-// Fills a block with a table that lists the invalid blocks: page 0 is given, the others are FFh.
-pub fn fill_table(
-    from: Bus,
-    g: Geometry,
-    array: &mut [u8],
-    register: &mut [u8],
-    history: &mut [u8],
-    mask: &[u8],
-    fates: &[u32],
-    block: usize,
-    number: u64,
-    invalid: &[u8; 512],
-    page: &mut [u8],
-) -> Done
-    requires { ⌜ Called (setting g (now mask) (now fates)) (line from (now array) (now register) (now history)) ⌝ }
-    requires { ⌜ block < g .blocks ⌝ }
-    requires { ⌜ number < 4294967296 ⌝ }
-    requires { ⌜ length (now page) ≡ pageSize g ⌝ }
-    ensures { λ r. ⌜ ComesTo (setting g (now (mask .entry)) (now (fates .entry))) (tableFilled (setting g (now (mask .entry)) (now (fates .entry))) block number (now (invalid .entry))) (line from (now (array .entry)) (now (register .entry)) (now (history .entry))) (line (r .bus) (now (array .exit)) (now (register .exit)) (now (history .exit))) (r .outcome) ⌝ }
-{
-    let mut first = [0u8; 4096];
-    let main = g.main;
-    copies::table::build_first(&mut first[0..main], g.blocks, g.logical, invalid);
-    let content = Content {
-        kind: 0x54,
-        logical: 0,
-        number,
-        old: 65535,
-        place: 0,
-    };
-    fill_copy(
-        from,
-        g,
-        array,
-        register,
-        history,
-        mask,
-        fates,
-        block,
-        content,
-        &first[0..main],
-        page,
-    )
 }

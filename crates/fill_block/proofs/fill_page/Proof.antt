@@ -1,4 +1,4 @@
--- `fill::fill_page` meets its contract. Assumes nothing.
+-- `fill_block::fill_page` meets its contract. Assumes nothing.
 use mathlib.Core.Bool.{false≢true}
 use mathlib.Core.Path.{sym, subst, _∙_}
 use denote.Ref.{now}
@@ -8,12 +8,12 @@ use mathlib.Core.List.{List}
 use Rattle.array.specs.Device.{setting}
 use Rattle.bus.specs.Line.{line}
 use Rattle.polling.proofs.PollLaws.{passed-by-tag, other-by-tag}
 use Rattle.fill.specs.Fill.{copy, Fillable, dataSource}
-use Rattle.fill.proofs.FillLaws.{page-stops, page-programmed, page-order, step-fills, step-stops}
+use Rattle.fill_block.proofs.FillingLaws.{page-stops, page-programmed, page-order, step-fills, step-stops}
 use Rattle.fill.proofs.StepLaws.{passed-answered}
 use borrow.Author.Needs.{needs}
-use Rattle.fill.proofs.fill_page.Statement.{statement}
-use Rattle.fill.proofs.fill_page.Tie as tie
+use Rattle.fill_block.proofs.fill_page.Statement.{statement}
+use Rattle.fill_block.proofs.fill_page.Tie as tie
 
 erase-for-requires : tie.Need-erase-for-requires
 erase-for-requires c κs = search needs

@@ -1,4 +1,4 @@
--- `fill::fill_copy` meets its contract: after each step the fill is on its way as FillLaws tells. Assumes nothing.
+-- `fill_block::fill_copy` meets its contract: after each step the fill is on its way as FillingLaws tells. Assumes nothing.
 use Prim.Native.Nat.{_-_, _≤_}
 use mathlib.Core.Path.{_≡_, refl, _∙_}
 use native.Mathlib.Omega.{arith}
@@ -8,10 +8,10 @@ use lib.ListN.{length}
 use Rattle.array.specs.Device.{setting}
 use Rattle.bus.specs.Line.{line}
 use Rattle.polling.proofs.PollLaws.{passed-by-tag, other-by-tag}
 use Rattle.fill.specs.Fill.{copy, dataSource}
-use Rattle.fill.proofs.FillLaws.{Filling, fill-begins, fill-goes, fill-stops, fill-ends}
-use Rattle.fill.proofs.fill_copy.Statement.{statement}
-use Rattle.fill.proofs.fill_copy.Tie as tie
+use Rattle.fill_block.proofs.FillingLaws.{Filling, fill-begins, fill-goes, fill-stops, fill-ends}
+use Rattle.fill_block.proofs.fill_copy.Statement.{statement}
+use Rattle.fill_block.proofs.fill_copy.Tie as tie
 
 abbrev Inv-loop : tie.InvT-loop
 Inv-loop g array₀ register₀ history₀ mask fates block content bytes page₀ b₀ pages place₀ array register history page b place =

@@ -1,4 +1,4 @@
--- `fill::fill_table` meets its contract. Assumes nothing.
+-- `fill_block::fill_table` meets its contract. Assumes nothing.
 use Prim.Native.Nat.{ℕ, _-_}
 use mathlib.Core.Path.{refl, ap, _∙_}
 use native.Mathlib.Omega.{arith}
@@ -7,13 +7,13 @@ use lib.ListN.{drop, replicate}
 use Rattle.array.specs.Device.{setting}
 use Rattle.pages.specs.Layout.{numberWidth}
 use Rattle.copies.specs.Table.{tablePage}
 use Rattle.fill.specs.Fill.{Source, filled, tableCopy}
 use Rattle.fill.proofs.ComesLaws.{comes-as}
 use Rattle.fill.proofs.MainLaws.{lent-long, put-fits, put-lent, table-source}
 use Rattle.fill.proofs.PageLaws.{first-room}
 use borrow.Author.Needs.{needs}
-use Rattle.fill.proofs.fill_table.Statement.{statement}
-use Rattle.fill.proofs.fill_table.Tie as tie
+use Rattle.fill_block.proofs.fill_table.Statement.{statement}
+use Rattle.fill_block.proofs.fill_table.Tie as tie
 
 sub-build-first : tie.Need-sub-build-first
 sub-build-first c = search needs
