@@ -4,6 +4,7 @@ use mathlib.Core.List.{List, _++_}
 use mathlib.Core.Path.{_≡_, refl, _∙_}
 use native.Mathlib.Omega.{arith}
 use borrow.Table.Steps.{cases}
+use lib.Dec.{eqb}
 use lib.ListN.{length, length-append}
 use Rattle.geometry.specs.Sizes.{rowOf}
 use Rattle.array.specs.Device.{Setting}
@@ -12,9 +13,9 @@ use Rattle.bus.specs.Line.{Line, sendAll, sent}
 use Rattle.bus.proofs.LineLaws.{sent-counts}
 use Rattle.polling.specs.Polling.{isPassed}
 use Rattle.sequences.specs.Cycles.{eraseCycles, programCycles}
-use Rattle.scan.specs.Progress.{Progress, readOn}
+use Rattle.scan.specs.Progress.{Progress}
 use Rattle.scan.proofs.CountLaws.{allowance, read-counts}
-use Rattle.fill.specs.Fill.{Copy, Source, given, kept, pageFilled, pagesFilled, filled}
+use Rattle.fill.specs.Fill.{Copy, Source, given, kept, mainRead, pageFilled, pagesFilled, filled, erasedFor, stepFilled}
 use Rattle.fill.specs.Steps.{eraseOn, programOn}
 
 more : (s : Setting) (l : Line) (before cs : List Cycle) → length (before ++ sent s l cs) + sendAll s l cs .left ≡ length before + l .left
@@ -35,11 +36,21 @@ module _ (s : Setting) where
       (λ t. rw t (more s (p .line) (p .cycles) (programCycles s (p .line) (rowOf (s .geometry) block page) bytes)))
       (λ t. rw t)
 
-  page-counts : (block : ℕ) (c : Copy) (n : ℕ) (source : Source) (p : Progress) → allowance (pageFilled s block c n source p) ≡ allowance p
+  main-counts : (n : ℕ) (source : Source) (p : Progress) → allowance (mainRead s n source p) ≡ allowance p
+  unfolding mainRead
+  main-counts n (given main) p = refl
+  main-counts n (kept old) p = read-counts s (rowOf (s .geometry) old n) 0 (s .geometry .main) p
+
+  pub page-counts : (block : ℕ) (c : Copy) (n : ℕ) (source : Source) (p : Progress) → allowance (pageFilled s block c n source p) ≡ allowance p
   unfolding pageFilled
-  page-counts block c n (given main) p = program-counts block n _ p
-  page-counts block c n (kept old) p =
-      program-counts block n _ (readOn s (rowOf (s .geometry) old n) 0 (s .geometry .main) p) ∙ read-counts s (rowOf (s .geometry) old n) 0 (s .geometry .main) p
+  page-counts block c n source p = program-counts block n _ (mainRead s n source p) ∙ main-counts n source p
+
+  -- one step
+  pub step-counts : (block : ℕ) (c : Copy) (source : ℕ → Source) (n : ℕ) (p : Progress) → allowance (stepFilled s block c source n p) ≡ allowance p
+  unfolding erasedFor
+  step-counts block c source n p =
+      page-counts block c n (source n) (erasedFor s block n p)
+      ∙ cases (eqb n 0) (λ t. rw t (erase-counts block p)) (λ t. rw t)
 
   pub fill-counts : (block : ℕ) (c : Copy) (source : ℕ → Source) (n : ℕ) (p : Progress) → allowance (pagesFilled s block c source n p) ≡ allowance p
   unfolding pagesFilled

@@ -3,7 +3,7 @@ use Prim.Native.Nat.{ℕ, zero, suc, _<_}
 use mathlib.Core.Bool.{cond}
 use mathlib.Core.List.{List}
 use mathlib.Core.Path.{_≡_}
-use lib.Dec.{eqb}
+use lib.Dec.{eqb, ltb}
 use lib.ListN.{replicate}
 use Rattle.geometry.specs.declared.Geometry.{Geometry}
 use Rattle.geometry.specs.Limits.{Valid}
@@ -43,13 +43,20 @@ pub data Source : Type 0 where
 abbrev pub pageOf : Geometry → Copy → ℕ → List ℕ → List ℕ
 pageOf g c n main = encoded (g .spare) (label (c .kind) (c .logical) n (c .number)) main
 
--- page n is filled; one that is kept is read, main bytes only, just before its program
+-- the main bytes of page n; those of a kept page are read, main bytes only
+unfoldable pub mainOf : Geometry → List ℕ → ℕ → Source → List ℕ
+mainOf g array n (given main) = main
+mainOf g array n (kept old) = mainIn g (blockIn g array old) n
+
+unfoldable pub mainRead : Setting → ℕ → Source → Progress → Progress
+mainRead s n (given main) p = p
+mainRead s n (kept old) p = readOn s (rowOf (s .geometry) old n) 0 (s .geometry .main) p
+
+-- page n is filled; one that is kept is read just before its program
 unfoldable pub pageFilled : Setting → ℕ → Copy → ℕ → Source → Progress → Progress
-pageFilled s block c n (given main) p = programOn s block n (pageOf (s .geometry) c n main) p
-pageFilled s block c n (kept old) p =
-    programOn s block n
-    (pageOf (s .geometry) c n (mainIn (s .geometry) (blockIn (s .geometry) (p .line .chip .array) old) n))
-    (readOn s (rowOf (s .geometry) old n) 0 (s .geometry .main) p)
+pageFilled s block c n source p =
+    programOn s block n (pageOf (s .geometry) c n (mainOf (s .geometry) (p .line .chip .array) n source))
+    (mainRead s n source p)
 
 -- the first n pages
 unfoldable pub pagesFilled : Setting → ℕ → Copy → (ℕ → Source) → ℕ → Progress → Progress
@@ -59,6 +66,24 @@ pagesFilled s block c source (suc n) p = pageFilled s block c n (source n) (page
 -- the whole fill of a block
 abbrev pub filled : Setting → ℕ → Copy → (ℕ → Source) → Progress → Progress
 filled s block c source p = pagesFilled s block c source (s .geometry .pages) (eraseOn s block p)
+
+-- the same step by step: each step ends with one page program, and the block is erased before page 0
+unfoldable pub erasedFor : Setting → ℕ → ℕ → Progress → Progress
+erasedFor s block n p = cond (eqb n 0) (eraseOn s block p) p
+
+abbrev pub stepFilled : Setting → ℕ → Copy → (ℕ → Source) → ℕ → Progress → Progress
+stepFilled s block c source n p = pageFilled s block c n (source n) (erasedFor s block n p)
+
+-- the first n steps
+unfoldable pub stepsFilled : Setting → ℕ → Copy → (ℕ → Source) → ℕ → Progress → Progress
+stepsFilled s block c source zero p = p
+stepsFilled s block c source (suc n) p = stepFilled s block c source n (stepsFilled s block c source n p)
+
+-- a data copy's pages: one page is given, the others are kept from the old copy, FFh where there is none;
+-- no page is given where place is not in the block, and there is no old copy where its block is not on the chip
+unfoldable pub dataSource : Geometry → ℕ → ℕ → List ℕ → ℕ → Source
+dataSource g old place bytes n =
+    cond (eqb n place) (given bytes) (cond (ltb old (g .blocks)) (kept old) (given (replicate (g .main) 255)))
 
 -- a table's pages: page 0 lists the invalid blocks, the others are FFh
 unfoldable pub tableMain : Geometry → List ℕ → ℕ → List ℕ

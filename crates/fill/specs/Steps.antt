@@ -2,14 +2,17 @@
 use Prim.Native.Nat.{ℕ}
 use mathlib.Core.Bool.{Bool, true, false, cond}
 use mathlib.Core.List.{List, _++_}
+use mathlib.Core.Path.{_≡_}
 use Rattle.geometry.specs.Sizes.{rowOf}
 use Rattle.array.specs.Device.{Setting}
-use Rattle.bus.specs.Line.{sendAll}
+use Rattle.chip.specs.Chip.{Cycle}
+use Rattle.bus.specs.Line.{Line, sendAll}
 use Rattle.polling.specs.Polling.{isPassed, outcomeOf}
 use Rattle.polling.specs.declared.Outcome.{Outcome}
 use Rattle.polling.specs.declared.Outcome.the-variants.{Passed, Failed, Silent, Cut, Illegal}
 use Rattle.sequences.specs.Cycles.{eraseCycles, programCycles}
-use Rattle.operations.specs.Trace.{eraseSends, eraseStarts, programSends, programStarts}
+use Rattle.operations.specs.Ends.{Called, answered}
+use Rattle.operations.specs.Trace.{ArrayOperation, eraseSends, eraseStarts, programSends, programStarts}
 use Rattle.scan.specs.Progress.{Progress, progress}
 
 -- a block is erased, if all before it passed
@@ -44,3 +47,9 @@ isFailed Failed = true
 isFailed Silent = false
 isFailed Cut = false
 isFailed Illegal = false
+
+-- a part of a request that comes from line l to line m with outcome o; once ready was reported the chip takes the next command
+pub record ComesTo (s : Setting) (steps : Progress → Progress) (l m : Line) (o : Outcome) : Type 0 where
+  pub line-is : (cs : List Cycle) (os : List ArrayOperation) → m ≡ steps (progress l Passed cs os) .line
+  pub outcome-is : (cs : List Cycle) (os : List ArrayOperation) → o ≡ steps (progress l Passed cs os) .outcome
+  pub next-called : answered o ≡ true → Called s m

@@ -1,17 +1,14 @@
 -- One table fill tried: no block was left, or the block chosen was filled. Assumes nothing.
 use Prim.Native.Nat.{ℕ, suc, _+_, _<_}
-use mathlib.Core.Bool.{true}
 use mathlib.Core.List.{List}
 use mathlib.Core.Path.{_≡_, refl, sym, ap, subst, _∙_}
 use native.Mathlib.Omega.{arith}
 use denote.Enum.Declared.{tagOf}
 use Rattle.array.specs.Device.{Setting}
-use Rattle.chip.specs.Chip.{Cycle}
 use Rattle.bus.specs.Line.{Line}
 use Rattle.polling.specs.declared.Outcome.{Outcome}
 use Rattle.polling.specs.declared.Outcome.the-variants.{Passed}
-use Rattle.operations.specs.Ends.{Called, answered}
-use Rattle.operations.specs.Trace.{ArrayOperation}
+use Rattle.operations.specs.Ends.{Called}
 use Rattle.state.specs.Choose.{chosen, permitted}
 use Rattle.state.specs.State.{withNumber}
 use Rattle.state.specs.declared.State.{State}
@@ -21,6 +18,7 @@ use Rattle.state.proofs.choose.Choice.{the-type}
 use Rattle.state.proofs.ChooseLaws.{found, after-below}
 use Rattle.scan.specs.Progress.{progress}
 use Rattle.fill.specs.Fill.{tableFilled}
+use Rattle.fill.specs.Steps.{ComesTo}
 use Rattle.tables.specs.Tables.{stateAfter, tryBlock, tryTable, TriedAs}
 
 pub worn-by-tag : (x : Choice) → tagOf the-type x ≡ 1 → x ≡ Worn
@@ -49,16 +47,14 @@ module _ (s : Setting) (held : List ℕ) (st : State) (l : Line) where
       }
 
   pub block-tried : (b : ℕ) → choice ≡ Block b → (m : Line) (o : Outcome) (next : State)
-      → ((cs : List Cycle) (os : List ArrayOperation) → m ≡ tableFilled s b (st .number) (st .invalid) (progress l Passed cs os) .line)
-      → ((cs : List Cycle) (os : List ArrayOperation) → o ≡ tableFilled s b (st .number) (st .invalid) (progress l Passed cs os) .outcome)
-      → (answered o ≡ true → Called s m) → next ≡ stateAfter b o (withNumber (st .number + 1) st) → TriedAs s held st l m o next 0
+      → ComesTo s (tableFilled s b (st .number) (st .invalid)) l m o → next ≡ stateAfter b o (withNumber (st .number + 1) st) → TriedAs s held st l m o next 0
   unfolding tryTable tryBlock
-  block-tried b e m o next f₁ f₂ called g =
+  block-tried b e m o next r g =
       record {
-        line-is = λ cs os. f₁ cs os ∙ ap (λ (x : Choice). tryBlock s st (progress l Passed cs os) x .progress .line) (sym e);
-        outcome-is = λ cs os. f₂ cs os ∙ ap (λ (x : Choice). tryBlock s st (progress l Passed cs os) x .progress .outcome) (sym e);
+        line-is = λ cs os. r .line-is cs os ∙ ap (λ (x : Choice). tryBlock s st (progress l Passed cs os) x .progress .line) (sym e);
+        outcome-is = λ cs os. r .outcome-is cs os ∙ ap (λ (x : Choice). tryBlock s st (progress l Passed cs os) x .progress .outcome) (sym e);
         state-is = λ cs os.
-            g ∙ ap (λ (x : Outcome). stateAfter b x (withNumber (st .number + 1) st)) (f₂ cs os) ∙ ap (λ (x : Choice). tryBlock s st (progress l Passed cs os) x .state) (sym e);
+            g ∙ ap (λ (x : Outcome). stateAfter b x (withNumber (st .number + 1) st)) (r .outcome-is cs os) ∙ ap (λ (x : Choice). tryBlock s st (progress l Passed cs os) x .state) (sym e);
         worn-is = λ cs os. ap (λ (x : Choice). tryBlock s st (progress l Passed cs os) x .worn) (sym e);
-        next-called = called;
+        next-called = r .next-called;
       }

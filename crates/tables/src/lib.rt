@@ -66,7 +66,7 @@ pub fn try_table(
             worn: 1,
         };
     };
-    let done = fill::fill_table(
+    let done = fill_block::fill_table(
         from,
         g,
         array,

@@ -37,7 +37,7 @@ returns c =
     let s = c .before .before .before .before .before .before .before .before .before .before .before .before .before .before .before .before .before .before .before .before .before .before in
     let set = setting (s .args .g) (now (s .args .mask)) (now (s .args .fates)) in
     let l = line (s .args .from) (now (s .args .array)) (now (s .args .register)) (now (s .args .history)) in
-    let bytes = as-page (s .args .g) (s .args .kind) (s .args .logical) (s .args .number) (s .args .place) (now (s .args .page)) _ (s .pre .page-long) (c .before .before .before .before .before .before .before .before .before .before .before .before .before .before .finish-page .ensures) in
+    let bytes = as-page (s .args .g) (s .args .content .kind) (s .args .content .logical) (s .args .content .number) (s .args .place) (now (s .args .page)) _ (s .pre .page-long) (c .before .before .before .before .before .before .before .before .before .before .before .before .before .before .finish-page .ensures) in
     (c .before .before .before .before .before .before .program .ensures .0 ∙ ap₂ (λ (x : ℕ) (y : List ℕ). sendAll set l (programCycles set l x y)) (c .before .before .before .before .before .before .before .before .before .before .before .row-of .ensures) bytes, c .before .before .before .before .before .before .program .ensures .1)
 
 pub program-page-spec : {M : Type 1} → statement M

@@ -59,8 +59,7 @@ returns-2 c =
     let set = setting (s .args .g) (now (s .args .mask)) (now (s .args .fates)) in
     let l = line (s .args .from) (now (s .args .array)) (now (s .args .register)) (now (s .args .history)) in
     let e = sym (c .before .before .before .before .before .before .before .before .before .before .before .before .before .before .before .before .before .before .before .before .choose-block .ensures) ∙ c .before .before .before .before .before .before .before .before .before .before .before .before .before .before .before .before .before .before .choice .given .1 in
-    let f = c .before .before .before .before .before .before .before .before .before .before .before .fill-table .ensures in
-    block-tried set (now (s .args .held)) (s .args .state) l (c .before .before .before .before .before .before .before .before .before .before .before .before .before .before .before .before .before .before .choice .given .0 .0) e _ (c .before .before .before .before .before .before .before .before .before .before .before .fill-table .result .outcome) _ (f .0) (f .1 .0) (f .1 .1) (c .state-after .ensures ∙ ap (stateAfter (c .before .before .before .before .before .before .before .before .before .before .before .before .before .before .before .before .before .before .choice .given .0 .0) (c .before .before .before .before .before .before .before .before .before .before .before .fill-table .result .outcome)) (c .before .take-number .ensures))
+    block-tried set (now (s .args .held)) (s .args .state) l (c .before .before .before .before .before .before .before .before .before .before .before .before .before .before .before .before .before .before .choice .given .0 .0) e _ (c .before .before .before .before .before .before .before .before .before .before .before .fill-table .result .outcome) _ (c .before .before .before .before .before .before .before .before .before .before .before .fill-table .ensures) (c .state-after .ensures ∙ ap (stateAfter (c .before .before .before .before .before .before .before .before .before .before .before .before .before .before .before .before .before .before .choice .given .0 .0) (c .before .before .before .before .before .before .before .before .before .before .before .fill-table .result .outcome)) (c .before .take-number .ensures))
 
 pub try-table-spec : {M : Type 1} → statement M
 try-table-spec =

@@ -1,0 +1,161 @@
+-- The main bytes of a page: given, kept from the old copy, or FFh. Assumes nothing.
+use Prim.Native.Nat.{ℕ, _+_, _-_, _*_, _≤_, _<_}
+use mathlib.Core.Bool.{true, false, false≢true}
+use mathlib.Core.List.{List, _++_, append-nil}
+use mathlib.Core.Path.{_≡_, refl, sym, ap, ap₂, subst, fun-ext, _∙_}
+use native.Mathlib.Nat.{sub-zero}
+use native.Mathlib.Omega.{arith}
+use borrow.Table.Steps.{cases}
+use borrow.Author.Tests.{eq-eqb, ne-eqb, lt-ltb, le-ltb}
+use lib.Dec.{eqb, ltb}
+use lib.ListN.{length, take, drop, replicate, drop-of-length-le, length-append}
+use lib.Seq.{take-at, take-take, length-take-le}
+use Rattle.geometry.specs.declared.Geometry.{Geometry}
+use Rattle.geometry.specs.Sizes.{pageSize, rowOf}
+use Rattle.geometry.proofs.SizeLaws.{row-below}
+use Rattle.cells.specs.Cells.{over}
+use Rattle.interface.specs.Interface.{busyOf}
+use Rattle.array.specs.Device.{Setting}
+use Rattle.bus.specs.Line.{Line, sendAll}
+use Rattle.polling.specs.Polling.{isPassed}
+use Rattle.polling.specs.declared.Outcome.{Outcome}
+use Rattle.polling.specs.declared.Outcome.the-variants.{Passed}
+use Rattle.sequences.specs.Cycles.{readCycles, readOutcome, readOutputs}
+use Rattle.operations.specs.Ends.{Called, CanRead, End, endOfRead, readEnd, readTotal, wordFor, answered}
+use Rattle.operations.proofs.ReadLaws.{read-ends, read-next}
+use Rattle.copies.specs.Table.{tablePage}
+use Rattle.scan.specs.Progress.{Progress, progress}
+use Rattle.scan.proofs.ReadOnLaws.{Read, read-leaves, read-line, read-outcome, read-stopped}
+use Rattle.scan.proofs.ScanLaws.{row-is-page}
+use Rattle.fill.specs.Fill.{Source, given, kept, mainOf, mainRead, dataSource, tableMain, tableSource}
+use Rattle.fill.specs.Steps.{ComesTo}
+use Rattle.fill.proofs.ComesLaws.{comes-still, comes-as}
+
+-- which of the three a page of a data copy is
+module _ (g : Geometry) (old place : ℕ) (bytes : List ℕ) (n : ℕ) where
+  pub source-given : n ≡ place → dataSource g old place bytes n ≡ given bytes
+  unfolding dataSource
+  source-given e = rw (eq-eqb n place e)
+
+  pub source-kept : (n ≡ place → ⊥) → old < g .blocks → dataSource g old place bytes n ≡ kept old
+  unfolding dataSource
+  source-kept e h = rw (ne-eqb n place e, lt-ltb old (g .blocks) h)
+
+  pub source-none : (n ≡ place → ⊥) → g .blocks ≤ old → dataSource g old place bytes n ≡ given (replicate (g .main) 255)
+  unfolding dataSource
+  source-none e h = rw (ne-eqb n place e, le-ltb old (g .blocks) h)
+
+-- a table's pages are those of a data copy without an old one, page 0 given
+pub table-source : (g : Geometry) (old : ℕ) → g .blocks ≤ old → (invalid bytes : List ℕ) → bytes ≡ tablePage (g .main) (g .blocks) (g .logical) invalid → dataSource g old 0 bytes ≡ tableSource g invalid
+unfolding dataSource tableMain
+table-source g old h invalid bytes e =
+    fun-ext
+    (λ n.
+    cases (eqb n 0)
+    (λ t. rw t (ap given e))
+    (λ t. rw (t, le-ltb old (g .blocks) h)))
+
+-- the bytes that were put into the first part of a buffer
+put-first : (n : ℕ) (page ys rest : List ℕ) → length ys ≡ n → take n (take 0 page ++ (ys ++ rest)) ≡ ys
+put-first n page ys rest h = take-at ys rest n h
+
+pub lent-long : (n : ℕ) (page : List ℕ) → n ≤ length page → length (take (n - 0) (drop 0 page)) ≡ n
+lent-long n page h = ap (λ (k : ℕ). length (take k page)) (sub-zero n) ∙ length-take-le n page h
+
+over-all : (xs ys : List ℕ) → length ys ≡ length xs → over xs ys ≡ xs
+over-all xs ys e =
+    ap (λ (x : List ℕ). xs ++ x) (drop-of-length-le ys {i = length xs} (omega (arith, e))) ∙ append-nil xs
+
+module _ (n : ℕ) (page : List ℕ) (fits : n ≤ length page) (ys rest : List ℕ) (same : length ys ≡ length (take (n - 0) (drop 0 page))) where
+  pub put-read : take n (take 0 page ++ (ys ++ rest)) ≡ ys
+  put-read = put-first n page ys rest (same ∙ lent-long n page fits)
+
+  -- the buffer is lent again
+  pub put-fits : n ≤ length (take 0 page ++ (ys ++ rest))
+  put-fits = omega (arith, length-append ys rest, same ∙ lent-long n page fits)
+
+  pub put-lent : take (n - 0) (drop 0 (take 0 page ++ (ys ++ rest))) ≡ ys
+  put-lent = ap (λ (k : ℕ). take k (take 0 page ++ (ys ++ rest))) (sub-zero n) ∙ put-read
+
+  pub put-given : (bytes : List ℕ) → length bytes ≡ n → ys ≡ over bytes (take (n - 0) (drop 0 page)) → take n (take 0 page ++ (ys ++ rest)) ≡ bytes
+  put-given bytes h e = put-read ∙ e ∙ over-all bytes (take (n - 0) (drop 0 page)) (lent-long n page fits ∙ sym h)
+
+  pub put-ones : ys ≡ replicate (length (take (n - 0) (drop 0 page))) 255 → take n (take 0 page ++ (ys ++ rest)) ≡ replicate n 255
+  put-ones e = put-read ∙ e ∙ ap (λ (k : ℕ). replicate k 255) (lent-long n page fits)
+
+-- a page that is given
+module _ (s : Setting) (n : ℕ) (source : Source) (main : List ℕ) (e : source ≡ given main) where
+  pub given-comes : (l : Line) → Called s l → ComesTo s (mainRead s n source) l l Passed
+  unfolding mainRead
+  given-comes l called = comes-as (λ p. sym (ap (λ (x : Source). mainRead s n x p) e)) (comes-still called)
+
+  pub given-main : (array bytes : List ℕ) → bytes ≡ main → bytes ≡ mainOf (s .geometry) array n source
+  unfolding mainOf
+  given-main array bytes h = h ∙ sym (ap (mainOf (s .geometry) array n) e)
+
+-- a read that was answered passed
+read-answered : (s : Setting) (l : Line) (n : ℕ) → answered (readEnd s l n .outcome) ≡ true → isPassed (readEnd s l n .outcome) ≡ true
+unfolding readEnd answered isPassed
+read-answered s l n h =
+    cases (ltb (l .left) (readTotal s (l .chip) n))
+    (λ t. absurd (false≢true (sym (rw t) ∙ h)))
+    (λ t.
+    cases (ltb (busyOf (wordFor s (l .chip))) 256) (λ u. rw (t, u)) (λ u. absurd (false≢true (sym (rw (t, u)) ∙ h))))
+
+-- a page that is kept: its read leaves line m and outcome o
+module _ (s : Setting) (l : Line) (called : Called s l) (old n : ℕ) (old-below : old < s .geometry .blocks) (page-below : n < s .geometry .pages) (source : Source) (from : source ≡ kept old)
+    (row : ℕ) (row-is : row ≡ rowOf (s .geometry) old n) (buffer : List ℕ) (long : length buffer ≡ s .geometry .main) (m : Line) (o : Outcome)
+    (e : m ≡ sendAll s l (readCycles s l row 0 (length buffer))) (q : o ≡ readOutcome s l row 0 (length buffer)) where
+  can-read : CanRead s l (rowOf (s .geometry) old n) 0 (s .geometry .main)
+  can-read =
+      record {
+        called = called;
+        row-below = row-below (s .geometry) (called .is-valid) old n old-below page-below;
+        column-below = omega (arith, called .is-valid .main-least);
+        within = omega arith;
+      }
+
+  line-at : m ≡ sendAll s l (readCycles s l (rowOf (s .geometry) old n) 0 (s .geometry .main))
+  line-at = e ∙ ap₂ (λ (x y : ℕ). sendAll s l (readCycles s l x 0 y)) row-is long
+
+  outcome-at : o ≡ readOutcome s l (rowOf (s .geometry) old n) 0 (s .geometry .main)
+  outcome-at = q ∙ ap₂ (λ (x y : ℕ). readOutcome s l x 0 y) row-is long
+
+  read-called : answered o ≡ true → Called s m
+  unfolding endOfRead
+  read-called t =
+      let ends : o ≡ readEnd s l (s .geometry .main) .outcome = outcome-at ∙ ap (λ (x : End). x .outcome) (read-ends s l _ 0 (s .geometry .main) can-read) in
+      subst (Called s) (sym line-at) (read-next s l _ 0 (s .geometry .main) can-read (read-answered s l (s .geometry .main) (sym (ap answered ends) ∙ t)))
+
+  pub kept-comes : ComesTo s (mainRead s n source) l m o
+  unfolding mainRead isPassed
+  kept-comes =
+      comes-as (λ p. sym (ap (λ (x : Source). mainRead s n x p) from))
+      (record {
+        line-is = λ cs os. line-at ∙ sym (read-line s (rowOf (s .geometry) old n) 0 (s .geometry .main) (progress l Passed cs os) l refl refl);
+        outcome-is = λ cs os. outcome-at ∙ sym (read-outcome s (rowOf (s .geometry) old n) 0 (s .geometry .main) (progress l Passed cs os) l refl refl);
+        next-called = read-called;
+      })
+
+  module _ (bytes : List ℕ) (f : bytes ≡ over (readOutputs s l row 0 (length buffer)) buffer) where
+    read : Read s l m o (rowOf (s .geometry) old n) 0 (s .geometry .main) bytes
+    read =
+        read-leaves s l (rowOf (s .geometry) old n) 0 (s .geometry .main) can-read m o buffer bytes long line-at outcome-at
+        (f ∙ ap₂ (λ (x y : ℕ). over (readOutputs s l x 0 y) buffer) row-is long)
+
+    pub kept-history : m .chip .history ≡ l .chip .history
+    kept-history = read .same-history
+
+    pub kept-main : isPassed o ≡ true → bytes ≡ mainOf (s .geometry) (l .chip .array) n source
+    unfolding mainOf
+    kept-main t =
+        read .bytes-are t
+        ∙ sym (take-take (s .geometry .main) (pageSize (s .geometry)) (drop (rowOf (s .geometry) old n * pageSize (s .geometry) + 0) (l .chip .array)) (omega arith))
+        ∙ ap (take (s .geometry .main)) (row-is-page (s .geometry) (called .is-valid) (l .chip .array) old n page-below)
+        ∙ sym (ap (mainOf (s .geometry) (l .chip .array) n) from)
+
+-- once an operation has not passed nothing is read
+pub main-stopped : (s : Setting) (n : ℕ) (source : Source) (p : Progress) → isPassed (p .outcome) ≡ false → mainRead s n source p ≡ p
+unfolding mainRead
+main-stopped s n (given main) p f = refl
+main-stopped s n (kept old) p f = read-stopped s (rowOf (s .geometry) old n) 0 (s .geometry .main) p f

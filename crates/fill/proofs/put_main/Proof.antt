@@ -1,0 +1,134 @@
+-- `fill::put_main` meets its contract. Assumes nothing.
+use Prim.Native.Nat.{ℕ, _-_}
+use mathlib.Core.List.{List}
+use mathlib.Core.Path.{refl, _∙_}
+use native.Mathlib.Omega.{arith}
+use denote.Ref.{now}
+use lib.ListN.{take, drop, replicate}
+use Rattle.array.specs.Device.{setting}
+use Rattle.bus.specs.Line.{line}
+use Rattle.fill.specs.Fill.{dataSource}
+use Rattle.fill.proofs.MainLaws.{source-given, source-kept, source-none, lent-long, put-read, put-given, put-ones, given-comes, given-main, kept-comes, kept-main, kept-history}
+use borrow.Author.Needs.{needs}
+use Rattle.fill.proofs.put_main.Statement.{statement}
+use Rattle.fill.proofs.put_main.Tie as tie
+
+sub-copy : tie.Need-sub-copy
+sub-copy c = search needs
+
+part-copy-start : tie.Need-part-copy-start
+part-copy-start c = search needs
+
+part-copy-end : tie.Need-part-copy-end
+part-copy-end c = search needs
+
+copy-requires : tie.Need-copy-requires
+copy-requires c κs =
+    let s = c .before .before .before .before .before .before .before .before .before .before in
+    omega (arith, lent-long (s .args .g .main) (now (s .args .page)) (omega (arith, s .pre .1 .1 .0)), s .pre .1 .1 .1 (c .before .if1 .taken))
+
+same-length : tie.Need-same-length
+same-length c = search needs
+
+returns : tie.Need-returns
+returns c =
+    let s = c .before .before .before .before .before .before .before .before .before .before .before .before .before in
+    let set = setting (s .args .g) (now (s .args .mask)) (now (s .args .fates)) in
+    let l = line (s .args .from) (now (s .args .array)) (now (s .args .register)) (now (s .args .history)) in
+    let source = dataSource (s .args .g) (s .args .content .old) (s .args .content .place) (now (s .args .bytes)) (s .args .place) in
+    let is = source-given (s .args .g) (s .args .content .old) (s .args .content .place) (now (s .args .bytes)) (s .args .place) (c .before .before .before .before .if1 .taken) in
+    let put = put-given (s .args .g .main) (now (s .args .page)) (omega (arith, s .pre .1 .1 .0)) _ _ (c .before .before .copy .kept .1 .0) (now (s .args .bytes)) (s .pre .1 .1 .1 (c .before .before .before .before .if1 .taken)) (c .before .before .copy .ensures) in
+    (given-comes set (s .args .place) source (now (s .args .bytes)) is l (s .pre .0), (λ t. given-main set (s .args .place) source (now (s .args .bytes)) is (now (s .args .array)) _ put, refl))
+
+row-of-requires : tie.Need-row-of-requires
+row-of-requires c κs = search needs
+
+sub-read : tie.Need-sub-read
+sub-read c = search needs
+
+part-read-start : tie.Need-part-read-start
+part-read-start c = search needs
+
+part-read-end : tie.Need-part-read-end
+part-read-end c = search needs
+
+read-requires : tie.Need-read-requires
+read-requires c κs = search needs
+
+same-length-2 : tie.Need-same-length-2
+same-length-2 c = search needs
+
+same-length-3 : tie.Need-same-length-3
+same-length-3 c = search needs
+
+same-length-4 : tie.Need-same-length-4
+same-length-4 c = search needs
+
+same-length-5 : tie.Need-same-length-5
+same-length-5 c = search needs
+
+returns-2 : tie.Need-returns-2
+returns-2 c =
+    let s = c .before .before .before .before .before .before .before .before .before .before .before .before .before .before .before .before .before .before .before .before .before .before .before .before .before in
+    let set = setting (s .args .g) (now (s .args .mask)) (now (s .args .fates)) in
+    let l = line (s .args .from) (now (s .args .array)) (now (s .args .register)) (now (s .args .history)) in
+    let old = s .args .content .old in
+    let source = dataSource (s .args .g) old (s .args .content .place) (now (s .args .bytes)) (s .args .place) in
+    let is = source-kept (s .args .g) old (s .args .content .place) (now (s .args .bytes)) (s .args .place) (c .before .before .before .before .before .before .before .before .before .before .before .before .before .before .before .before .if1 .left) (c .before .before .before .before .before .before .before .before .before .before .before .before .before .before .if2 .taken) in
+    let buffer = take (s .args .g .main - 0) (drop 0 (now (s .args .page))) in
+    let long = lent-long (s .args .g .main) (now (s .args .page)) (omega (arith, s .pre .1 .1 .0)) in
+    let d = c .before .before .before .before .before .before .before .before .read in
+    (kept-comes set l (s .pre .0) old (s .args .place) (c .before .before .before .before .before .before .before .before .before .before .before .before .before .before .if2 .taken) (s .pre .1 .0) source is (c .before .before .before .before .before .before .before .before .before .before .before .before .before .row-of .result) (c .before .before .before .before .before .before .before .before .before .before .before .before .before .row-of .ensures) buffer long _ (d .result .outcome) (d .ensures .0) (d .ensures .1 .0), (λ t. put-read (s .args .g .main) (now (s .args .page)) (omega (arith, s .pre .1 .1 .0)) _ _ (d .kept .1 .1 .1 .1 .1 .1 .1 .1 .1 .0) ∙ kept-main set l (s .pre .0) old (s .args .place) (c .before .before .before .before .before .before .before .before .before .before .before .before .before .before .if2 .taken) (s .pre .1 .0) source is (c .before .before .before .before .before .before .before .before .before .before .before .before .before .row-of .result) (c .before .before .before .before .before .before .before .before .before .before .before .before .before .row-of .ensures) buffer long _ (d .result .outcome) (d .ensures .0) (d .ensures .1 .0) _ (d .ensures .1 .1) t, kept-history set l (s .pre .0) old (s .args .place) (c .before .before .before .before .before .before .before .before .before .before .before .before .before .before .if2 .taken) (s .pre .1 .0) source is (c .before .before .before .before .before .before .before .before .before .before .before .before .before .row-of .result) (c .before .before .before .before .before .before .before .before .before .before .before .before .before .row-of .ensures) buffer long _ (d .result .outcome) (d .ensures .0) (d .ensures .1 .0) _ (d .ensures .1 .1)))
+
+sub-erase-whole : tie.Need-sub-erase-whole
+sub-erase-whole c = search needs
+
+part-erase-whole-start : tie.Need-part-erase-whole-start
+part-erase-whole-start c = search needs
+
+part-erase-whole-end : tie.Need-part-erase-whole-end
+part-erase-whole-end c = search needs
+
+erase-whole-requires : tie.Need-erase-whole-requires
+erase-whole-requires c κs = search needs
+
+same-length-6 : tie.Need-same-length-6
+same-length-6 c = search needs
+
+returns-3 : tie.Need-returns-3
+returns-3 c =
+    let s = c .before .before .before .before .before .before .before .before .before .before .before .before .before .before .before in
+    let set = setting (s .args .g) (now (s .args .mask)) (now (s .args .fates)) in
+    let l = line (s .args .from) (now (s .args .array)) (now (s .args .register)) (now (s .args .history)) in
+    let ones : List ℕ = replicate (s .args .g .main) 255 in
+    let source = dataSource (s .args .g) (s .args .content .old) (s .args .content .place) (now (s .args .bytes)) (s .args .place) in
+    let is = source-none (s .args .g) (s .args .content .old) (s .args .content .place) (now (s .args .bytes)) (s .args .place) (c .before .before .before .before .before .before .if1 .left) (c .before .before .before .before .if2 .left) in
+    let put = put-ones (s .args .g .main) (now (s .args .page)) (omega (arith, s .pre .1 .1 .0)) _ _ (c .before .before .erase-whole .kept .0) (c .before .before .erase-whole .ensures) in
+    (given-comes set (s .args .place) source ones is l (s .pre .0), (λ t. given-main set (s .args .place) source ones is (now (s .args .array)) _ put, refl))
+
+pub put-main-spec : {M : Type 1} → statement M
+put-main-spec =
+    tie.close
+    (tie.spec
+    sub-copy
+    part-copy-start
+    part-copy-end
+    copy-requires
+    same-length
+    returns
+    row-of-requires
+    sub-read
+    part-read-start
+    part-read-end
+    read-requires
+    same-length-2
+    same-length-3
+    same-length-4
+    same-length-5
+    returns-2
+    sub-erase-whole
+    part-erase-whole-start
+    part-erase-whole-end
+    erase-whole-requires
+    same-length-6
+    returns-3)

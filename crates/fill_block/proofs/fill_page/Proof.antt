@@ -1,0 +1,131 @@
+-- `fill_block::fill_page` meets its contract. Assumes nothing.
+use mathlib.Core.Bool.{false≢true}
+use mathlib.Core.Path.{sym, subst, _∙_}
+use denote.Ref.{now}
+use lib.ListN.{getD}
+use Prim.Native.Nat.{ℕ, _≤_}
+use mathlib.Core.List.{List}
+use Rattle.array.specs.Device.{setting}
+use Rattle.bus.specs.Line.{line}
+use Rattle.polling.proofs.PollLaws.{passed-by-tag, other-by-tag}
+use Rattle.fill.specs.Fill.{copy, Fillable, dataSource}
+use Rattle.fill_block.proofs.FillingLaws.{page-stops, page-programmed, page-order, step-fills, step-stops}
+use Rattle.fill.proofs.StepLaws.{passed-answered}
+use borrow.Author.Needs.{needs}
+use Rattle.fill_block.proofs.fill_page.Statement.{statement}
+use Rattle.fill_block.proofs.fill_page.Tie as tie
+
+erase-for-requires : tie.Need-erase-for-requires
+erase-for-requires c κs = search needs
+
+enum-told : tie.Need-enum-told
+enum-told c = search needs
+
+same-length : tie.Need-same-length
+same-length c = search needs
+
+same-length-2 : tie.Need-same-length-2
+same-length-2 c = search needs
+
+same-length-3 : tie.Need-same-length-3
+same-length-3 c = search needs
+
+returns : tie.Need-returns
+returns c =
+    let s = c .before .before .before .before .before .before .before .before .before .before .before .before .before .before .before .before .before .before in
+    let set = setting (s .args .g) (now (s .args .mask)) (now (s .args .fates)) in
+    let l = line (s .args .from) (now (s .args .array)) (now (s .args .register)) (now (s .args .history)) in
+    let k = copy (s .args .content .kind) (s .args .content .logical) (s .args .content .number) in
+    let source = dataSource (s .args .g) (s .args .content .old) (s .args .content .place) (now (s .args .bytes)) in
+    let f = other-by-tag _ (c .match .keys2) in
+    (step-stops set (s .args .block) k source (s .args .place) l _ (c .before .before .before .before .before .before .before .erase-for .result .outcome) (c .before .before .before .before .before .before .before .erase-for .ensures .0) f, λ t. absurd (false≢true (sym f ∙ t)))
+
+put-main-requires : tie.Need-put-main-requires
+put-main-requires c κs =
+    let s = c .before .before .before .before .before .before .before .before .before .before .before .before .before .before .before .before .before .before .before .before .before .before .before in
+    let p = passed-by-tag _ (c .before .before .before .before .before .match .keys1) in
+    (c .before .before .before .before .before .before .before .before .before .before .before .before .erase-for .ensures .0 .next-called (passed-answered _ p), (s .pre .1 .0 .place-below, (s .pre .1 .0 .page-long, s .pre .1 .1 .1)))
+
+enum-told-2 : tie.Need-enum-told-2
+enum-told-2 c = search needs
+
+same-length-4 : tie.Need-same-length-4
+same-length-4 c = search needs
+
+same-length-5 : tie.Need-same-length-5
+same-length-5 c = search needs
+
+same-length-6 : tie.Need-same-length-6
+same-length-6 c = search needs
+
+same-length-7 : tie.Need-same-length-7
+same-length-7 c = search needs
+
+returns-2 : tie.Need-returns-2
+returns-2 c =
+    let s = c .before .before .before .before .before .before .before .before .before .before .before .before .before .before .before .before .before .before .before .before .before .before .before .before .before .before .before .before .before .before .before .before .before in
+    let set = setting (s .args .g) (now (s .args .mask)) (now (s .args .fates)) in
+    let l = line (s .args .from) (now (s .args .array)) (now (s .args .register)) (now (s .args .history)) in
+    let k = copy (s .args .content .kind) (s .args .content .logical) (s .args .content .number) in
+    let source = dataSource (s .args .g) (s .args .content .old) (s .args .content .place) (now (s .args .bytes)) in
+    let p = passed-by-tag _ (c .before .before .before .before .before .before .before .before .before .before .before .before .before .before .before .match .keys1) in
+    let f = other-by-tag _ (c .match2 .keys2) in
+    let page = page-stops set (s .args .block) k (s .args .place) (source (s .args .place)) _ _ (c .before .before .before .before .before .before .before .before .before .put-main .result .outcome) (c .before .before .before .before .before .before .before .before .before .put-main .ensures .0) f in
+    (step-fills set (s .args .block) k source (s .args .place) l _ (c .before .before .before .before .before .before .before .before .before .before .before .before .before .before .before .before .before .before .before .before .before .before .erase-for .result .outcome) (c .before .before .before .before .before .before .before .before .before .before .before .before .before .before .before .before .before .before .before .before .before .before .erase-for .ensures .0) p _ (c .before .before .before .before .before .before .before .before .before .put-main .result .outcome) page, λ t. absurd (false≢true (sym f ∙ t)))
+
+program-page-requires : tie.Need-program-page-requires
+program-page-requires c κs =
+    let f = c .before .before .before .before .before .before .before .before .before .before .before .before .before .before .before .before .before .before .before .before .before .before .before .before .before .before .before .before .before .before .before .before .before .before .before .before .before .before .pre .1 .0 in
+    record { is-valid = f .is-valid; block-below = f .block-below; place-below = f .place-below; width-four = f .width-four; logical-fits = f .logical-fits; number-fits = f .number-fits; page-long = c .before .before .before .before .before .before .before .page .given ∙ f .page-long }
+
+same-length-8 : tie.Need-same-length-8
+same-length-8 c = c .before .before .before .before .before .before .before .array3 .given ∙ c .before .before .before .before .before .before .before .before .before .before .before .before .before .before .before .before .before .before .before .before .before .before .array2 .given ∙ c .before .before .before .before .before .before .before .before .before .before .before .before .before .before .before .before .before .before .before .before .before .before .before .before .before .before .before .before .before .before .before .before .before .before .before .array .given
+
+same-length-9 : tie.Need-same-length-9
+same-length-9 c = c .before .before .before .before .before .register3 .given ∙ c .before .before .before .before .before .before .before .before .before .before .before .before .before .before .before .before .before .before .before .before .register2 .given ∙ c .before .before .before .before .before .before .before .before .before .before .before .before .before .before .before .before .before .before .before .before .before .before .before .before .before .before .before .before .before .before .before .before .before .register .given
+
+same-length-10 : tie.Need-same-length-10
+same-length-10 c = c .before .before .before .history3 .given ∙ c .before .before .before .before .before .before .before .before .before .before .before .before .before .before .before .before .before .before .history2 .given ∙ c .before .before .before .before .before .before .before .before .before .before .before .before .before .before .before .before .before .before .before .before .before .before .before .before .before .before .before .before .before .before .before .history .given
+
+same-length-11 : tie.Need-same-length-11
+same-length-11 c = c .before .page2 .given ∙ c .before .before .before .before .before .before .before .before .before .before .before .before .before .before .before .before .page .given
+
+returns-3 : tie.Need-returns-3
+returns-3 c =
+    let s = c .before .before .before .before .before .before .before .before .before .before .before .before .before .before .before .before .before .before .before .before .before .before .before .before .before .before .before .before .before .before .before .before .before .before .before .before .before .before .before .before .before .before .before .before .before .before .before in
+    let set = setting (s .args .g) (now (s .args .mask)) (now (s .args .fates)) in
+    let l = line (s .args .from) (now (s .args .array)) (now (s .args .register)) (now (s .args .history)) in
+    let k = copy (s .args .content .kind) (s .args .content .logical) (s .args .content .number) in
+    let source = dataSource (s .args .g) (s .args .content .old) (s .args .content .place) (now (s .args .bytes)) in
+    let d = c .before .before .before .before .before .before .before .before .before .before .before .before .before .before .before .before .before .before .before .before .before .before .before .put-main in
+    let p₀ = passed-by-tag _ (c .before .before .before .before .before .before .before .before .before .before .before .before .before .before .before .before .before .before .before .before .before .before .before .before .before .before .before .before .before .match .keys1) in
+    let p₁ = passed-by-tag _ (c .before .before .before .before .before .before .before .before .before .before .before .before .before .before .match2 .keys1) in
+    let f = s .pre .1 .0 in
+    let fillable : Fillable (s .args .g) (s .args .block) (s .args .place) (s .args .content .kind) (s .args .content .logical) (s .args .content .number) _ = record { is-valid = f .is-valid; block-below = f .block-below; place-below = f .place-below; width-four = f .width-four; logical-fits = f .logical-fits; number-fits = f .number-fits; page-long = c .before .before .before .before .before .before .before .before .before .before .before .before .before .before .before .before .page .given ∙ f .page-long } in
+    let order = subst (λ (x : List ℕ). getD x (s .args .block) 0 ≤ s .args .place) (sym (d .ensures .1 .1)) (c .before .before .before .before .before .before .before .before .before .before .before .before .before .before .before .before .before .before .before .before .before .before .before .before .before .before .before .before .before .before .before .before .before .before .before .before .erase-for .ensures .1 p₀) in
+    let page = page-programmed set (s .args .block) k (s .args .place) (source (s .args .place)) _ _ (d .result .outcome) (d .ensures .0) p₁ _ fillable (d .ensures .1 .0 p₁) order _ (c .before .before .before .before .before .before .before .before .program-page .result .outcome) (c .before .before .before .before .before .before .before .before .program-page .ensures .0) (c .before .before .before .before .before .before .before .before .program-page .ensures .1) in
+    (step-fills set (s .args .block) k source (s .args .place) l _ (c .before .before .before .before .before .before .before .before .before .before .before .before .before .before .before .before .before .before .before .before .before .before .before .before .before .before .before .before .before .before .before .before .before .before .before .before .erase-for .result .outcome) (c .before .before .before .before .before .before .before .before .before .before .before .before .before .before .before .before .before .before .before .before .before .before .before .before .before .before .before .before .before .before .before .before .before .before .before .before .erase-for .ensures .0) p₀ _ (c .before .before .before .before .before .before .before .before .program-page .result .outcome) page, page-order set (s .args .block) k (s .args .place) (source (s .args .place)) _ _ (d .result .outcome) (d .ensures .0) p₁ _ fillable (d .ensures .1 .0 p₁) order _ (c .before .before .before .before .before .before .before .before .program-page .result .outcome) (c .before .before .before .before .before .before .before .before .program-page .ensures .0) (c .before .before .before .before .before .before .before .before .program-page .ensures .1))
+
+pub fill-page-spec : {M : Type 1} → statement M
+fill-page-spec =
+    tie.close
+    (tie.spec
+    erase-for-requires
+    enum-told
+    same-length
+    same-length-2
+    same-length-3
+    returns
+    put-main-requires
+    enum-told-2
+    same-length-4
+    same-length-5
+    same-length-6
+    same-length-7
+    returns-2
+    program-page-requires
+    same-length-8
+    same-length-9
+    same-length-10
+    same-length-11
+    returns-3)

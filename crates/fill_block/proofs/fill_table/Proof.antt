@@ -1,0 +1,87 @@
+-- `fill_block::fill_table` meets its contract. Assumes nothing.
+use Prim.Native.Nat.{ℕ, _-_}
+use mathlib.Core.Path.{refl, ap, _∙_}
+use native.Mathlib.Omega.{arith}
+use denote.Ref.{now}
+use lib.ListN.{drop, replicate}
+use Rattle.array.specs.Device.{setting}
+use Rattle.pages.specs.Layout.{numberWidth}
+use Rattle.copies.specs.Table.{tablePage}
+use Rattle.fill.specs.Fill.{Source, filled, tableCopy}
+use Rattle.fill.proofs.ComesLaws.{comes-as}
+use Rattle.fill.proofs.MainLaws.{lent-long, put-fits, put-lent, table-source}
+use Rattle.fill.proofs.PageLaws.{first-room}
+use borrow.Author.Needs.{needs}
+use Rattle.fill_block.proofs.fill_table.Statement.{statement}
+use Rattle.fill_block.proofs.fill_table.Tie as tie
+
+sub-build-first : tie.Need-sub-build-first
+sub-build-first c = search needs
+
+part-first-start : tie.Need-part-first-start
+part-first-start c = search needs
+
+part-first-end : tie.Need-part-first-end
+part-first-end c = search needs
+
+build-first-requires : tie.Need-build-first-requires
+build-first-requires c κs = search needs
+
+sub-fill-copy : tie.Need-sub-fill-copy
+sub-fill-copy c = search needs
+
+part-fill-copy-start : tie.Need-part-fill-copy-start
+part-fill-copy-start c = search needs
+
+part-fill-copy-end : tie.Need-part-fill-copy-end
+part-fill-copy-end c =
+    let g = c .before .before .before .before .before .before .before .before .before .before .before .before .before .before .args .g in
+    put-fits (g .main) (replicate 4096 0) (first-room g (c .before .before .before .before .before .before .before .before .before .before .before .before .before .before .pre .0 .is-valid)) (c .before .before .before .before .before .build-first .last .0) (drop (g .main - 0) (replicate 4096 0)) (c .before .before .before .before .before .build-first .kept .0)
+
+fill-copy-requires : tie.Need-fill-copy-requires
+unfolding numberWidth
+fill-copy-requires c κs =
+    let s = c .before .before .before .before .before .before .before .before .before .before .before .before .before .before .before .before in
+    let g = s .args .g in
+    let v = s .pre .0 .is-valid in
+    (s .pre .0, (record { is-valid = v; block-below = s .pre .1 .0; place-below = omega (arith, v .pages-least); width-four = refl; logical-fits = omega arith; number-fits = s .pre .1 .1 .0; page-long = s .pre .1 .1 .1 }, λ h. lent-long (g .main) _ (put-fits (g .main) (replicate 4096 0) (first-room g v) (c .before .before .before .before .before .before .before .build-first .last .0) (drop (g .main - 0) (replicate 4096 0)) (c .before .before .before .before .before .before .before .build-first .kept .0))))
+
+same-length : tie.Need-same-length
+same-length c = search needs
+
+same-length-2 : tie.Need-same-length-2
+same-length-2 c = search needs
+
+same-length-3 : tie.Need-same-length-3
+same-length-3 c = search needs
+
+same-length-4 : tie.Need-same-length-4
+same-length-4 c = search needs
+
+returns : tie.Need-returns
+returns c =
+    let s = c .before .before .before .before .before .before .before .before .before .before .before .before .before .before .before .before .before .before .before .before .before .before .before .before .before in
+    let g = s .args .g in
+    let set = setting g (now (s .args .mask)) (now (s .args .fates)) in
+    let room = first-room g (s .pre .0 .is-valid) in
+    let bytes = put-lent (g .main) (replicate 4096 0) room _ _ (c .before .before .before .before .before .before .before .before .before .before .before .before .before .before .before .before .build-first .kept .0) ∙ c .before .before .before .before .before .before .before .before .before .before .before .before .before .before .before .before .build-first .ensures ∙ ap (λ (k : ℕ). tablePage k (g .blocks) (g .logical) (now (s .args .invalid))) (lent-long (g .main) (replicate 4096 0) room) in
+    let source = table-source g 65535 (omega (arith, s .pre .0 .is-valid .blocks-most)) (now (s .args .invalid)) _ bytes in
+    comes-as (λ p. ap (λ (x : ℕ → Source). filled set (s .args .block) (tableCopy (s .args .number)) x p) source) (c .before .before .before .before .before .before .before .before .fill-copy .ensures)
+
+pub fill-table-spec : {M : Type 1} → statement M
+fill-table-spec =
+    tie.close
+    (tie.spec
+    sub-build-first
+    part-first-start
+    part-first-end
+    build-first-requires
+    sub-fill-copy
+    part-fill-copy-start
+    part-fill-copy-end
+    fill-copy-requires
+    same-length
+    same-length-2
+    same-length-3
+    same-length-4
+    returns)
