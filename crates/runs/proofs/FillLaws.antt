@@ -24,7 +24,7 @@ use Rattle.pages.specs.Over.{Over, none, more}
 use Rattle.pages.proofs.OverLaws.{over-refl, programmed-over}
 use Rattle.copies.specs.Blocks.{blockIn, pageIn, mainIn}
 use Rattle.scan.specs.Progress.{Progress, readOn}
-use Rattle.fill.specs.Fill.{Copy, Source, kept, pageOf, pageFilled, pagesFilled, filled}
+use Rattle.fill.specs.Fill.{Copy, Source, kept, pageOf, mainOf, mainRead, pageFilled, pagesFilled, filled}
 use Rattle.fill.specs.Steps.{eraseOn, programOn}
 use Rattle.fill.proofs.StepLaws.{passed-answered, program-stopped}
 use Rattle.fill.proofs.FillLaws.{fill-stopped}
@@ -179,7 +179,7 @@ module _ (s : Setting) (p : Progress) (block : ℕ) (below : block < s .geometry
           (weaker (omega arith) (after-stop q n k r t fetched fetch-unchanged (readMost (s .geometry .main)) fetch-spends f)))
 
     provided-next : (from : Source) (page : List ℕ) → Provides (s .geometry) (p .line .chip .array) block c n from page → page ≡ pages n → Filled s p (pageFilled s block c n from q) block pages (suc n) (k + pageMost (s .geometry))
-    unfolding pageFilled
+    unfolding pageFilled mainOf mainRead
     provided-next from page (from-caller main) e =
         subst (λ (x : List ℕ). Filled s p (programOn s block n x q) block pages (suc n) (k + pageMost (s .geometry))) (sym e) (weaker (omega arith) (program-next q n page-below k r t))
     provided-next from page (from-copy old old-below x) e =

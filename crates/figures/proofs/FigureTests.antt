@@ -1,0 +1,87 @@
+-- The paper's figures on the small chip, computed from the definitions. Assumes nothing.
+use mathlib.Core.List.{[], _∷_}
+use mathlib.Core.Path.{_≡_, refl}
+use lib.Count.{ones}
+use lib.ListN.{length, replicate, set}
+use Rattle.interface.specs.Interface.{begun, statusMode, readMode, plainCommand, addressFits, latched, addressed, fateWord, nextFate, started, statusByte}
+use Rattle.array.specs.Device.{setting, fitting, readStarted, programStarted, eraseStarted, completed}
+use Rattle.chip.specs.Chip.{isConfirm, confirmed, confirmable, commanded, dataTaken, dataGiven, dataByte, finished, statusRead, exec}
+use Rattle.cells.specs.Cells.{programmed, weakened, raised}
+use Rattle.cells.specs.Part.{put}
+use Rattle.bus.specs.Line.{mayGo, cutAfter, send, byteOut, sendAll, sent, goesOn}
+use Rattle.polling.specs.Polling.{waiting, polls, outcomeOf, isPassed, endedAs}
+use Rattle.sequences.specs.Cycles.{readCycles, readOutcome, outputs, readOutputs}
+use Rattle.operations.specs.Trace.{startedBy}
+use Rattle.scan.specs.Progress.{readOn, resetOn}
+use Rattle.scan.specs.Scan.{pagesRead, blocksRead}
+use Rattle.calls.specs.Call.{callLine, sized, stopAnswer}
+use Rattle.bitmaps.specs.Bitmap.{bitAt, withBit, countBits, clearFrom, neverBoth}
+use Rattle.pages.specs.Check.{zeroBits}
+use Rattle.pages.specs.Layout.{numberWidth, bytesOf, numberOf, labelBytes, encoded, kindOf, labelOf, allOnes, storedCheck, countedCheck, whole}
+use Rattle.copies.specs.Blocks.{isMarked, aboveTo, agrees, completeTo, isComplete, isTable, isData, isCopyOf, above}
+use Rattle.found.specs.Found.{marksTo}
+use Rattle.marks.specs.Marks.{marksRead}
+use Rattle.erasing.specs.Round.{afterErase, blockErased, failedAt, aboveAt, erasedTo}
+use Rattle.fill.specs.Steps.{eraseOn, programOn, isFailed}
+use Rattle.fill.specs.Fill.{mainOf, mainRead, pageFilled, pagesFilled, tableMain}
+use Rattle.state.specs.Choose.{permitted, searchAfter}
+use Rattle.state.specs.State.{blank, countPermitted, copyBits, emptyFrom, soundFrom, soundEntries, mounted, freeBlocks}
+use Rattle.tables.specs.Tables.{stateAfter, tryBlock, tryTable, endAnswer, endState, tablesFilled}
+use Rattle.format.specs.Format.{firstState, tooFew, tablesRun, roundRun, marksRun, formatting}
+use Rattle.copies.specs.Current.{currentTable, currentCopy, aboveAll, nextNumber, filledLast, sharesNumber, clashesAt, clashes, judgeTable, mountAnswer}
+use Rattle.copies.specs.Pick.{better, pick, someBelow}
+use Rattle.mount.specs.Mount.{mountRun}
+use Rattle.copies.specs.Table as table
+use Rattle.figures.specs.Figures as bench
+use Rattle.figures.specs.Figures.{figures, given, paper}
+
+-- every starred case is as the paper says
+pub figures-agree : given figures ≡ paper figures
+unfolding given paper ones begun statusMode readMode plainCommand addressFits latched addressed fateWord nextFate started statusByte fitting readStarted programStarted eraseStarted completed isConfirm confirmed confirmable commanded dataTaken dataGiven dataByte finished statusRead exec programmed weakened raised put mayGo cutAfter send byteOut sendAll sent goesOn waiting polls outcomeOf isPassed endedAs readCycles readOutcome outputs readOutputs startedBy readOn resetOn pagesRead blocksRead sized stopAnswer bitAt withBit countBits zeroBits numberWidth bytesOf numberOf labelBytes encoded kindOf labelOf allOnes storedCheck countedCheck whole isMarked aboveTo marksTo marksRead afterErase blockErased failedAt aboveAt erasedTo eraseOn programOn isFailed mainOf mainRead pageFilled pagesFilled tableMain permitted searchAfter countPermitted stateAfter tryBlock tryTable endAnswer endState tablesFilled firstState tooFew tablesRun roundRun marksRun formatting table.tablePage
+figures-agree = refl
+
+-- a formatting, all FFh at the start
+format-sends : bench.bench (bench.formatted []) ≡ 0 ∷ 354 ∷ 3 ∷ []
+unfolding ones begun statusMode readMode plainCommand addressFits latched addressed fateWord nextFate started statusByte fitting readStarted programStarted eraseStarted completed isConfirm confirmed confirmable commanded dataTaken dataGiven dataByte finished statusRead exec programmed weakened raised put mayGo cutAfter send byteOut sendAll sent goesOn waiting polls outcomeOf isPassed endedAs readCycles readOutcome outputs readOutputs startedBy readOn resetOn pagesRead blocksRead sized stopAnswer bitAt withBit countBits zeroBits numberWidth bytesOf numberOf labelBytes encoded kindOf labelOf allOnes storedCheck countedCheck whole isMarked aboveTo marksTo marksRead afterErase blockErased failedAt aboveAt erasedTo eraseOn programOn isFailed mainOf mainRead pageFilled pagesFilled tableMain permitted searchAfter countPermitted stateAfter tryBlock tryTable endAnswer endState tablesFilled firstState tooFew tablesRun roundRun marksRun formatting table.tablePage copyBits freeBlocks mounted clearFrom neverBoth emptyFrom soundFrom soundEntries
+format-sends = refl
+
+format-table : bench.formatted [] .chip .array ≡ bench.tableArray
+unfolding ones begun statusMode readMode plainCommand addressFits latched addressed fateWord nextFate started statusByte fitting readStarted programStarted eraseStarted completed isConfirm confirmed confirmable commanded dataTaken dataGiven dataByte finished statusRead exec programmed weakened raised put mayGo cutAfter send byteOut sendAll sent goesOn waiting polls outcomeOf isPassed endedAs readCycles readOutcome outputs readOutputs startedBy readOn resetOn pagesRead blocksRead sized stopAnswer bitAt withBit countBits zeroBits numberWidth bytesOf numberOf labelBytes encoded kindOf labelOf allOnes storedCheck countedCheck whole isMarked aboveTo marksTo marksRead afterErase blockErased failedAt aboveAt erasedTo eraseOn programOn isFailed mainOf mainRead pageFilled pagesFilled tableMain permitted searchAfter countPermitted stateAfter tryBlock tryTable endAnswer endState tablesFilled firstState tooFew tablesRun roundRun marksRun formatting table.tablePage
+format-table = refl
+
+-- one cycle fewer allowed
+format-cut : formatting (bench.call []) (bench.chipWith (replicate 768 255)) 353 (blank 0) .answer ≡ 11
+unfolding ones begun statusMode readMode plainCommand addressFits latched addressed fateWord nextFate started statusByte fitting readStarted programStarted eraseStarted completed isConfirm confirmed confirmable commanded dataTaken dataGiven dataByte finished statusRead exec programmed weakened raised put mayGo cutAfter send byteOut sendAll sent goesOn waiting polls outcomeOf isPassed endedAs readCycles readOutcome outputs readOutputs startedBy readOn resetOn pagesRead blocksRead sized stopAnswer bitAt withBit countBits zeroBits numberWidth bytesOf numberOf labelBytes encoded kindOf labelOf allOnes storedCheck countedCheck whole isMarked aboveTo marksTo marksRead afterErase blockErased failedAt aboveAt erasedTo eraseOn programOn isFailed mainOf mainRead pageFilled pagesFilled tableMain permitted searchAfter countPermitted stateAfter tryBlock tryTable endAnswer endState tablesFilled firstState tooFew tablesRun roundRun marksRun formatting table.tablePage
+format-cut = refl
+
+-- one marked block of four
+format-marked : bench.bench (formatting (bench.call []) (bench.chipWith (set (replicate 768 255) 416 0)) 10000 (blank 0)) ≡ 8 ∷ 112 ∷ 0 ∷ []
+unfolding ones begun statusMode readMode plainCommand addressFits latched addressed fateWord nextFate started statusByte fitting readStarted programStarted eraseStarted completed isConfirm confirmed confirmable commanded dataTaken dataGiven dataByte finished statusRead exec programmed weakened raised put mayGo cutAfter send byteOut sendAll sent goesOn waiting polls outcomeOf isPassed endedAs readCycles readOutcome outputs readOutputs startedBy readOn resetOn pagesRead blocksRead sized stopAnswer bitAt withBit countBits zeroBits numberWidth bytesOf numberOf labelBytes encoded kindOf labelOf allOnes storedCheck countedCheck whole isMarked aboveTo marksTo marksRead afterErase blockErased failedAt aboveAt erasedTo eraseOn programOn isFailed mainOf mainRead pageFilled pagesFilled tableMain permitted searchAfter countPermitted stateAfter tryBlock tryTable endAnswer endState tablesFilled firstState tooFew tablesRun roundRun marksRun formatting table.tablePage copyBits freeBlocks mounted clearFrom neverBoth emptyFrom soundFrom soundEntries
+format-marked = refl
+
+-- three logical blocks on four blocks
+format-wide : bench.bench (formatting (setting (record { main = 32; spare = 16; pages = 4; blocks = 4; logical = 3 }) (replicate 192 0) []) (bench.chipWith (replicate 768 255)) 10000 (blank 0)) ≡ 1 ∷ 0 ∷ 0 ∷ []
+unfolding ones begun statusMode readMode plainCommand addressFits latched addressed fateWord nextFate started statusByte fitting readStarted programStarted eraseStarted completed isConfirm confirmed confirmable commanded dataTaken dataGiven dataByte finished statusRead exec programmed weakened raised put mayGo cutAfter send byteOut sendAll sent goesOn waiting polls outcomeOf isPassed endedAs readCycles readOutcome outputs readOutputs startedBy readOn resetOn pagesRead blocksRead sized stopAnswer bitAt withBit countBits zeroBits numberWidth bytesOf numberOf labelBytes encoded kindOf labelOf allOnes storedCheck countedCheck whole isMarked aboveTo marksTo marksRead afterErase blockErased failedAt aboveAt erasedTo eraseOn programOn isFailed mainOf mainRead pageFilled pagesFilled tableMain permitted searchAfter countPermitted stateAfter tryBlock tryTable endAnswer endState tablesFilled firstState tooFew tablesRun roundRun marksRun formatting table.tablePage copyBits freeBlocks mounted clearFrom neverBoth emptyFrom soundFrom soundEntries
+format-wide = refl
+
+-- a mount of what was formatted: 16 pages of 48 bytes and the reset
+mount-sends : length (mountRun (bench.call []) (callLine (bench.chipWith bench.tableArray) 10000) .cycles) ≡ 931
+unfolding ones begun statusMode readMode plainCommand addressFits latched addressed fateWord nextFate started statusByte fitting readStarted programStarted eraseStarted completed isConfirm confirmed confirmable commanded dataTaken dataGiven dataByte finished statusRead exec programmed weakened raised put mayGo cutAfter send byteOut sendAll sent goesOn waiting polls outcomeOf isPassed endedAs readCycles readOutcome outputs readOutputs startedBy readOn resetOn pagesRead blocksRead sized stopAnswer bitAt withBit countBits zeroBits numberWidth bytesOf numberOf labelBytes encoded kindOf labelOf allOnes storedCheck countedCheck whole isMarked aboveTo marksTo marksRead afterErase blockErased failedAt aboveAt erasedTo eraseOn programOn isFailed mainOf mainRead pageFilled pagesFilled tableMain permitted searchAfter countPermitted stateAfter tryBlock tryTable endAnswer endState tablesFilled firstState tooFew tablesRun roundRun marksRun formatting table.tablePage
+mount-sends = refl
+
+-- mounts answered 0, 4, 5 and 6: the table, an erased chip, the table of another geometry, a copy of a block that is none
+mount-done : mountAnswer bench.small bench.tableArray ≡ 0
+unfolding agrees completeTo isComplete isTable isData isCopyOf above isMarked aboveTo currentTable currentCopy aboveAll nextNumber filledLast sharesNumber clashesAt clashes judgeTable mountAnswer better pick someBelow table.clearWhere table.rightFirst table.rightPage table.rightTo table.rightTable table.tablePage tableMain put numberWidth bytesOf numberOf labelBytes encoded kindOf labelOf allOnes storedCheck countedCheck whole zeroBits ones bitAt withBit countBits clearFrom
+mount-done = refl
+
+mount-none : mountAnswer bench.small (replicate 768 255) ≡ 4
+unfolding agrees completeTo isComplete isTable isData isCopyOf above isMarked aboveTo currentTable currentCopy aboveAll nextNumber filledLast sharesNumber clashesAt clashes judgeTable mountAnswer better pick someBelow table.clearWhere table.rightFirst table.rightPage table.rightTo table.rightTable table.tablePage tableMain put numberWidth bytesOf numberOf labelBytes encoded kindOf labelOf allOnes storedCheck countedCheck whole zeroBits ones bitAt withBit countBits clearFrom
+mount-none = refl
+
+mount-wrong : mountAnswer (record { main = 32; spare = 16; pages = 4; blocks = 4; logical = 1 }) bench.tableArray ≡ 5
+unfolding agrees completeTo isComplete isTable isData isCopyOf above isMarked aboveTo currentTable currentCopy aboveAll nextNumber filledLast sharesNumber clashesAt clashes judgeTable mountAnswer better pick someBelow table.clearWhere table.rightFirst table.rightPage table.rightTo table.rightTable table.tablePage tableMain put numberWidth bytesOf numberOf labelBytes encoded kindOf labelOf allOnes storedCheck countedCheck whole zeroBits ones bitAt withBit countBits clearFrom
+mount-wrong = refl
+
+mount-clash : mountAnswer bench.small (bench.copyArray 1 2 2) ≡ 6
+unfolding agrees completeTo isComplete isTable isData isCopyOf above isMarked aboveTo currentTable currentCopy aboveAll nextNumber filledLast sharesNumber clashesAt clashes judgeTable mountAnswer better pick someBelow table.clearWhere table.rightFirst table.rightPage table.rightTo table.rightTable table.tablePage tableMain put numberWidth bytesOf numberOf labelBytes encoded kindOf labelOf allOnes storedCheck countedCheck whole zeroBits ones bitAt withBit countBits clearFrom
+mount-clash = refl

@@ -1,0 +1,1 @@
+// The paper's figures on the small chip, as the definitions give them. No code.
