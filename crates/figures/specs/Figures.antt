@@ -66,7 +66,7 @@ figures =
     ∷ figure (columnBytes 2048) (0 ∷ 8 ∷ [])
     ∷ figure (storedCheck 32 dataPage ∷ wholeAs dataPage ∷ []) (61 ∷ 1 ∷ [])
     ∷ figure (wholeAs raisedPage ∷ []) (0 ∷ [])
-    ∷ figure (storedCheck 32 tablePage ∷ wholeAs tablePage ∷ []) (129 ∷ 1 ∷ [])
+    ∷ figure (storedCheck 32 tablePage ∷ []) (129 ∷ [])
     ∷ figure (wholeAs (replicate 48 255) ∷ []) (0 ∷ [])
     ∷ figure (formatted (255 ∷ []) .answer ∷ []) (0 ∷ [])
     ∷ figure (formatted (256 ∷ []) .answer ∷ []) (10 ∷ [])
