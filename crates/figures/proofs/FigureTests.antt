@@ -41,9 +41,13 @@ unfolding given paper ones begun statusMode readMode plainCommand addressFits la
 figures-agree = refl
 
 -- a formatting, all FFh at the start
-format-sends : bench.bench (bench.formatted []) ≡ 0 ∷ 354 ∷ 3 ∷ []
-unfolding ones begun statusMode readMode plainCommand addressFits latched addressed fateWord nextFate started statusByte fitting readStarted programStarted eraseStarted completed isConfirm confirmed confirmable commanded dataTaken dataGiven dataByte finished statusRead exec programmed weakened raised put mayGo cutAfter send byteOut sendAll sent goesOn waiting polls outcomeOf isPassed endedAs readCycles readOutcome outputs readOutputs startedBy readOn resetOn pagesRead blocksRead sized stopAnswer bitAt withBit countBits zeroBits numberWidth bytesOf numberOf labelBytes encoded kindOf labelOf allOnes storedCheck countedCheck whole isMarked aboveTo marksTo marksRead afterErase blockErased failedAt aboveAt erasedTo eraseOn programOn isFailed mainOf mainRead pageFilled pagesFilled tableMain permitted searchAfter countPermitted stateAfter tryBlock tryTable endAnswer endState tablesFilled firstState tooFew tablesRun roundRun marksRun formatting table.tablePage copyBits freeBlocks mounted clearFrom neverBoth emptyFrom soundFrom soundEntries
+format-sends : bench.bench (bench.formatted []) ≡ 0 ∷ 354 ∷ []
+unfolding ones begun statusMode readMode plainCommand addressFits latched addressed fateWord nextFate started statusByte fitting readStarted programStarted eraseStarted completed isConfirm confirmed confirmable commanded dataTaken dataGiven dataByte finished statusRead exec programmed weakened raised put mayGo cutAfter send byteOut sendAll sent goesOn waiting polls outcomeOf isPassed endedAs readCycles readOutcome outputs readOutputs startedBy readOn resetOn pagesRead blocksRead sized stopAnswer bitAt withBit countBits zeroBits numberWidth bytesOf numberOf labelBytes encoded kindOf labelOf allOnes storedCheck countedCheck whole isMarked aboveTo marksTo marksRead afterErase blockErased failedAt aboveAt erasedTo eraseOn programOn isFailed mainOf mainRead pageFilled pagesFilled tableMain permitted searchAfter countPermitted stateAfter tryBlock tryTable endAnswer endState tablesFilled firstState tooFew tablesRun roundRun marksRun formatting table.tablePage
 format-sends = refl
+
+format-state : bench.formatted [] .state ≡ bench.formattedState
+unfolding ones begun statusMode readMode plainCommand addressFits latched addressed fateWord nextFate started statusByte fitting readStarted programStarted eraseStarted completed isConfirm confirmed confirmable commanded dataTaken dataGiven dataByte finished statusRead exec programmed weakened raised put mayGo cutAfter send byteOut sendAll sent goesOn waiting polls outcomeOf isPassed endedAs readCycles readOutcome outputs readOutputs startedBy readOn resetOn pagesRead blocksRead sized stopAnswer bitAt withBit countBits zeroBits numberWidth bytesOf numberOf labelBytes encoded kindOf labelOf allOnes storedCheck countedCheck whole isMarked aboveTo marksTo marksRead afterErase blockErased failedAt aboveAt erasedTo eraseOn programOn isFailed mainOf mainRead pageFilled pagesFilled tableMain permitted searchAfter countPermitted stateAfter tryBlock tryTable endAnswer endState tablesFilled firstState tooFew tablesRun roundRun marksRun formatting table.tablePage
+format-state = refl
 
 format-table : bench.formatted [] .chip .array ≡ bench.tableArray
 unfolding ones begun statusMode readMode plainCommand addressFits latched addressed fateWord nextFate started statusByte fitting readStarted programStarted eraseStarted completed isConfirm confirmed confirmable commanded dataTaken dataGiven dataByte finished statusRead exec programmed weakened raised put mayGo cutAfter send byteOut sendAll sent goesOn waiting polls outcomeOf isPassed endedAs readCycles readOutcome outputs readOutputs startedBy readOn resetOn pagesRead blocksRead sized stopAnswer bitAt withBit countBits zeroBits numberWidth bytesOf numberOf labelBytes encoded kindOf labelOf allOnes storedCheck countedCheck whole isMarked aboveTo marksTo marksRead afterErase blockErased failedAt aboveAt erasedTo eraseOn programOn isFailed mainOf mainRead pageFilled pagesFilled tableMain permitted searchAfter countPermitted stateAfter tryBlock tryTable endAnswer endState tablesFilled firstState tooFew tablesRun roundRun marksRun formatting table.tablePage
@@ -55,12 +59,12 @@ unfolding ones begun statusMode readMode plainCommand addressFits latched addres
 format-cut = refl
 
 -- one marked block of four
-format-marked : bench.bench (formatting (bench.call []) (bench.chipWith (set (replicate 768 255) 416 0)) 10000 (blank 0)) ≡ 8 ∷ 112 ∷ 0 ∷ []
+format-marked : bench.bench (formatting (bench.call []) (bench.chipWith (set (replicate 768 255) 416 0)) 10000 (blank 0)) ≡ 8 ∷ 112 ∷ []
 unfolding ones begun statusMode readMode plainCommand addressFits latched addressed fateWord nextFate started statusByte fitting readStarted programStarted eraseStarted completed isConfirm confirmed confirmable commanded dataTaken dataGiven dataByte finished statusRead exec programmed weakened raised put mayGo cutAfter send byteOut sendAll sent goesOn waiting polls outcomeOf isPassed endedAs readCycles readOutcome outputs readOutputs startedBy readOn resetOn pagesRead blocksRead sized stopAnswer bitAt withBit countBits zeroBits numberWidth bytesOf numberOf labelBytes encoded kindOf labelOf allOnes storedCheck countedCheck whole isMarked aboveTo marksTo marksRead afterErase blockErased failedAt aboveAt erasedTo eraseOn programOn isFailed mainOf mainRead pageFilled pagesFilled tableMain permitted searchAfter countPermitted stateAfter tryBlock tryTable endAnswer endState tablesFilled firstState tooFew tablesRun roundRun marksRun formatting table.tablePage copyBits freeBlocks mounted clearFrom neverBoth emptyFrom soundFrom soundEntries
 format-marked = refl
 
 -- three logical blocks on four blocks
-format-wide : bench.bench (formatting (setting (record { main = 32; spare = 16; pages = 4; blocks = 4; logical = 3 }) (replicate 192 0) []) (bench.chipWith (replicate 768 255)) 10000 (blank 0)) ≡ 1 ∷ 0 ∷ 0 ∷ []
+format-wide : bench.bench (formatting (setting (record { main = 32; spare = 16; pages = 4; blocks = 4; logical = 3 }) (replicate 192 0) []) (bench.chipWith (replicate 768 255)) 10000 (blank 0)) ≡ 1 ∷ 0 ∷ []
 unfolding ones begun statusMode readMode plainCommand addressFits latched addressed fateWord nextFate started statusByte fitting readStarted programStarted eraseStarted completed isConfirm confirmed confirmable commanded dataTaken dataGiven dataByte finished statusRead exec programmed weakened raised put mayGo cutAfter send byteOut sendAll sent goesOn waiting polls outcomeOf isPassed endedAs readCycles readOutcome outputs readOutputs startedBy readOn resetOn pagesRead blocksRead sized stopAnswer bitAt withBit countBits zeroBits numberWidth bytesOf numberOf labelBytes encoded kindOf labelOf allOnes storedCheck countedCheck whole isMarked aboveTo marksTo marksRead afterErase blockErased failedAt aboveAt erasedTo eraseOn programOn isFailed mainOf mainRead pageFilled pagesFilled tableMain permitted searchAfter countPermitted stateAfter tryBlock tryTable endAnswer endState tablesFilled firstState tooFew tablesRun roundRun marksRun formatting table.tablePage copyBits freeBlocks mounted clearFrom neverBoth emptyFrom soundFrom soundEntries
 format-wide = refl
 

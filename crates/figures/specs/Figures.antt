@@ -10,7 +10,8 @@ use Rattle.interface.specs.Interface.{poweredOn}
 use Rattle.array.specs.Device.{Device, Setting, device, setting}
 use Rattle.pages.specs.Layout.{label, encoded, storedCheck, whole, dataKind, tableKind}
 use Rattle.copies.specs.Blocks.{blockIn, pageIn}
-use Rattle.state.specs.State.{blank, freeBlocks}
+use Rattle.state.specs.State.{blank}
+use Rattle.state.specs.declared.State.{State}
 use Rattle.calls.specs.Call.{Result}
 use Rattle.fill.specs.Fill.{tableMain}
 use Rattle.format.specs.Format.{formatting}
@@ -30,9 +31,14 @@ call fates = setting small (replicate 192 0) fates
 abbrev pub formatted : List ℕ → Result
 formatted fates = formatting (call fates) (device poweredOn (replicate 768 255) (replicate 48 255) (replicate 4 0)) 10000 (blank 0)
 
--- a bench line: answer, cycles, and the valid unmarked blocks that hold nothing current
+-- answer and cycles
 abbrev pub bench : Result → List ℕ
-bench r = r .answer ∷ r .sent ∷ freeBlocks (r .state) 4 2 ∷ []
+bench r = r .answer ∷ r .sent ∷ []
+
+-- the state that it hands back
+abbrev pub formattedState : State
+formattedState =
+    record { status = 1; table = 0; last = 0; number = 2; marked = replicate 512 0; invalid = replicate 512 0; map = replicate 4096 65535 }
 
 -- a data page, all FFh, of logical block 0, page 0, number 2; and with byte 4 of its spare bytes raised to 01h
 abbrev pub dataPage : List ℕ
