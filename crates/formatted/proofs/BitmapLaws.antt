@@ -1,7 +1,8 @@
 -- Bitmaps with no bit past the last block, and erased blocks under a partial erase. Assumes nothing.
+use mathlib.Core.Bool.{Bool, true, false, cond}
 use Prim.Native.Nat.{ℕ, zero, suc, _≤_, _<_, _^_}
 use mathlib.Core.List.{List, _∷_}
-use mathlib.Core.Path.{_≡_, refl, sym, ap₂, subst, _∙_}
+use mathlib.Core.Path.{_≡_, refl, sym, ap, ap₂, subst, _∙_}
 use native.Mathlib.Omega.{arith}
 use borrow.Table.Steps.{cases}
 use borrow.Author.Tests.{eqb-true, eqb-false}
@@ -11,10 +12,11 @@ use lib.ListN.{length, getD, set, drop, replicate, length-set, length-replicate}
 use lib.Seq.{getD-set-same, getD-set-other}
 use Rattle.cells.specs.Bytes.{Bytes}
 use Rattle.cells.specs.Cells.{raised}
-use Rattle.bitmaps.specs.Bitmap.{withBit, byteOf, placeOf}
-use Rattle.bitmaps.proofs.BitLaws.{bit-kept, power-small}
+use Rattle.bitmaps.specs.Bitmap.{bitAt, withBit, byteOf, placeOf}
+use Rattle.bitmaps.proofs.BitLaws.{bit-set, bit-kept, power-small}
 use Rattle.pages.proofs.OverLaws.{and-or, bytes-next}
 use Rattle.state.proofs.MountedLaws.{blank-clear}
+use Rattle.runs.proofs.TraceLaws.{or-none}
 use Rattle.formatted.specs.Settled.{Bitmap}
 
 -- nothing is listed at first
@@ -48,6 +50,17 @@ bits-more blocks bits b most h r =
       past = λ j l. getD-set-other bits (byteOf b) j byte 0 (λ e. omega (arith, e, l, h)) ∙ r .past j l;
       clear = λ c l k. bit-kept bits b c (λ e. omega (arith, e, l, h)) ∙ r .clear c l k;
     }
+
+-- its bits are those before, and that one
+pub bit-more : (bits : List ℕ) (n b : ℕ) → byteOf n < length bits → cond (bitAt bits b) true (cond (eqb n b) true false) ≡ bitAt (withBit bits n) b
+bit-more bits n b h =
+    cases (eqb n b)
+    (λ e. rw e (one-true (bitAt bits b)) ∙ sym (ap (bitAt (withBit bits n)) (sym (eqb-true n b e)) ∙ bit-set bits n h))
+    (λ e. rw e (or-none (bitAt bits b)) ∙ sym (bit-kept bits n b (λ x. eqb-false n b e (sym x))))
+  where
+    one-true : (x : Bool) → cond x true true ≡ true
+    one-true true = refl
+    one-true false = refl
 
 -- an erased block stays erased where an erase takes part of its effect
 pub or-full : (m : ℕ) → m < 256 → bitOr 255 m ≡ 255

@@ -36,9 +36,9 @@ use Rattle.marks.specs.Marks.{marksRead}
 use Rattle.erasing.specs.Round.{Round, erasedTo}
 use Rattle.tables.specs.Tables.{Tabled, tabled, numbersLeft}
 use Rattle.format.specs.Format.{firstState, tooFew, stopped, tablesOf, tablesRun, roundRun, marksRun, formatRun}
-use Rattle.runs.specs.Run.{isReadEnd, Sound, Unchanged, Spent, readMost, fillMost, blockOn}
+use Rattle.runs.specs.Run.{isReadEnd, failedIn, NoneFailed, Sound, Unchanged, Spent, readMost, fillMost, blockOn}
 use Rattle.runs.proofs.PlaceLaws.{page-erased}
-use Rattle.runs.proofs.ReadLaws.{read-unchanged, read-spends, reset-unchanged, reset-spends}
+use Rattle.runs.proofs.ReadLaws.{read-unchanged, read-spends, read-calm, reset-unchanged, reset-spends}
 use Rattle.runs.proofs.CopyLaws.{erased-unmarked}
 use Rattle.formatted.specs.Settled.{Formatted, FormatLeft, blockMost}
 use Rattle.formatted.proofs.SettledLaws as settled
@@ -73,6 +73,21 @@ module _ (s : Setting) (array history : List ℕ) (v : Valid (s .geometry)) wher
       let two = mark-spends n 1 (omega (arith, h)) (omega (arith, v .pages-least)) first (mark-unchanged n 0 (omega (arith, h)) (omega (arith, v .pages-least)) so-far same) in
       omega (arith, one, two, marks-spend n (omega (arith, h)) p u)
 
+  mark-calm : (b i : ℕ) → b < s .geometry .blocks → i < s .geometry .pages → (p : Progress) → Unchanged s array history p → NoneFailed p (readOn s (rowOf (s .geometry) b i) (s .geometry .main) 1 p)
+  mark-calm b i h l p u =
+      read-calm s array history (rowOf (s .geometry) b i) (s .geometry .main) 1 (row-below (s .geometry) v b i h l) (omega (arith, v .spare-least)) (omega (arith, v .spare-least)) p u
+
+  marks-calm : (n : ℕ) → n ≤ s .geometry .blocks → (p : Progress) → Unchanged s array history p → NoneFailed p (marksRead s n p)
+  unfolding marksRead
+  marks-calm zero h p u c = refl
+  marks-calm (suc n) h p u c =
+      let so-far = marksRead s n p in
+      let same = marks-unchanged n (omega (arith, h)) p u in
+      let first = readOn s (rowOf (s .geometry) n 0) (s .geometry .main) 1 so-far in
+      mark-calm n 1 (omega (arith, h)) (omega (arith, v .pages-least)) first (mark-unchanged n 0 (omega (arith, h)) (omega (arith, v .pages-least)) so-far same) c
+      ∙ mark-calm n 0 (omega (arith, h)) (omega (arith, v .pages-least)) so-far same c
+      ∙ marks-calm n (omega (arith, h)) p u c
+
 -- where the marks are the same, so is their bitmap
 marks-same : (g : Geometry) (a b : List ℕ) (n : ℕ) → ((k : ℕ) → k < n → isMarked g (blockIn g a k) ≡ isMarked g (blockIn g b k)) → marksTo g a n ≡ marksTo g b n
 unfolding marksTo
@@ -101,9 +116,10 @@ pub record Whole (s : Setting) (p : Progress) (t : Tabled) : Type 0 where
   pub marked-kept : (b : ℕ) → b < s .geometry .blocks → isMarked (s .geometry) (blockOn s p b) ≡ true → blockOn s (t .progress) b ≡ blockOn s p b
   pub called : t .answer ≡ 0 → Called s (t .progress .line)
   pub formatted : t .answer ≡ 0 → Formatted (s .geometry) (t .progress .line .chip .array) (t .state)
+  pub failures : t .answer ≡ 0 → (b : ℕ) → b < s .geometry .blocks → failedIn b (t .progress .started) ≡ bitAt (t .state .invalid) b
   pub spent : Spent p (t .progress) (s .geometry .blocks * blockMost (s .geometry) + s .geometry .blocks * fillMost (s .geometry))
 
-module _ (s : Setting) (v : Valid (s .geometry)) (mask-bytes : Bytes (s .mask)) (p : Progress) (sound : Sound s p) (ends : isReadEnd (p .outcome) ≡ true) where
+module _ (s : Setting) (v : Valid (s .geometry)) (mask-bytes : Bytes (s .mask)) (p : Progress) (sound : Sound s p) (ends : isReadEnd (p .outcome) ≡ true) (none : (b : ℕ) → failedIn b (p .started) ≡ false) where
   abbrev g : Geometry
   g = s .geometry
 
@@ -117,7 +133,7 @@ module _ (s : Setting) (v : Valid (s .geometry)) (mask-bytes : Bytes (s .mask)) 
   r = erasedTo s marked (g .blocks) p
 
   rounded : Rounded s marked p (g .blocks) r
-  rounded = round-leaves s v mask-bytes marked p mark-is sound ends (g .blocks) (omega arith)
+  rounded = round-leaves s v mask-bytes marked p mark-is sound ends none (g .blocks) (omega arith)
 
   -- a run that ends with a stopped state
   stops : (t : Tabled) → Sound s (t .progress) → t .answer ≤ 11 → (t .answer ≡ 0 → ⊥) → ((b : ℕ) → b < g .blocks → bitAt marked b ≡ true → blockOn s (t .progress) b ≡ blockOn s p b) → Spent p (t .progress) (g .blocks * blockMost g) → Whole s p t
@@ -128,6 +144,7 @@ module _ (s : Setting) (v : Valid (s .geometry)) (mask-bytes : Bytes (s .mask)) 
         marked-kept = λ b h m. kept b h (sym (mark-is b h) ∙ m);
         called = λ z. absurd (not-done z);
         formatted = λ z. absurd (not-done z);
+        failures = λ z. absurd (not-done z);
         spent = omega (arith, few);
       }
 
@@ -165,6 +182,7 @@ module _ (s : Setting) (v : Valid (s .geometry)) (mask-bytes : Bytes (s .mask)) 
           erased = erased-row;
           listed = λ b h m t. omega (arith, rounded .numbers y b h t, number-above);
           apart = rounded .apart;
+          failures = rounded .failures;
         }
 
     abbrev t : Tabled
@@ -232,6 +250,7 @@ module _ (s : Setting) (v : Valid (s .geometry)) (mask-bytes : Bytes (s .mask)) 
           marked-kept = λ b h m. kept-marked b h (sym (mark-is b h) ∙ m);
           called = λ z. d z .called;
           formatted = formats;
+          failures = λ z. d z .failures;
           spent = omega (arith, rounded .spent, tables-spent, fills-most);
         }))
 
@@ -259,6 +278,10 @@ module _ (s : Setting) (d : Device) (n : ℕ) (t : sizedFor s d ≡ true) (mask-
   same : Unchanged s (d .array) (d .history) q
   same = marks-unchanged s (d .array) (d .history) fitted (s .geometry .blocks) (omega arith) begun (reset-unchanged s d n t)
 
+  calm : (b : ℕ) → failedIn b (q .started) ≡ false
+  unfolding resetOn isPassed failedIn
+  calm b = marks-calm s (d .array) (d .history) fitted (s .geometry .blocks) (omega arith) begun (reset-unchanged s d n t) b
+
   few : n ≤ q .line .left + (3 + s .geometry .blocks * (2 * readMost 1))
   few = omega (arith, reset-spends s d n t, marks-spend s (d .array) (d .history) fitted (s .geometry .blocks) (omega arith) begun (reset-unchanged s d n t))
 
@@ -274,6 +297,7 @@ module _ (s : Setting) (d : Device) (n : ℕ) (t : sizedFor s d ≡ true) (mask-
         marked-kept = λ b h m. w .marked-kept b h (ap (isMarked (s .geometry)) (block-same b) ∙ m) ∙ block-same b;
         called = w .called;
         formatted = w .formatted;
+        failures = w .failures;
         spent = omega (arith, w .spent, few);
       }
 
@@ -286,6 +310,7 @@ module _ (s : Setting) (d : Device) (n : ℕ) (t : sizedFor s d ≡ true) (mask-
         marked-kept = λ b h m. block-same b;
         called = λ z. absurd (most .1 z);
         formatted = λ z. absurd (most .1 z);
+        failures = λ z. absurd (most .1 z);
         spent = omega (arith, few);
       }
 
@@ -296,5 +321,5 @@ module _ (s : Setting) (d : Device) (n : ℕ) (t : sizedFor s d ≡ true) (mask-
   unfolding marksRun
   format-leaves =
       cases (isPassed (q .outcome))
-      (λ y. subst (FormatLeft s d n) {x = rest} (rw y) (whole-run rest (round-whole s fitted mask-bytes q (same .sound) (same .ends))))
+      (λ y. subst (FormatLeft s d n) {x = rest} (rw y) (whole-run rest (round-whole s fitted mask-bytes q (same .sound) (same .ends) calm)))
       (λ f. subst (FormatLeft s d n) {x = stopped q} (rw f) (stop-run f))

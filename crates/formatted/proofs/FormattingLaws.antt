@@ -1,8 +1,8 @@
 -- Every formatting ends as Formatting tells, and sends fewer cycles than the allowance that cuts nothing. Assumes nothing.
-use Prim.Native.Nat.{ℕ, _+_, _*_, _≤_}
-use mathlib.Core.Bool.{true, false, cond}
+use Prim.Native.Nat.{ℕ, _+_, _≤_}
+use mathlib.Core.Bool.{true, false}
 use mathlib.Core.List.{List, []}
-use mathlib.Core.Path.{_≡_, refl, sym, ap, subst, _∙_}
+use mathlib.Core.Path.{_≡_, sym, subst, _∙_}
 use native.Mathlib.Nat.{mul-le-mul}
 use native.Mathlib.Omega.{arith}
 use borrow.Table.Steps.{cases}
@@ -17,14 +17,14 @@ use Rattle.polling.specs.Polling.{isPassed}
 use Rattle.polling.specs.declared.Outcome.the-variants.{Passed}
 use Rattle.state.specs.declared.State.{State}
 use Rattle.found.specs.Found.{marksTo}
-use Rattle.calls.specs.Call.{Result, sizedFor, callLine}
+use Rattle.calls.specs.Call.{sizedFor, callLine}
 use Rattle.calls.proofs.CallLaws.{called-sized}
 use Rattle.scan.specs.Progress.{Progress, progress, resetOn}
 use Rattle.scan.proofs.CountLaws.{allowance, reset-counts}
 use Rattle.marks.specs.Marks.{marksRead}
-use Rattle.erasing.specs.Round.{Round, erasedTo}
+use Rattle.erasing.specs.Round.{erasedTo}
 use Rattle.tables.proofs.CountLaws.{tables-count}
-use Rattle.format.specs.Format.{tooFew, tablesOf, tablesRun, roundRun, marksRun, formatRun, endOfRun, formatting}
+use Rattle.format.specs.Format.{tooFew, tablesRun, roundRun, marksRun, formatRun, endOfRun, formatting}
 use Rattle.format.proofs.WholeLaws.{marks-count, round-count}
 use Rattle.runs.specs.Run.{readMost, pageMost, fillMost}
 use Rattle.formatted.specs.Settled.{blockMost, formatMost, Acknowledged, Formatting}
@@ -64,6 +64,7 @@ module _ (s : Setting) (d : Device) (n : ℕ) (mask-bytes : Bytes (s .mask)) (t 
         marked-kept = left .marked-kept;
         acknowledged = λ z.
             record { formatted = left .formatted z; still-sized = called-sized s (formatRun s d n .progress .line) (left .called z); still-ready = left .called z .ready };
+        lists-failed = λ z b h. left .failures z b h ∙ sym (left .formatted z .lists-are b h);
         sent-is = omega (arith, counted);
         sent-most = omega (arith, left .spent);
       }

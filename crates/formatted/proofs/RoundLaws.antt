@@ -1,6 +1,6 @@
 -- The first round of erases: every unmarked block is erased, or is invalid and its greatest number is known. Assumes nothing.
 use Prim.Native.Nat.{ℕ, zero, suc, _+_, _*_, _/_, _≤_, _<_, max}
-use mathlib.Core.Bool.{true, false, cond, true≢false, false≢true}
+use mathlib.Core.Bool.{Bool, true, false, cond, true≢false, false≢true}
 use mathlib.Core.List.{List}
 use mathlib.Core.Logic.{_⊎_, inl, inr, ⊎-elim}
 use mathlib.Core.Path.{_≡_, refl, sym, ap, subst, _∙_}
@@ -33,15 +33,16 @@ use Rattle.fill.specs.Steps.{eraseOn, resumed, isFailed}
 use Rattle.fill.proofs.StepLaws.{passed-answered, erase-stopped}
 use Rattle.fill.proofs.OutcomeLaws.{failed-answered}
 use Rattle.erasing.specs.Round.{Round, round, afterErase, blockErased, failedAt, aboveAt, erasedTo}
-use Rattle.runs.specs.Run.{isIllegal, isReadEnd, Sound, Unchanged, Erased, Spent, readMost, blockOn}
+use Rattle.runs.specs.Run.{isIllegal, isReadEnd, failedIn, NoneFailed, Sound, Unchanged, Erased, Spent, readMost, blockOn}
 use Rattle.runs.proofs.PlaceLaws.{block-long, page-within}
-use Rattle.runs.proofs.ReadLaws.{pages-unchanged, pages-spend}
+use Rattle.runs.proofs.ReadLaws.{pages-unchanged, pages-spend, pages-calm}
+use Rattle.runs.proofs.TraceLaws.{unfailed-none}
 use Rattle.runs.proofs.EraseLaws.{erase-leaves}
 use Rattle.runs.proofs.CopyLaws.{no-mark}
 use Rattle.formatted.specs.Settled.{Bitmap, blockMost}
 use Rattle.state.proofs.MountedLaws.{blank-clear}
 use Rattle.formatted.proofs.TablesLaws.{failed-unpassed}
-use Rattle.formatted.proofs.BitmapLaws.{bits-none, bits-more, or-full}
+use Rattle.formatted.proofs.BitmapLaws.{bits-none, bits-more, bit-more, or-full}
 
 -- an outcome that is neither failed nor illegal
 pub unfailed-end : (o : Outcome) → isIllegal o ≡ false → isFailed o ≡ false → isReadEnd o ≡ true
@@ -99,6 +100,7 @@ pub record Rounded (s : Setting) (marked : List ℕ) (p : Progress) (n : ℕ) (r
   pub unmarked : isPassed (r .progress .outcome) ≡ true → (b : ℕ) → b < n → bitAt (r .invalid) b ≡ true → isMarked (s .geometry) (blockOn s (r .progress) b) ≡ false
   pub numbers : isPassed (r .progress .outcome) ≡ true → (b : ℕ) → b < n → bitAt (r .invalid) b ≡ true → aboveTo (s .geometry) (blockOn s (r .progress) b) (s .geometry .pages) ≤ r .above
   pub spent : Spent p (r .progress) (n * blockMost (s .geometry))
+  pub failures : (b : ℕ) → b < s .geometry .blocks → failedIn b (r .progress .started) ≡ bitAt (r .invalid) b
 
 module _ (s : Setting) (v : Valid (s .geometry)) (mask-bytes : Bytes (s .mask)) (marked : List ℕ) (p : Progress) (marks : (b : ℕ) → b < s .geometry .blocks → isMarked (s .geometry) (blockOn s p b) ≡ bitAt marked b) where
   next-round : ℕ → Round → Round
@@ -153,6 +155,7 @@ module _ (s : Setting) (v : Valid (s .geometry)) (mask-bytes : Bytes (s .mask)) 
             numbers = λ y b l.
                 up-to (λ k. bitAt (r .invalid) k ≡ true → aboveTo (s .geometry) (blockOn s (r .progress) k) (s .geometry .pages) ≤ r .above) n b l (x .numbers y b) unlisted;
             spent = omega (arith, x .spent, more);
+            failures = x .failures;
           }
 
       -- a block that is erased
@@ -207,6 +210,7 @@ module _ (s : Setting) (v : Valid (s .geometry)) (mask-bytes : Bytes (s .mask)) 
                     up-to (λ k. bitAt (r .invalid) k ≡ true → aboveTo (s .geometry) (blockOn s e k) (s .geometry .pages) ≤ r .above) n b l
                     (λ h c. subst (λ (row : List ℕ). aboveTo (s .geometry) row (s .geometry .pages) ≤ r .above) (sym (others-before b h)) (x .numbers t b h c)) unlisted;
                 spent = omega (arith, x .spent, left .spent, more);
+                failures = λ b h. unfailed-none q e n f (left .failures) b ∙ x .failures b h;
               }
 
         -- the erase failed: the pages are read
@@ -258,6 +262,16 @@ module _ (s : Setting) (v : Valid (s .geometry)) (mask-bytes : Bytes (s .mask)) 
           bit-before : (b : ℕ) → b < n → bitAt (withBit (r .invalid) n) b ≡ bitAt (r .invalid) b
           bit-before b h = bit-kept (r .invalid) n b (λ same. omega (arith, same, h))
 
+          calm : NoneFailed (resumed e) scanned
+          calm = pages-calm s (e .line .chip .array) (e .line .chip .history) v n below (s .geometry .pages) (omega arith) (resumed e) goes-on
+
+          failed-bits : (b : ℕ) → b < s .geometry .blocks → failedIn b (scanned .started) ≡ bitAt (withBit (r .invalid) n) b
+          failed-bits b h =
+              calm b ∙ left .failures b
+              ∙ ap (λ (y : Bool). cond (failedIn b (q .started)) true (cond (eqb n b) y false)) w
+              ∙ ap (λ (y : Bool). cond y true (cond (eqb n b) true false)) (x .failures b h)
+              ∙ bit-more (r .invalid) n b byte-there
+
           failed : Rounded s marked p (suc n) (round scanned (withBit (r .invalid) n) (max (r .above) most))
           failed =
               record {
@@ -283,6 +297,7 @@ module _ (s : Setting) (v : Valid (s .geometry)) (mask-bytes : Bytes (s .mask)) 
                     (omega (arith, x .numbers t b h (sym (bit-before b h) ∙ c))))
                     (λ c. subst (λ (row : List ℕ). aboveTo (s .geometry) row (s .geometry .pages) ≤ max (r .above) most) (sym (same-block n)) (omega arith));
                 spent = omega (arith, x .spent, left .spent, scan-spent, more);
+                failures = failed-bits;
               }
 
       round-next : Rounded s marked p (suc n) (next-round n r)
@@ -297,9 +312,9 @@ module _ (s : Setting) (v : Valid (s .geometry)) (mask-bytes : Bytes (s .mask)) 
           (λ f. subst (Rounded s marked p (suc n)) (unfailed-is t free f) (unfailed t free f))))
           (λ f. subst (Rounded s marked p (suc n)) (stopped-is f) (passed-over (inr f)))
 
-  pub round-leaves : Sound s p → isReadEnd (p .outcome) ≡ true → (n : ℕ) → n ≤ s .geometry .blocks → Rounded s marked p n (erasedTo s marked n p)
+  pub round-leaves : Sound s p → isReadEnd (p .outcome) ≡ true → ((b : ℕ) → failedIn b (p .started) ≡ false) → (n : ℕ) → n ≤ s .geometry .blocks → Rounded s marked p n (erasedTo s marked n p)
   unfolding erasedTo
-  round-leaves sound ends zero h =
+  round-leaves sound ends none zero h =
       record {
         sound = sound;
         ends = ends;
@@ -312,6 +327,7 @@ module _ (s : Setting) (v : Valid (s .geometry)) (mask-bytes : Bytes (s .mask)) 
         unmarked = λ y b l. absurd (omega (arith, l));
         numbers = λ y b l. absurd (omega (arith, l));
         spent = omega arith;
+        failures = λ b l. none b ∙ sym (blank-clear b (omega (arith, l, v .blocks-most)));
       }
-  round-leaves sound ends (suc n) h =
-      subst (Rounded s marked p (suc n)) (sym (one-round n)) (round-next n (erasedTo s marked n p) (round-leaves sound ends n (omega (arith, h))) (omega (arith, h)))
+  round-leaves sound ends none (suc n) h =
+      subst (Rounded s marked p (suc n)) (sym (one-round n)) (round-next n (erasedTo s marked n p) (round-leaves sound ends none n (omega (arith, h))) (omega (arith, h)))

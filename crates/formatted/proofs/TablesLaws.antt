@@ -1,6 +1,6 @@
 -- Table fills until one passes, on a chip whose permitted blocks are erased. Assumes nothing.
 use Prim.Native.Nat.{ℕ, zero, suc, _+_, _-_, _*_, _/_, _≤_, _<_}
-use mathlib.Core.Bool.{true, false, cond, true≢false, false≢true}
+use mathlib.Core.Bool.{Bool, true, false, cond, true≢false, false≢true}
 use mathlib.Core.List.{List}
 use mathlib.Core.Logic.{_⊎_, ⊎-elim}
 use mathlib.Core.Path.{_≡_, refl, sym, ap, subst, _∙_}
@@ -38,13 +38,14 @@ use Rattle.fill.specs.Steps.{resumed, isFailed}
 use Rattle.fill.proofs.StepLaws.{passed-answered}
 use Rattle.fill.proofs.OutcomeLaws.{failed-answered}
 use Rattle.tables.specs.Tables.{Tried, tryBlock, tryTable, stateAfter, Tabled, tabled, endedBy, endAnswer, endState, tablesFilled}
-use Rattle.runs.specs.Run.{isIllegal, Sound, Meant, from-caller, Filled, Spent, fillMost, blockOn, pageOn}
+use Rattle.runs.specs.Run.{isIllegal, failedIn, Sound, Meant, from-caller, Filled, Spent, fillMost, blockOn, pageOn}
+use Rattle.runs.proofs.TraceLaws.{passed-unfailed, unfailed-none}
 use Rattle.runs.proofs.PlaceLaws.{page-erased}
 use Rattle.runs.proofs.FillLaws.{fill-leaves, over-erased}
 use Rattle.runs.proofs.CopyLaws.{copy-long, copy-bytes, copy-unmarked, raised-above, raised-unmarked}
 use Rattle.formatted.specs.Settled.{Bitmap, Settled}
 use Rattle.formatted.proofs.SettledLaws.{table-label, table-long, table-bytes}
-use Rattle.formatted.proofs.BitmapLaws.{bits-more, raised-erased}
+use Rattle.formatted.proofs.BitmapLaws.{bits-more, bit-more, raised-erased}
 
 pub failed-unpassed : (o : Outcome) → isFailed o ≡ true → isPassed o ≡ false
 unfolding isFailed isPassed
@@ -64,6 +65,7 @@ pub record Ready (s : Setting) (p : Progress) (st : State) : Type 0 where
   pub erased : (b : ℕ) → b < s .geometry .blocks → bitAt (st .marked) b ≡ false → bitAt (st .invalid) b ≡ false → blockOn s p b ≡ replicate (blockSize (s .geometry)) 255
   pub listed : (b : ℕ) → b < s .geometry .blocks → bitAt (st .marked) b ≡ false → bitAt (st .invalid) b ≡ true → aboveTo (s .geometry) (blockOn s p b) (s .geometry .pages) ≤ st .number
   pub apart : (b : ℕ) → b < s .geometry .blocks → bitAt (st .marked) b ≡ true → bitAt (st .invalid) b ≡ false
+  pub failures : (b : ℕ) → b < s .geometry .blocks → failedIn b (p .started) ≡ bitAt (st .invalid) b
 
 -- after a table fill that passed
 pub record Done (s : Setting) (st : State) (q : Progress) (next : State) : Type 0 where
@@ -76,6 +78,7 @@ pub record Done (s : Setting) (st : State) (q : Progress) (next : State) : Type 
   pub marks : (b : ℕ) → b < s .geometry .blocks → isMarked (s .geometry) (blockOn s q b) ≡ bitAt (st .marked) b
   pub settled : Settled (s .geometry) (q .line .chip .array) (next .invalid) (next .table) number
   pub called : Called s (q .line)
+  pub failures : (b : ℕ) → b < s .geometry .blocks → failedIn b (q .started) ≡ bitAt (next .invalid) b
 
 -- however table fills end
 pub record Left (s : Setting) (held : List ℕ) (st : State) (p : Progress) (t : Tabled) : Type 0 where
@@ -186,6 +189,7 @@ module _ (s : Setting) (mask-bytes : Bytes (s .mask)) (st : State) (p : Progress
             marks = marks-passed;
             settled = settles;
             called = left .sound .called (passed-answered (q .outcome) y);
+            failures = λ c h. unfailed-none p q b (passed-unfailed (q .outcome) y) (left .failures) c ∙ r .failures c h;
           }
 
     -- it failed: the block is invalid, and what is left of it has no greater number
@@ -235,6 +239,11 @@ module _ (s : Setting) (mask-bytes : Bytes (s .mask)) (st : State) (p : Progress
                 left .others c h x ∙ r .erased c h m (sym (bit-kept (st .invalid) b c x) ∙ f);
             listed = listed-failed;
             apart = λ c h t. bit-kept (st .invalid) b c (off-marked c t) ∙ r .apart c h t;
+            failures = λ c h.
+                left .failures c
+                ∙ ap (λ (x : Bool). cond (failedIn c (p .started)) true (cond (eqb b c) x false)) w
+                ∙ ap (λ (x : Bool). cond x true (cond (eqb b c) true false)) (r .failures c h)
+                ∙ bit-more (st .invalid) b c byte-there;
           }
 
 -- a choice is a block or none
@@ -400,6 +409,7 @@ module _ (s : Setting) (mask-bytes : Bytes (s .mask)) (held : List ℕ) where
                   marks = d .marks;
                   settled = d .settled;
                   called = d .called;
+                  failures = d .failures;
                 };
             spent = omega (arith, x .spent, block-left .spent, one-less, one-fill);
           }

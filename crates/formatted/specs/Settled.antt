@@ -20,7 +20,7 @@ use Rattle.calls.specs.Call.{Result, sizedFor}
 use Rattle.format.specs.Format.{formatRun}
 use Rattle.mount.specs.Mount.{mountedState}
 use Rattle.tables.specs.Tables.{Tabled}
-use Rattle.runs.specs.Run.{readMost, eraseMost, fillMost}
+use Rattle.runs.specs.Run.{failedIn, readMost, eraseMost, fillMost}
 use Rattle.fill.specs.Fill.{pageOf, tableCopy, tableMain}
 
 -- a bitmap that has no bit past the last block
@@ -70,6 +70,7 @@ pub record FormatLeft (s : Setting) (d : Device) (n : ℕ) (t : Tabled) : Type 0
       → blockIn (s .geometry) (t .progress .line .chip .array) b ≡ blockIn (s .geometry) (d .array) b
   pub called : t .answer ≡ 0 → Called s (t .progress .line)
   pub formatted : t .answer ≡ 0 → Formatted (s .geometry) (t .progress .line .chip .array) (t .state)
+  pub failures : t .answer ≡ 0 → (b : ℕ) → b < s .geometry .blocks → failedIn b (t .progress .started) ≡ bitAt (t .state .invalid) b
   pub spent : n ≤ t .progress .line .left + formatMost (s .geometry)
 
 -- a formatting that was acknowledged: what demand 3 starts from, and a chip ready for the next call
@@ -79,12 +80,14 @@ pub record Acknowledged (s : Setting) (r : Result) : Type 0 where
   pub still-ready : r .chip .port .phase ≤ 2
 
 -- a formatting of a chip whose sizes go together, whatever its state, fates, mask and allowance of n cycles: every
--- cycle legal, blocks with a factory mark untouched, and no more cycles than formatMost
+-- cycle legal, blocks with a factory mark untouched, no more cycles than formatMost; if it is acknowledged, the table
+-- lists the blocks of which an erase or a program failed, and no others
 pub record Formatting (s : Setting) (d : Device) (n : ℕ) (r : Result) : Type 0 where
   pub legal : r .chip .port .illegal ≡ 0
   pub answers : r .answer ≤ 11
   pub marked-kept : (b : ℕ) → b < s .geometry .blocks → isMarked (s .geometry) (blockIn (s .geometry) (d .array) b) ≡ true
       → blockIn (s .geometry) (r .chip .array) b ≡ blockIn (s .geometry) (d .array) b
   pub acknowledged : r .answer ≡ 0 → Acknowledged s r
+  pub lists-failed : r .answer ≡ 0 → (b : ℕ) → b < s .geometry .blocks → failedIn b (formatRun s d n .progress .started) ≡ lists (s .geometry) (blockIn (s .geometry) (r .chip .array) (r .state .table)) b
   pub sent-is : r .sent ≡ length (formatRun s d n .progress .cycles)
   pub sent-most : r .sent ≤ formatMost (s .geometry)

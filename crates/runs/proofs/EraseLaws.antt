@@ -1,7 +1,7 @@
 -- What an erase leaves of a request's blocks. Assumes nothing.
 use Prim.Native.Nat.{ℕ, _+_, _-_, _≤_, _<_}
-use mathlib.Core.Bool.{true, false, false≢true}
-use mathlib.Core.List.{List}
+use mathlib.Core.Bool.{true, false, cond, false≢true}
+use mathlib.Core.List.{List, _++_}
 use mathlib.Core.Logic.{_⊎_, inl, inr, ⊎-elim}
 use mathlib.Core.Path.{_≡_, refl, sym, ap, subst, _∙_}
 use native.Mathlib.Omega.{arith}
@@ -17,14 +17,17 @@ use Rattle.interface.specs.Interface.{busyOf, failedFor}
 use Rattle.array.specs.Device.{Setting}
 use Rattle.bus.specs.Line.{Line, sendAll}
 use Rattle.polling.specs.Polling.{isPassed, outcomeOf}
+use Rattle.polling.specs.declared.Outcome.{Outcome}
 use Rattle.sequences.specs.Cycles.{eraseCycles}
 use Rattle.operations.specs.Ends.{Called, CanErase, End, endOf, eraseEnd, confirmedEnd, answered, passes, endsAs, totalFor, wordFor, pollsFor, withBlockBytes}
-use Rattle.operations.proofs.EraseLaws.{erase-ends, erase-legal, erase-next}
+use Rattle.operations.proofs.EraseLaws.{erase-ends, erase-legal, erase-next, erase-starts}
+use Rattle.operations.specs.Trace.{ArrayOperation, eraseStarts}
 use Rattle.copies.specs.Blocks.{blockIn}
 use Rattle.scan.specs.Progress.{Progress}
-use Rattle.fill.specs.Steps.{eraseOn}
+use Rattle.fill.specs.Steps.{eraseOn, isFailed}
 use Rattle.fill.proofs.StepLaws.{erase-on-line, erase-on-outcome, whole-effect}
-use Rattle.runs.specs.Run.{isIllegal, Sound, Erased, OthersSame, blockOn}
+use Rattle.runs.specs.Run.{isIllegal, failedIn, FailedMore, Sound, Erased, OthersSame, blockOn}
+use Rattle.runs.proofs.TraceLaws.{failed-append, failed-one, cut-unfailed}
 use Rattle.runs.proofs.PlaceLaws.{block-there, block-elsewhere, block-long}
 
 -- an operation that passes ends so
@@ -101,6 +104,18 @@ module _ (s : Setting) (p : Progress) (block : ℕ) (below : block < s .geometry
         called = λ a. subst (Called s) (sym line-is) (erase-next s (p .line) block can (sym (ap answered outcome-is) ∙ a));
       }
 
+  started-is : next .started ≡ p .started ++ eraseStarts s (p .line) (rowOf (s .geometry) block 0)
+  unfolding eraseOn
+  started-is = rw t
+
+  failures : FailedMore p next block
+  unfolding eraseEnd confirmedEnd
+  failures b =
+      ap (failedIn b) (started-is ∙ ap (λ (x : List ArrayOperation). p .started ++ x) (erase-starts s (p .line) block can))
+      ∙ failed-append b (p .started) _
+      ∙ ap (cond (failedIn b (p .started)) true)
+      (failed-one b _ (leb (p .line .left) 4) (cut-unfailed s (p .line) 3 4) ∙ ap (λ (o : Outcome). cond (eqb block b) (isFailed o) false) (sym outcome-is))
+
   -- the block's bytes are replaced
   module _ (ys : List ℕ) (long : length ys ≡ blockSize (s .geometry)) (e : next .line .chip .array ≡ withBlockBytes s block ys (p .line .chip .array)) where
     replaced : blockOn s next block ≡ ys
@@ -145,4 +160,5 @@ module _ (s : Setting) (p : Progress) (block : ℕ) (below : block < s .geometry
         partly = λ f. ⊎-elim (λ e. inl (ap (λ (a : List ℕ). blockIn (s .geometry) a block) e)) (λ e. inr (replaced (raised old (s .mask)) part-long e)) (effect-part f);
         in-order = erased-order;
         spent = omega (arith, left-is, total-most s (p .line) 4);
+        failures = failures;
       }

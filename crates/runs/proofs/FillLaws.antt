@@ -1,6 +1,6 @@
 -- What a fill leaves of a request's blocks: the pages that were meant, or those with bits raised. Assumes nothing.
 use Prim.Native.Nat.{ℕ, zero, suc, _+_, _*_, _≤_, _<_}
-use mathlib.Core.Bool.{true, false, false≢true}
+use mathlib.Core.Bool.{Bool, true, false, cond, false≢true}
 use mathlib.Core.List.{List, [], _∷_}
 use mathlib.Core.Logic.{_⊎_, inl, inr, ⊎-elim}
 use mathlib.Core.Path.{_≡_, refl, sym, ap, subst, _∙_}
@@ -25,13 +25,14 @@ use Rattle.pages.proofs.OverLaws.{over-refl, programmed-over}
 use Rattle.copies.specs.Blocks.{blockIn, pageIn, mainIn}
 use Rattle.scan.specs.Progress.{Progress, readOn}
 use Rattle.fill.specs.Fill.{Copy, Source, kept, pageOf, mainOf, mainRead, pageFilled, pagesFilled, filled}
-use Rattle.fill.specs.Steps.{eraseOn, programOn}
+use Rattle.fill.specs.Steps.{eraseOn, programOn, isFailed}
 use Rattle.fill.proofs.StepLaws.{passed-answered, program-stopped}
 use Rattle.fill.proofs.FillLaws.{fill-stopped}
-use Rattle.runs.specs.Run.{Unchanged, OthersSame, Programmed, Provides, from-caller, from-copy, Meant, Filled, pageOn, Spent, readMost, programMost, pageMost, eraseMost, fillMost}
+use Rattle.runs.specs.Run.{NoneFailed, Unchanged, OthersSame, Programmed, Provides, from-caller, from-copy, Meant, Filled, pageOn, Spent, readMost, programMost, pageMost, eraseMost, fillMost}
+use Rattle.runs.proofs.TraceLaws.{passed-unfailed, read-end-unfailed, unfailed-none, none-unfailed}
 use Rattle.runs.proofs.OutcomeLaws.{passed-read-end}
 use Rattle.runs.proofs.PlaceLaws.{page-erased}
-use Rattle.runs.proofs.ReadLaws.{read-unchanged, read-spends}
+use Rattle.runs.proofs.ReadLaws.{read-unchanged, read-spends, read-calm}
 use Rattle.runs.proofs.EraseLaws.{erase-leaves}
 use Rattle.runs.proofs.ProgramLaws.{program-leaves}
 
@@ -47,7 +48,7 @@ module _ (s : Setting) (p : Progress) (block : ℕ) (below : block < s .geometry
     (meant : Meant s (p .line .chip .array) block c source pages) (mask-bytes : Bytes (s .mask)) where
   -- more cycles may be allowed
   weaker : {q : Progress} {n k j : ℕ} → k ≤ j → Filled s p q block pages n k → Filled s p q block pages n j
-  weaker h r = record { sound = r .sound; others = r .others; done = r .done; ahead = r .ahead; in-order = r .in-order; damaged = r .damaged; spent = omega (arith, r .spent, h) }
+  weaker h r = record { sound = r .sound; others = r .others; done = r .done; ahead = r .ahead; in-order = r .in-order; damaged = r .damaged; spent = omega (arith, r .spent, h); failures = r .failures }
 
   over-blank : (i : ℕ) → i < s .geometry .pages → Over (pages i) (replicate (pageSize (s .geometry)) 255)
   over-blank i h = subst (λ (n : ℕ). Over (pages i) (replicate n 255)) (meant .long i h) (over-erased (pages i) (meant .bytes i h))
@@ -112,10 +113,12 @@ module _ (s : Setting) (p : Progress) (block : ℕ) (below : block < s .geometry
           in-order = λ y. subst (λ (k : ℕ). getD (next .line .chip .history) block 0 ≤ k) (add-one n) (left .in-order y);
           damaged = λ f. inr (inr (damage-next f));
           spent = omega (arith, r .spent, left .spent);
+          failures = λ b.
+              left .failures b ∙ ap (λ (x : Bool). cond x true (cond (eqb block b) (isFailed (next .outcome)) false)) (unfailed-none p q block (passed-unfailed (q .outcome) t) (r .failures) b);
         }
 
   -- a read in between changes nothing
-  module _ (q : Progress) (n k : ℕ) (r : Filled s p q block pages n k) (t : isPassed (q .outcome) ≡ true) (q' : Progress) (u : Unchanged s (q .line .chip .array) (q .line .chip .history) q') (j : ℕ) (few : Spent q q' j) where
+  module _ (q : Progress) (n k : ℕ) (r : Filled s p q block pages n k) (t : isPassed (q .outcome) ≡ true) (q' : Progress) (u : Unchanged s (q .line .chip .array) (q .line .chip .history) q') (j : ℕ) (few : Spent q q' j) (calm : NoneFailed q q') where
     same-page : (i : ℕ) → pageOn s q' block i ≡ pageOn s q block i
     same-page i = ap (λ (a : List ℕ). pageIn (s .geometry) (blockIn (s .geometry) a block) i) (u .same-array)
 
@@ -129,6 +132,7 @@ module _ (s : Setting) (p : Progress) (block : ℕ) (below : block < s .geometry
           in-order = λ y. subst (λ (x : List ℕ). getD x block 0 ≤ n) (sym (u .same-history)) (r .in-order t);
           damaged = λ f. inr (inr (all-over q' n (λ i h. same-page i ∙ r .done t i h) (λ i h l. same-page i ∙ r .ahead t i h l)));
           spent = omega (arith, r .spent, few);
+          failures = none-unfailed p q' block (read-end-unfailed (q' .outcome) (u .ends)) (λ b. calm b ∙ unfailed-none p q block (passed-unfailed (q .outcome) t) (r .failures) b);
         }
 
     after-stop : isPassed (q' .outcome) ≡ false → Filled s p q' block pages (suc n) (k + j)
@@ -141,6 +145,7 @@ module _ (s : Setting) (p : Progress) (block : ℕ) (below : block < s .geometry
           in-order = λ y. absurd (false≢true (sym f ∙ y));
           damaged = after-read .damaged;
           spent = after-read .spent;
+          failures = after-read .failures;
         }
 
   -- page n, whatever its source
@@ -168,15 +173,21 @@ module _ (s : Setting) (p : Progress) (block : ℕ) (below : block < s .geometry
           (row-below (s .geometry) (still-called .is-valid) old n old-below page-below)
           (omega (arith, still-called .is-valid .main-least)) (omega arith) q so-far
 
+      fetch-calm : NoneFailed q fetched
+      fetch-calm =
+          read-calm s (q .line .chip .array) (q .line .chip .history) (rowOf (s .geometry) old n) 0 (s .geometry .main)
+          (row-below (s .geometry) (still-called .is-valid) old n old-below page-below)
+          (omega (arith, still-called .is-valid .main-least)) (omega arith) q so-far
+
       kept-next : (bytes : List ℕ) → bytes ≡ pages n → Filled s p (programOn s block n bytes fetched) block pages (suc n) (k + pageMost (s .geometry))
       kept-next bytes e =
           cases (isPassed (fetched .outcome))
           (λ y.
           subst (λ (x : List ℕ). Filled s p (programOn s block n x fetched) block pages (suc n) (k + pageMost (s .geometry))) (sym e)
-          (weaker (omega arith) (program-next fetched n page-below (k + readMost (s .geometry .main)) (after-read q n k r t fetched fetch-unchanged (readMost (s .geometry .main)) fetch-spends) y)))
+          (weaker (omega arith) (program-next fetched n page-below (k + readMost (s .geometry .main)) (after-read q n k r t fetched fetch-unchanged (readMost (s .geometry .main)) fetch-spends fetch-calm) y)))
           (λ f.
           subst (λ (x : Progress). Filled s p x block pages (suc n) (k + pageMost (s .geometry))) (sym (program-stopped s block n bytes fetched f))
-          (weaker (omega arith) (after-stop q n k r t fetched fetch-unchanged (readMost (s .geometry .main)) fetch-spends f)))
+          (weaker (omega arith) (after-stop q n k r t fetched fetch-unchanged (readMost (s .geometry .main)) fetch-spends fetch-calm f)))
 
     provided-next : (from : Source) (page : List ℕ) → Provides (s .geometry) (p .line .chip .array) block c n from page → page ≡ pages n → Filled s p (pageFilled s block c n from q) block pages (suc n) (k + pageMost (s .geometry))
     unfolding pageFilled mainOf mainRead
@@ -213,6 +224,7 @@ module _ (s : Setting) (p : Progress) (block : ℕ) (below : block < s .geometry
             in-order = λ y. absurd (false≢true (sym f ∙ y));
             damaged = r .damaged;
             spent = r .spent;
+            failures = r .failures;
           }
 
   -- the whole fill, from p
@@ -228,5 +240,6 @@ module _ (s : Setting) (p : Progress) (block : ℕ) (below : block < s .geometry
         in-order = e .in-order;
         damaged = λ f. ⊎-elim inl (λ x. inr (inl x)) (e .partly f);
         spent = e .spent;
+        failures = e .failures;
       })
       (s .geometry .pages) (omega arith)

@@ -1,5 +1,6 @@
 pub mod PlaceLaws
 pub mod OutcomeLaws
+pub mod TraceLaws
 pub mod ReadLaws
 pub mod EraseLaws
 pub mod ProgramLaws

@@ -1,11 +1,12 @@
 -- What a program leaves of a request's blocks and pages. Assumes nothing.
 use Prim.Native.Nat.{ℕ, _+_, _-_, _≤_, _<_}
-use mathlib.Core.Bool.{true, false}
-use mathlib.Core.List.{List}
+use mathlib.Core.Bool.{true, false, cond}
+use mathlib.Core.List.{List, _++_}
 use mathlib.Core.Logic.{_⊎_, inl, inr, ⊎-elim}
 use mathlib.Core.Path.{_≡_, refl, sym, ap, subst, _∙_}
 use native.Mathlib.Omega.{arith}
 use borrow.Table.Steps.{cases}
+use lib.Dec.{eqb, leb}
 use lib.ListN.{length, getD, set}
 use lib.Seq.{getD-set-same}
 use Rattle.geometry.specs.Sizes.{pageSize, rowOf}
@@ -14,14 +15,17 @@ use Rattle.cells.proofs.CellLaws.{length-programmed}
 use Rattle.array.specs.Device.{Setting}
 use Rattle.bus.specs.Line.{Line, sendAll}
 use Rattle.polling.specs.Polling.{isPassed, outcomeOf}
+use Rattle.polling.specs.declared.Outcome.{Outcome}
 use Rattle.sequences.specs.Cycles.{programCycles}
 use Rattle.operations.specs.Ends.{Called, CanProgram, End, endOf, programEnd, confirmedEnd, answered, totalFor, withRow, rowBytesOf}
-use Rattle.operations.proofs.ProgramLaws.{program-ends, program-legal, program-next}
+use Rattle.operations.proofs.ProgramLaws.{program-ends, program-legal, program-next, program-starts}
+use Rattle.operations.specs.Trace.{ArrayOperation, programStarts}
 use Rattle.copies.specs.Blocks.{blockIn, pageIn}
 use Rattle.scan.specs.Progress.{Progress}
-use Rattle.fill.specs.Steps.{programOn}
+use Rattle.fill.specs.Steps.{programOn, isFailed}
 use Rattle.fill.proofs.StepLaws.{program-on-line, program-on-outcome, whole-effect}
-use Rattle.runs.specs.Run.{isIllegal, Sound, Programmed, OthersSame, pageOn}
+use Rattle.runs.specs.Run.{isIllegal, failedIn, FailedMore, Sound, Programmed, OthersSame, pageOn}
+use Rattle.runs.proofs.TraceLaws.{failed-append, failed-one, cut-unfailed}
 use Rattle.runs.proofs.PlaceLaws.{page-place, page-there, page-elsewhere, page-other-block, page-long}
 use Rattle.runs.proofs.EraseLaws.{part-effect, ends-known, total-most}
 
@@ -62,6 +66,18 @@ module _ (s : Setting) (p : Progress) (block page : ℕ) (bytes : List ℕ) (t :
         legal = ap (λ (x : Line). x .chip .port .illegal) line-is ∙ program-legal s (p .line) block page bytes can;
         called = λ a. subst (Called s) (sym line-is) (program-next s (p .line) block page bytes can (sym (ap answered outcome-is) ∙ a));
       }
+
+  started-is : next .started ≡ p .started ++ programStarts s (p .line) (rowOf (s .geometry) block page) bytes
+  unfolding programOn
+  started-is = rw t
+
+  failures : FailedMore p next block
+  unfolding programEnd confirmedEnd
+  failures b =
+      ap (failedIn b) (started-is ∙ ap (λ (x : List ArrayOperation). p .started ++ x) (program-starts s (p .line) block page bytes can))
+      ∙ failed-append b (p .started) _
+      ∙ ap (cond (failedIn b (p .started)) true)
+      (failed-one b _ (leb (p .line .left) (6 + length bytes)) (cut-unfailed s (p .line) 2 (6 + length bytes)) ∙ ap (λ (o : Outcome). cond (eqb block b) (isFailed o) false) (sym outcome-is))
 
   abbrev old : List ℕ
   old = pageOn s p block page
@@ -122,4 +138,5 @@ module _ (s : Setting) (p : Progress) (block page : ℕ) (bytes : List ℕ) (t :
             ⊎-elim (λ e. inl (ap (λ (a : List ℕ). pageIn (s .geometry) (blockIn (s .geometry) a block) page) e)) (λ e. inr (replaced (programmed old half) (made-long half) e)) (effect-part f);
         in-order = order-next;
         spent = omega (arith, left-is, total-most s (p .line) (6 + length bytes), can .bytes-long);
+        failures = failures;
       }

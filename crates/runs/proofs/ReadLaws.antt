@@ -1,13 +1,13 @@
 -- Resets and reads of a request on its way: nothing on the chip changes. Assumes nothing.
-use Prim.Native.Nat.{ℕ, zero, suc, _+_, _-_, _*_, _≤_, _<_}
-use mathlib.Core.Bool.{true}
+use Prim.Native.Nat.{ℕ, zero, suc, _+_, _-_, _*_, _/_, _≤_, _<_}
+use mathlib.Core.Bool.{Bool, true, false, cond}
 use mathlib.Core.List.{List, []}
 use mathlib.Core.Path.{_≡_, refl, sym, ap, subst, _∙_}
 use native.Mathlib.Nat.{suc-mul}
 use native.Mathlib.Omega.{arith}
 use borrow.Table.Steps.{cases}
 use borrow.Author.Tests.{ltb-true}
-use lib.Dec.{ltb}
+use lib.Dec.{eqb, leb, ltb}
 use Rattle.geometry.specs.Limits.{Valid}
 use Rattle.geometry.specs.Sizes.{pageSize, rowCount, rowOf}
 use Rattle.geometry.proofs.SizeLaws.{row-below}
@@ -18,14 +18,16 @@ use Rattle.polling.specs.Polling.{isPassed}
 use Rattle.polling.specs.declared.Outcome.the-variants.{Passed}
 use Rattle.sequences.specs.Cycles.{resetCycles}
 use Rattle.operations.specs.Ends.{Called, CanRead, End, endOfRead, readEnd, endOfReset, resetEnd, answered, readTotal, wordFor}
-use Rattle.operations.proofs.ReadLaws.{read-ends, read-legal, read-next}
+use Rattle.operations.proofs.ReadLaws.{read-ends, read-legal, read-next, read-starts}
 use Rattle.operations.proofs.ResetLaws.{reset-ends, reset-legal}
+use Rattle.operations.specs.Trace.{ArrayOperation, readStarts}
 use Rattle.scan.specs.Progress.{Progress, progress, readOn, resetOn}
 use Rattle.scan.specs.Scan.{pagesRead, blocksRead}
 use Rattle.scan.proofs.ReadOnLaws.{read-line, read-outcome, read-stopped, is-passed}
 use Rattle.calls.specs.Call.{sizedFor, callLine}
 use Rattle.calls.proofs.ResetLaws.{reset-called}
-use Rattle.runs.specs.Run.{isReadEnd, Unchanged, Spent, readMost}
+use Rattle.runs.specs.Run.{isReadEnd, failedIn, NoneFailed, Unchanged, Spent, readMost}
+use Rattle.runs.proofs.TraceLaws.{failed-append, failed-one, read-unfailed, and-none, or-none}
 use Rattle.runs.proofs.OutcomeLaws.{read-passed, read-known}
 
 -- how a read ends, by its fate word and the allowance
@@ -75,6 +77,21 @@ module _ (s : Setting) (array history : List ℕ) where
         omega (arith, left-is, read-most s l n))
         (λ f. omega (arith, ap (λ (x : Progress). x .line .left) (read-stopped s row column n p f)))
 
+    pub read-calm : (p : Progress) → Unchanged s array history p → NoneFailed p (readOn s row column n p)
+    unfolding readOn answered isPassed
+    read-calm p u b =
+        cases (isPassed (p .outcome))
+        (λ t.
+        let l = p .line in
+        let can : CanRead s l row column n = record { called = u .sound .called (ap answered (is-passed (p .outcome) t)); row-below = row-fits; column-below = column-fits; within = within } in
+        rw t
+        (failed-append b (p .started) (readStarts s l row column)
+        ∙ ap (λ (x : List ArrayOperation). cond (failedIn b (p .started)) true (failedIn b x)) (read-starts s l row column n can)
+        ∙ ap (cond (failedIn b (p .started)) true)
+        (failed-one b _ (leb (l .left) 6) (λ x. read-unfailed s l 6) ∙ ap (λ (x : Bool). cond (eqb (row / s .geometry .pages) b) x false) (read-unfailed s l 6) ∙ and-none (eqb (row / s .geometry .pages) b))
+        ∙ or-none (failedIn b (p .started))))
+        (λ f. rw f)
+
     pub read-unchanged : (p : Progress) → Unchanged s array history p → Unchanged s array history (readOn s row column n p)
     read-unchanged p u =
         cases (isPassed (p .outcome))
@@ -99,6 +116,14 @@ module _ (s : Setting) (array history : List ℕ) where
         read-spends (rowOf (s .geometry) block n) 0 (pageSize (s .geometry)) (row-below (s .geometry) v block n b (omega (arith, h))) (omega (arith, v .main-least)) (omega arith)
         (pagesRead s block n p) (pages-unchanged block b n (omega (arith, h)) p u) in
         omega (arith, last, pages-spend block b n (omega (arith, h)) p u, suc-mul n (readMost (pageSize (s .geometry))))
+
+    pub pages-calm : (block : ℕ) → block < s .geometry .blocks → (n : ℕ) → n ≤ s .geometry .pages → (p : Progress) → Unchanged s array history p → NoneFailed p (pagesRead s block n p)
+    unfolding pagesRead
+    pages-calm block b zero h p u c = refl
+    pages-calm block b (suc n) h p u c =
+        read-calm (rowOf (s .geometry) block n) 0 (pageSize (s .geometry)) (row-below (s .geometry) v block n b (omega (arith, h))) (omega (arith, v .main-least)) (omega arith)
+        (pagesRead s block n p) (pages-unchanged block b n (omega (arith, h)) p u) c
+        ∙ pages-calm block b n (omega (arith, h)) p u c
 
     pub blocks-unchanged : (n : ℕ) → n ≤ s .geometry .blocks → (p : Progress) → Unchanged s array history p → Unchanged s array history (blocksRead s n p)
     unfolding blocksRead

@@ -1,9 +1,10 @@
 -- A request on its way, told without its cycles: what each of its operations leaves of the chip.
 use Prim.Native.Nat.{ℕ, _+_, _*_, _≤_, _<_}
-use mathlib.Core.Bool.{Bool, true, false}
-use mathlib.Core.List.{List}
+use mathlib.Core.Bool.{Bool, true, false, cond}
+use mathlib.Core.List.{List, [], _∷_}
 use mathlib.Core.Logic.{_⊎_}
 use mathlib.Core.Path.{_≡_}
+use lib.Dec.{eqb}
 use lib.ListN.{length, getD, replicate}
 use Rattle.geometry.specs.declared.Geometry.{Geometry}
 use Rattle.geometry.specs.Sizes.{pageSize, blockSize}
@@ -14,10 +15,12 @@ use Rattle.polling.specs.Polling.{isPassed}
 use Rattle.polling.specs.declared.Outcome.{Outcome}
 use Rattle.polling.specs.declared.Outcome.the-variants.{Passed, Failed, Silent, Cut, Illegal}
 use Rattle.operations.specs.Ends.{Called, answered}
+use Rattle.operations.specs.Trace.{ArrayOperation}
 use Rattle.pages.specs.Layout.{numberWidth}
 use Rattle.pages.specs.Over.{Over}
 use Rattle.copies.specs.Blocks.{blockIn, pageIn, mainIn}
 use Rattle.scan.specs.Progress.{Progress}
+use Rattle.fill.specs.Steps.{isFailed}
 use Rattle.fill.specs.Fill.{Copy, Source, given, kept, pageOf}
 
 -- how a reset or a read can end: passed, silent or cut
@@ -35,6 +38,16 @@ isIllegal Silent = false
 isIllegal Cut = false
 isIllegal Illegal = true
 
+-- an erase or a program of block b failed
+unfoldable pub failedIn : ℕ → List ArrayOperation → Bool
+failedIn b [] = false
+failedIn b (o ∷ os) = let more = failedIn b os in cond (cond (eqb (o .block) b) (isFailed (o .answer)) false) true more
+
+-- the same operations failed in q as in p, and the last of q, of this block, if it failed
+abbrev pub FailedMore : Progress → Progress → ℕ → Type 0
+FailedMore p q block =
+    (b : ℕ) → failedIn b (q .started) ≡ cond (failedIn b (p .started)) true (cond (eqb block b) (isFailed (q .outcome)) false)
+
 -- no cycle was answered illegal, and after an operation that was answered the chip takes the next one
 pub record Sound (s : Setting) (p : Progress) : Type 0 where
   pub legal : p .line .chip .port .illegal ≡ 0
@@ -47,6 +60,10 @@ pub record Unchanged (s : Setting) (array history : List ℕ) (p : Progress) : T
   pub ends : isReadEnd (p .outcome) ≡ true
   pub same-array : p .line .chip .array ≡ array
   pub same-history : p .line .chip .history ≡ history
+
+-- no operation failed since p
+abbrev pub NoneFailed : Progress → Progress → Type 0
+NoneFailed p q = (b : ℕ) → failedIn b (q .started) ≡ failedIn b (p .started)
 
 -- the array of a request on its way, by its blocks and pages
 abbrev pub blockOn : Setting → Progress → ℕ → List ℕ
@@ -88,6 +105,7 @@ pub record Erased (s : Setting) (p q : Progress) (block : ℕ) : Type 0 where
   pub partly : isPassed (q .outcome) ≡ false → (blockOn s q block ≡ blockOn s p block) ⊎ (blockOn s q block ≡ raised (blockOn s p block) (s .mask))
   pub in-order : isPassed (q .outcome) ≡ true → getD (q .line .chip .history) block 0 ≤ 0
   pub spent : Spent p q eraseMost
+  pub failures : FailedMore p q block
 
 -- a program that led from p to q
 pub record Programmed (s : Setting) (p q : Progress) (block page : ℕ) (bytes : List ℕ) : Type 0 where
@@ -99,6 +117,7 @@ pub record Programmed (s : Setting) (p q : Progress) (block page : ℕ) (bytes :
       → (pageOn s q block page ≡ pageOn s p block page) ⊎ (pageOn s q block page ≡ programmed (pageOn s p block page) (weakened bytes (s .mask)))
   pub in-order : isPassed (q .outcome) ≡ true → getD (q .line .chip .history) block 0 ≤ page + 1
   pub spent : Spent p q (programMost (s .geometry))
+  pub failures : FailedMore p q block
 
 -- where the bytes of page n of a copy come from: the caller, or the same page of another block
 pub data Provides (g : Geometry) (array : List ℕ) (block : ℕ) (c : Copy) (n : ℕ) : Source → List ℕ → Type 0 where
@@ -134,3 +153,4 @@ pub record Filled (s : Setting) (p q : Progress) (block : ℕ) (pages : ℕ → 
   pub in-order : isPassed (q .outcome) ≡ true → getD (q .line .chip .history) block 0 ≤ n
   pub damaged : isPassed (q .outcome) ≡ false → Damaged s p q block pages
   pub spent : Spent p q k
+  pub failures : FailedMore p q block

@@ -1,0 +1,85 @@
+-- The failures in a request's trace, operation by operation. Assumes nothing.
+use Prim.Native.Nat.{ℕ, _+_}
+use mathlib.Core.Bool.{Bool, true, false, cond, false≢true}
+use mathlib.Core.List.{List, [], _∷_, _++_}
+use mathlib.Core.Path.{_≡_, refl, sym, ap, _∙_}
+use native.Mathlib.Omega.{arith}
+use borrow.Table.Steps.{cases}
+use lib.Dec.{eqb, leb, ltb}
+use borrow.Author.Tests.{leb-true, lt-ltb}
+use Rattle.interface.specs.Interface.{busyOf}
+use Rattle.array.specs.Device.{Setting}
+use Rattle.bus.specs.Line.{Line}
+use Rattle.polling.specs.Polling.{isPassed}
+use Rattle.polling.specs.declared.Outcome.{Outcome}
+use Rattle.polling.specs.declared.Outcome.the-variants.{Passed, Failed, Silent, Cut, Illegal}
+use Rattle.operations.specs.Ends.{endsAs, totalFor, wordFor}
+use Rattle.operations.specs.Trace.{ArrayOperation}
+use Rattle.scan.specs.Progress.{Progress}
+use Rattle.fill.specs.Steps.{isFailed}
+use Rattle.runs.specs.Run.{isReadEnd, failedIn, FailedMore, NoneFailed}
+
+or-assoc : (a b c : Bool) → cond (cond a true b) true c ≡ cond a true (cond b true c)
+or-assoc true b c = refl
+or-assoc false b c = refl
+
+-- failures before and since
+pub failed-append : (b : ℕ) (os ps : List ArrayOperation) → failedIn b (os ++ ps) ≡ cond (failedIn b os) true (failedIn b ps)
+unfolding failedIn
+failed-append b [] ps = refl
+failed-append b (o ∷ os) ps = rw (failed-append b os ps) (sym (or-assoc (cond (eqb (o .block) b) (isFailed (o .answer)) false) (failedIn b os) (failedIn b ps)))
+
+pub or-none : (a : Bool) → cond a true false ≡ a
+or-none true = refl
+or-none false = refl
+
+pub and-none : (a : Bool) → cond a false false ≡ false
+and-none true = refl
+and-none false = refl
+
+-- an operation that is cut before its confirm cycle did not fail
+pub cut-unfailed : (s : Setting) (l : Line) (op m : ℕ) → leb (l .left) m ≡ true → isFailed (endsAs s l op m) ≡ false
+unfolding isFailed
+cut-unfailed s l op m t = rw (lt-ltb (l .left) (totalFor s (l .chip) m) (omega (arith, leb-true (l .left) m t)))
+
+-- one operation, where its confirm cycle was sent
+pub failed-one : (b : ℕ) (o : ArrayOperation) (c : Bool) → (c ≡ true → isFailed (o .answer) ≡ false) → failedIn b (cond c [] (o ∷ [])) ≡ cond (eqb (o .block) b) (isFailed (o .answer)) false
+unfolding failedIn
+failed-one b o true f = sym (rw (f refl) (and-none (eqb (o .block) b)))
+failed-one b o false f = or-none (cond (eqb (o .block) b) (isFailed (o .answer)) false)
+
+-- a read does not fail
+pub read-unfailed : (s : Setting) (l : Line) (m : ℕ) → isFailed (endsAs s l 1 m) ≡ false
+unfolding isFailed
+read-unfailed s l m =
+    cases (ltb (l .left) (totalFor s (l .chip) m))
+    (λ t. rw t)
+    (λ t. cases (ltb (busyOf (wordFor s (l .chip))) 256) (λ u. rw (t, u)) (λ u. rw (t, u)))
+
+pub passed-unfailed : (o : Outcome) → isPassed o ≡ true → isFailed o ≡ false
+unfolding isPassed isFailed
+passed-unfailed Passed t = refl
+passed-unfailed Failed t = absurd (false≢true t)
+passed-unfailed Silent t = refl
+passed-unfailed Cut t = refl
+passed-unfailed Illegal t = refl
+
+pub read-end-unfailed : (o : Outcome) → isReadEnd o ≡ true → isFailed o ≡ false
+unfolding isReadEnd isFailed
+read-end-unfailed Passed r = refl
+read-end-unfailed Failed r = absurd (false≢true r)
+read-end-unfailed Silent r = refl
+read-end-unfailed Cut r = refl
+read-end-unfailed Illegal r = refl
+
+-- what did not fail adds nothing
+pub unfailed-none : (p q : Progress) (block : ℕ) → isFailed (q .outcome) ≡ false → FailedMore p q block → NoneFailed p q
+unfailed-none p q block f more b =
+    more b ∙ ap (λ (x : Bool). cond (failedIn b (p .started)) true (cond (eqb block b) x false)) f
+    ∙ ap (cond (failedIn b (p .started)) true) (and-none (eqb block b)) ∙ or-none (failedIn b (p .started))
+
+pub none-unfailed : (p q : Progress) (block : ℕ) → isFailed (q .outcome) ≡ false → NoneFailed p q → FailedMore p q block
+none-unfailed p q block f none b =
+    none b
+    ∙ sym (ap (λ (x : Bool). cond (failedIn b (p .started)) true (cond (eqb block b) x false)) f
+    ∙ ap (cond (failedIn b (p .started)) true) (and-none (eqb block b)) ∙ or-none (failedIn b (p .started)))
