@@ -1,7 +1,8 @@
 -- A formatting as a whole: every cycle legal, marked blocks untouched, and what an acknowledged one leaves. Assumes nothing.
 use Prim.Native.Nat.{ℕ, zero, suc, _+_, _*_, _≤_, _<_}
-use mathlib.Core.Bool.{true, false, true≢false, false≢true}
+use mathlib.Core.Bool.{true, false}
 use mathlib.Core.List.{List, []}
+use mathlib.Core.Logic.{⊎-elim}
 use mathlib.Core.Path.{_≡_, refl, sym, ap, subst, _∙_}
 use native.Mathlib.Nat.{mul-le-mul-right}
 use native.Mathlib.Omega.{arith}
@@ -18,7 +19,7 @@ use Rattle.bitmaps.specs.Bitmap.{bitAt}
 use Rattle.array.specs.Device.{Device, Setting}
 use Rattle.polling.specs.Polling.{isPassed}
 use Rattle.polling.specs.declared.Outcome.{Outcome}
-use Rattle.polling.specs.declared.Outcome.the-variants.{Passed, Failed, Silent, Cut, Illegal}
+use Rattle.polling.specs.declared.Outcome.the-variants.{Passed}
 use Rattle.operations.specs.Ends.{Called}
 use Rattle.copies.specs.Blocks.{blockIn, pageIn, isMarked}
 use Rattle.copies.specs.Current.{currentTable, filledLast, nextNumber}
@@ -37,6 +38,7 @@ use Rattle.erasing.specs.Round.{Round, erasedTo}
 use Rattle.tables.specs.Tables.{Tabled, tabled, numbersLeft}
 use Rattle.format.specs.Format.{firstState, tooFew, stopped, tablesOf, tablesRun, roundRun, marksRun, formatRun}
 use Rattle.runs.specs.Run.{isReadEnd, failedIn, NoneFailed, Sound, Unchanged, Spent, readMost, fillMost, blockOn}
+use Rattle.runs.proofs.OutcomeLaws.{stop-answer, stop-cut}
 use Rattle.runs.proofs.PlaceLaws.{page-erased}
 use Rattle.runs.proofs.ReadLaws.{read-unchanged, read-spends, read-calm, reset-unchanged, reset-spends}
 use Rattle.runs.proofs.CopyLaws.{erased-unmarked}
@@ -102,17 +104,13 @@ count-most marked invalid held (suc n) =
     cases (permitted marked invalid held n) (λ t. rw t (omega (arith, less))) (λ t. rw t (omega (arith, less)))
 
 stop-most : (o : Outcome) → isReadEnd o ≡ true → isPassed o ≡ false → (stopAnswer o ≤ 11) × (stopAnswer o ≡ 0 → ⊥)
-unfolding isReadEnd isPassed stopAnswer
-stop-most Passed r f = absurd (true≢false f)
-stop-most Failed r f = absurd (false≢true r)
-stop-most Silent r f = (omega arith, λ z. omega (arith, z))
-stop-most Cut r f = (omega arith, λ z. omega (arith, z))
-stop-most Illegal r f = absurd (false≢true r)
+stop-most o r f = ⊎-elim (λ e. (omega (arith, e), λ z. omega (arith, e, z))) (λ e. (omega (arith, e), λ z. omega (arith, e, z))) (stop-answer o r f)
 
 -- a formatting that led from p to t
 pub record Whole (s : Setting) (p : Progress) (t : Tabled) : Type 0 where
   pub sound : Sound s (t .progress)
   pub answers : t .answer ≤ 11
+  pub used-up : t .answer ≡ 11 → t .progress .line .left ≡ 0
   pub marked-kept : (b : ℕ) → b < s .geometry .blocks → isMarked (s .geometry) (blockOn s p b) ≡ true → blockOn s (t .progress) b ≡ blockOn s p b
   pub called : t .answer ≡ 0 → Called s (t .progress .line)
   pub formatted : t .answer ≡ 0 → Formatted (s .geometry) (t .progress .line .chip .array) (t .state)
@@ -136,11 +134,12 @@ module _ (s : Setting) (v : Valid (s .geometry)) (mask-bytes : Bytes (s .mask)) 
   rounded = round-leaves s v mask-bytes marked p mark-is sound ends none (g .blocks) (omega arith)
 
   -- a run that ends with a stopped state
-  stops : (t : Tabled) → Sound s (t .progress) → t .answer ≤ 11 → (t .answer ≡ 0 → ⊥) → ((b : ℕ) → b < g .blocks → bitAt marked b ≡ true → blockOn s (t .progress) b ≡ blockOn s p b) → Spent p (t .progress) (g .blocks * blockMost g) → Whole s p t
-  stops t x most not-done kept few =
+  stops : (t : Tabled) → Sound s (t .progress) → t .answer ≤ 11 → (t .answer ≡ 11 → t .progress .line .left ≡ 0) → (t .answer ≡ 0 → ⊥) → ((b : ℕ) → b < g .blocks → bitAt marked b ≡ true → blockOn s (t .progress) b ≡ blockOn s p b) → Spent p (t .progress) (g .blocks * blockMost g) → Whole s p t
+  stops t x most used not-done kept few =
       record {
         sound = x;
         answers = most;
+        used-up = used;
         marked-kept = λ b h m. kept b h (sym (mark-is b h) ∙ m);
         called = λ z. absurd (not-done z);
         formatted = λ z. absurd (not-done z);
@@ -241,12 +240,13 @@ module _ (s : Setting) (v : Valid (s .geometry)) (mask-bytes : Bytes (s .mask)) 
     unfolding tablesRun
     tables-whole =
         cases (tooFew g marked (r .invalid))
-        (λ few. subst (Whole s p) (sym (rw few)) (stops (tabled (r .progress) 8 (blank 2)) (rounded .sound) (omega arith) (λ z. omega (arith, z)) (rounded .marked-kept) (rounded .spent)))
+        (λ few. subst (Whole s p) (sym (rw few)) (stops (tabled (r .progress) 8 (blank 2)) (rounded .sound) (omega arith) (λ z. absurd (omega (arith, z))) (λ z. omega (arith, z)) (rounded .marked-kept) (rounded .spent)))
         (λ enough.
         subst (Whole s p) (sym (rw enough))
         (record {
           sound = left .sound;
           answers = left .answers;
+          used-up = left .used-up;
           marked-kept = λ b h m. kept-marked b h (sym (mark-is b h) ∙ m);
           called = λ z. d z .called;
           formatted = formats;
@@ -262,7 +262,7 @@ module _ (s : Setting) (v : Valid (s .geometry)) (mask-bytes : Bytes (s .mask)) 
       (λ y. subst (Whole s p) (sym (rw y)) (tables-whole y))
       (λ f.
       let most = stop-most (r .progress .outcome) (rounded .ends) f in
-      subst (Whole s p) (sym (rw f)) (stops (stopped (r .progress)) (rounded .sound) (most .0) (most .1) (rounded .marked-kept) (rounded .spent)))
+      subst (Whole s p) (sym (rw f)) (stops (stopped (r .progress)) (rounded .sound) (most .0) (λ z. rounded .sound .used-up (stop-cut (r .progress .outcome) z)) (most .1) (rounded .marked-kept) (rounded .spent)))
 
 -- the request from its reset on
 module _ (s : Setting) (d : Device) (n : ℕ) (t : sizedFor s d ≡ true) (mask-bytes : Bytes (s .mask)) where
@@ -294,6 +294,7 @@ module _ (s : Setting) (d : Device) (n : ℕ) (t : sizedFor s d ≡ true) (mask-
       record {
         legal = w .sound .legal;
         answers = w .answers;
+        used-up = w .used-up;
         marked-kept = λ b h m. w .marked-kept b h (ap (isMarked (s .geometry)) (block-same b) ∙ m) ∙ block-same b;
         called = w .called;
         formatted = w .formatted;
@@ -307,6 +308,7 @@ module _ (s : Setting) (d : Device) (n : ℕ) (t : sizedFor s d ≡ true) (mask-
       record {
         legal = same .sound .legal;
         answers = most .0;
+        used-up = λ z. same .sound .used-up (stop-cut (q .outcome) z);
         marked-kept = λ b h m. block-same b;
         called = λ z. absurd (most .1 z);
         formatted = λ z. absurd (most .1 z);

@@ -18,7 +18,7 @@ use Rattle.polling.specs.declared.Outcome.the-variants.{Passed}
 use Rattle.state.specs.declared.State.{State}
 use Rattle.found.specs.Found.{marksTo}
 use Rattle.calls.specs.Call.{sizedFor, callLine}
-use Rattle.calls.proofs.CallLaws.{called-sized}
+use Rattle.calls.proofs.CallLaws.{sizes, called-sized}
 use Rattle.scan.specs.Progress.{Progress, progress, resetOn}
 use Rattle.scan.proofs.CountLaws.{allowance, reset-counts}
 use Rattle.marks.specs.Marks.{marksRead}
@@ -67,6 +67,7 @@ module _ (s : Setting) (d : Device) (n : ℕ) (mask-bytes : Bytes (s .mask)) (t 
         lists-failed = λ z b h. left .failures z b h ∙ sym (left .formatted z .lists-are b h);
         sent-is = omega (arith, counted);
         sent-most = omega (arith, left .spent);
+        cut-at = λ z. omega (arith, left .used-up z);
       }
 
   pub format-ends : (state : State) → Formatting s d n (formatting s d n state)
@@ -98,3 +99,13 @@ format-fits g v =
     let fill : fillMost g ≤ 574790 = omega (arith, pages) in
     let fills = mul-le-mul (v .blocks-most) fill in
     omega (arith, v .blocks-most, blocks, fills)
+
+-- the largest allowance cuts nothing
+pub format-uncut : (s : Setting) (d : Device) (state : State) → Bytes (s .mask) → formatting s d 4294967295 state .answer ≡ 11 → ⊥
+format-uncut s d state mask-bytes z =
+    cases (sizedFor s d)
+    (λ t.
+    let f = format-ends s d 4294967295 mask-bytes t state in
+    let fits = format-fits (s .geometry) (sizes (s .geometry) (length (d .array)) (length (d .register)) (length (d .history)) (length (s .mask)) t .chip-fits .is-valid) in
+    omega (arith, f .cut-at z, f .sent-most, fits))
+    (λ f. absurd (omega (arith, z, format-refused s d 4294967295 state f)))

@@ -33,7 +33,7 @@ use Rattle.fill.specs.Steps.{eraseOn, resumed, isFailed}
 use Rattle.fill.proofs.StepLaws.{passed-answered, erase-stopped}
 use Rattle.fill.proofs.OutcomeLaws.{failed-answered}
 use Rattle.erasing.specs.Round.{Round, round, afterErase, blockErased, failedAt, aboveAt, erasedTo}
-use Rattle.runs.specs.Run.{isIllegal, isReadEnd, failedIn, NoneFailed, Sound, Unchanged, Erased, Spent, readMost, blockOn}
+use Rattle.runs.specs.Run.{isIllegal, isCut, isReadEnd, failedIn, NoneFailed, Sound, Unchanged, Erased, Spent, readMost, blockOn}
 use Rattle.runs.proofs.PlaceLaws.{block-long, page-within}
 use Rattle.runs.proofs.ReadLaws.{pages-unchanged, pages-spend, pages-calm}
 use Rattle.runs.proofs.TraceLaws.{unfailed-none}
@@ -226,10 +226,10 @@ module _ (s : Setting) (v : Valid (s .geometry)) (mask-bytes : Bytes (s .mask)) 
           failed-is = rw (t, free, w)
 
           goes-on : Unchanged s (e .line .chip .array) (e .line .chip .history) (resumed e)
-          unfolding isIllegal isReadEnd
+          unfolding isIllegal isReadEnd isCut
           goes-on =
               record {
-                sound = record { legal = left .sound .legal; known = refl; called = λ a. left .sound .called (failed-answered (e .outcome) w) };
+                sound = record { legal = left .sound .legal; known = refl; used-up = λ c. absurd (false≢true c); called = λ a. left .sound .called (failed-answered (e .outcome) w) };
                 ends = refl;
                 same-array = refl;
                 same-history = refl;

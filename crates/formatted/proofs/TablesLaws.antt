@@ -38,7 +38,7 @@ use Rattle.fill.specs.Steps.{resumed, isFailed}
 use Rattle.fill.proofs.StepLaws.{passed-answered}
 use Rattle.fill.proofs.OutcomeLaws.{failed-answered}
 use Rattle.tables.specs.Tables.{Tried, tryBlock, tryTable, stateAfter, Tabled, tabled, endedBy, endAnswer, endState, tablesFilled}
-use Rattle.runs.specs.Run.{isIllegal, failedIn, Sound, Meant, from-caller, Filled, Spent, fillMost, blockOn, pageOn}
+use Rattle.runs.specs.Run.{isIllegal, isCut, failedIn, Sound, Meant, from-caller, Filled, Spent, fillMost, blockOn, pageOn}
 use Rattle.runs.proofs.TraceLaws.{passed-unfailed, unfailed-none}
 use Rattle.runs.proofs.PlaceLaws.{page-erased}
 use Rattle.runs.proofs.FillLaws.{fill-leaves, over-erased}
@@ -84,6 +84,7 @@ pub record Done (s : Setting) (st : State) (q : Progress) (next : State) : Type 
 pub record Left (s : Setting) (held : List ℕ) (st : State) (p : Progress) (t : Tabled) : Type 0 where
   pub sound : Sound s (t .progress)
   pub answers : t .answer ≤ 11
+  pub used-up : t .answer ≡ 11 → t .progress .line .left ≡ 0
   pub marked-kept : (b : ℕ) → b < s .geometry .blocks → bitAt (st .marked) b ≡ true → blockOn s (t .progress) b ≡ blockOn s p b
   pub done : t .answer ≡ 0 → Done s st (t .progress) (t .state)
   pub spent : Spent p (t .progress) (countPermitted (st .marked) (st .invalid) held (s .geometry .blocks) * fillMost (s .geometry))
@@ -226,11 +227,11 @@ module _ (s : Setting) (mask-bytes : Bytes (s .mask)) (st : State) (p : Progress
       off-next c f e = true≢false (sym (bit-set (st .invalid) b byte-there) ∙ ap (bitAt (withBit (st .invalid) b)) (sym e) ∙ f)
 
       ready-next : Ready s (resumed q) next
-      unfolding isPassed isIllegal
+      unfolding isPassed isIllegal isCut
       ready-next =
           record {
             passed = refl;
-            sound = record { legal = left .sound .legal; known = refl; called = λ a. left .sound .called (failed-answered (q .outcome) w) };
+            sound = record { legal = left .sound .legal; known = refl; used-up = λ c. absurd (false≢true c); called = λ a. left .sound .called (failed-answered (q .outcome) w) };
             last-below = r .last-below;
             invalid-bits = bits-more (s .geometry .blocks) (st .invalid) b (v .blocks-most) below (r .invalid-bits);
             marks = marks-failed;
@@ -312,6 +313,14 @@ after-passed b st Silent t = absurd (false≢true t)
 after-passed b st Cut t = absurd (false≢true t)
 after-passed b st Illegal t = absurd (false≢true t)
 
+end-cut : (o : Outcome) → endAnswer o ≡ 11 → isCut o ≡ true
+unfolding endAnswer isPassed stopAnswer isCut
+end-cut Passed z = absurd (omega (arith, z))
+end-cut Failed z = absurd (omega (arith, z))
+end-cut Silent z = absurd (omega (arith, z))
+end-cut Cut z = refl
+end-cut Illegal z = absurd (omega (arith, z))
+
 end-passed : (o : Outcome) → endAnswer o ≡ 0 → isPassed o ≡ true
 unfolding endAnswer isPassed stopAnswer
 end-passed Passed z = refl
@@ -343,7 +352,7 @@ module _ (s : Setting) (mask-bytes : Bytes (s .mask)) (held : List ℕ) where
     -- no block is left
     worn : Left s held st p (after-try k (tryBlock s st p Worn))
     unfolding after-try tryBlock
-    worn = record { sound = r .sound; answers = omega arith; marked-kept = λ b l t. refl; done = λ z. absurd (omega (arith, z)); spent = omega arith }
+    worn = record { sound = r .sound; answers = omega arith; used-up = λ z. absurd (omega (arith, z)); marked-kept = λ b l t. refl; done = λ z. absurd (omega (arith, z)); spent = omega arith }
 
     -- block b is filled
     module _ (b : ℕ) (e : choice ≡ Block b) where
@@ -396,6 +405,7 @@ module _ (s : Setting) (mask-bytes : Bytes (s .mask)) (held : List ℕ) where
           record {
             sound = x .sound;
             answers = x .answers;
+            used-up = x .used-up;
             marked-kept = λ c h m. x .marked-kept c h m ∙ kept-marked c h m;
             done = λ z.
                 let d = x .done z in
@@ -420,6 +430,7 @@ module _ (s : Setting) (mask-bytes : Bytes (s .mask)) (held : List ℕ) where
           record {
             sound = block-left .sound;
             answers = end-most (ended .outcome) (block-left .sound .known) f;
+            used-up = λ z. block-left .sound .used-up (end-cut (ended .outcome) z);
             marked-kept = kept-marked;
             done = λ z.
                 let y = end-passed (ended .outcome) z in
@@ -439,7 +450,7 @@ module _ (s : Setting) (mask-bytes : Bytes (s .mask)) (held : List ℕ) where
   pub tables-leave : (k : ℕ) (st : State) (p : Progress) → Ready s p st → k ≤ 4294967296 - st .number → Left s held st p (tablesFilled s held k st p)
   unfolding tablesFilled
   tables-leave zero st p r h =
-      record { sound = r .sound; answers = omega arith; marked-kept = λ b l t. refl; done = λ z. absurd (omega (arith, z)); spent = omega arith }
+      record { sound = r .sound; answers = omega arith; used-up = λ z. absurd (omega (arith, z)); marked-kept = λ b l t. refl; done = λ z. absurd (omega (arith, z)); spent = omega arith }
   tables-leave (suc k) st p r h =
       let fits : st .number < 4294967296 = omega (arith, h) in
       subst (Left s held st p) (sym (one-try k st p))

@@ -66,6 +66,7 @@ formatMost g = 3 + g .blocks * (2 * readMost 1) + (g .blocks * blockMost g + g .
 pub record FormatLeft (s : Setting) (d : Device) (n : ℕ) (t : Tabled) : Type 0 where
   pub legal : t .progress .line .chip .port .illegal ≡ 0
   pub answers : t .answer ≤ 11
+  pub used-up : t .answer ≡ 11 → t .progress .line .left ≡ 0
   pub marked-kept : (b : ℕ) → b < s .geometry .blocks → isMarked (s .geometry) (blockIn (s .geometry) (d .array) b) ≡ true
       → blockIn (s .geometry) (t .progress .line .chip .array) b ≡ blockIn (s .geometry) (d .array) b
   pub called : t .answer ≡ 0 → Called s (t .progress .line)
@@ -81,7 +82,7 @@ pub record Acknowledged (s : Setting) (r : Result) : Type 0 where
 
 -- a formatting of a chip whose sizes go together, whatever its state, fates, mask and allowance of n cycles: every
 -- cycle legal, blocks with a factory mark untouched, no more cycles than formatMost; if it is acknowledged, the table
--- lists the blocks of which an erase or a program failed, and no others
+-- lists the blocks of which an erase or a program failed, and no others; if it is cut, all n cycles were sent
 pub record Formatting (s : Setting) (d : Device) (n : ℕ) (r : Result) : Type 0 where
   pub legal : r .chip .port .illegal ≡ 0
   pub answers : r .answer ≤ 11
@@ -91,3 +92,4 @@ pub record Formatting (s : Setting) (d : Device) (n : ℕ) (r : Result) : Type 0
   pub lists-failed : r .answer ≡ 0 → (b : ℕ) → b < s .geometry .blocks → failedIn b (formatRun s d n .progress .started) ≡ lists (s .geometry) (blockIn (s .geometry) (r .chip .array) (r .state .table)) b
   pub sent-is : r .sent ≡ length (formatRun s d n .progress .cycles)
   pub sent-most : r .sent ≤ formatMost (s .geometry)
+  pub cut-at : r .answer ≡ 11 → r .sent ≡ n

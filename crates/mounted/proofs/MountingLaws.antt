@@ -1,8 +1,8 @@
 -- Every mount ends as Mounting tells, and sends fewer cycles than the allowance that cuts nothing. Assumes nothing.
 use Prim.Native.Nat.{ℕ, _+_, _≤_}
-use mathlib.Core.Bool.{Bool, true, false, cond, true≢false, false≢true}
+use mathlib.Core.Bool.{Bool, true, false, cond}
 use mathlib.Core.List.{List, []}
-use mathlib.Core.Logic.{_⊎_, inl, inr, ⊎-elim}
+use mathlib.Core.Logic.{_⊎_, ⊎-elim}
 use mathlib.Core.Path.{_≡_, refl, ap, subst, _∙_}
 use native.Mathlib.Nat.{mul-le-mul}
 use native.Mathlib.Omega.{arith}
@@ -14,8 +14,7 @@ use Rattle.geometry.specs.Sizes.{pageSize}
 use Rattle.geometry.proofs.SizeLaws.{page-size-most}
 use Rattle.array.specs.Device.{Device, Setting}
 use Rattle.polling.specs.Polling.{isPassed}
-use Rattle.polling.specs.declared.Outcome.{Outcome}
-use Rattle.polling.specs.declared.Outcome.the-variants.{Passed, Failed, Silent, Cut, Illegal}
+use Rattle.polling.specs.declared.Outcome.the-variants.{Passed}
 use Rattle.copies.specs.Blocks.{blockIn, isMarked}
 use Rattle.copies.specs.Current.{currentTable, judgeTable, mountAnswer, clashes}
 use Rattle.copies.specs.Pick.{Pick, nothing, at}
@@ -28,7 +27,8 @@ use Rattle.scan.specs.Progress.{Progress, progress, resetOn}
 use Rattle.scan.proofs.CountLaws.{allowance, blocks-count, reset-counts}
 use Rattle.fill.proofs.StepLaws.{passed-answered}
 use Rattle.mount.specs.Mount.{stateAfter, mountRun, mountEnd, mounting}
-use Rattle.runs.specs.Run.{isReadEnd, Unchanged, readMost}
+use Rattle.runs.specs.Run.{Unchanged, readMost}
+use Rattle.runs.proofs.OutcomeLaws.{stop-answer, stop-cut}
 use Rattle.runs.proofs.ReadLaws.{blocks-unchanged, blocks-spend, reset-unchanged, reset-spends}
 use Rattle.mounted.specs.Mounting.{mountMost, Mounting}
 
@@ -48,14 +48,6 @@ judge-most g array (at t) =
 pub answer-most : (g : Geometry) (array : List ℕ) → mountAnswer g array ≤ 6
 unfolding mountAnswer
 answer-most g array = judge-most g array (currentTable g array)
-
-stop-answer : (o : Outcome) → isReadEnd o ≡ true → isPassed o ≡ false → (stopAnswer o ≡ 10) ⊎ (stopAnswer o ≡ 11)
-unfolding isReadEnd isPassed stopAnswer
-stop-answer Passed r f = absurd (true≢false f)
-stop-answer Failed r f = absurd (false≢true r)
-stop-answer Silent r f = inl refl
-stop-answer Cut r f = inr refl
-stop-answer Illegal r f = absurd (false≢true r)
 
 module _ (s : Setting) (d : Device) (n : ℕ) (t : sizedFor s d ≡ true) where
   abbrev g : Geometry
@@ -101,6 +93,7 @@ module _ (s : Setting) (d : Device) (n : ℕ) (t : sizedFor s d ≡ true) where
         still-ready = λ z. same .sound .called (passed-answered (run .outcome) y) .ready;
         sent-is = omega (arith, counted);
         sent-most = omega (arith, few);
+        cut-at = λ z. absurd (omega (arith, z, small));
       }
 
   -- it did not
@@ -121,6 +114,7 @@ module _ (s : Setting) (d : Device) (n : ℕ) (t : sizedFor s d ≡ true) where
         still-ready = λ z. absurd (not-zero z);
         sent-is = omega (arith, counted);
         sent-most = omega (arith, few);
+        cut-at = λ z. omega (arith, same .sound .used-up (stop-cut (run .outcome) z));
       }
 
   pub mount-ends : (state : State) → Mounting s d n (mounting s d n state)
@@ -137,3 +131,18 @@ mount-fits g v =
     let block = mul-le-mul (v .pages-most) page in
     let all = mul-le-mul (v .blocks-most) block in
     omega (arith, all)
+
+-- sizes that do not go together
+mount-refused : (s : Setting) (d : Device) (n : ℕ) (state : State) → sizedFor s d ≡ false → mounting s d n state .answer ≡ 1
+unfolding mounting
+mount-refused s d n state f = rw f
+
+-- the largest allowance cuts nothing
+pub mount-uncut : (s : Setting) (d : Device) (state : State) → mounting s d 4294967295 state .answer ≡ 11 → ⊥
+mount-uncut s d state z =
+    cases (sizedFor s d)
+    (λ t.
+    let m = mount-ends s d 4294967295 t state in
+    let fits = mount-fits (s .geometry) (v s d 4294967295 t) in
+    omega (arith, m .cut-at z, m .sent-most, fits))
+    (λ f. absurd (omega (arith, z, mount-refused s d 4294967295 state f)))

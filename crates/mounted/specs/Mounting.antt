@@ -31,3 +31,4 @@ pub record Mounting (s : Setting) (d : Device) (n : ℕ) (r : Result) : Type 0 w
   pub still-ready : r .answer ≡ 0 → r .chip .port .phase ≤ 2
   pub sent-is : r .sent ≡ length (mountRun s (callLine d n) .cycles)
   pub sent-most : r .sent ≤ mountMost (s .geometry)
+  pub cut-at : r .answer ≡ 11 → r .sent ≡ n

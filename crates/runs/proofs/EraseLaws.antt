@@ -26,7 +26,7 @@ use Rattle.copies.specs.Blocks.{blockIn}
 use Rattle.scan.specs.Progress.{Progress}
 use Rattle.fill.specs.Steps.{eraseOn, isFailed}
 use Rattle.fill.proofs.StepLaws.{erase-on-line, erase-on-outcome, whole-effect}
-use Rattle.runs.specs.Run.{isIllegal, failedIn, FailedMore, Sound, Erased, OthersSame, blockOn}
+use Rattle.runs.specs.Run.{isIllegal, isCut, failedIn, FailedMore, Sound, Erased, OthersSame, blockOn}
 use Rattle.runs.proofs.TraceLaws.{failed-append, failed-one, cut-unfailed}
 use Rattle.runs.proofs.PlaceLaws.{block-there, block-elsewhere, block-long}
 
@@ -56,6 +56,18 @@ ends-known s l op m =
     cases (ltb (busyOf (wordFor s (l .chip))) 256)
     (λ u. cases (eqb (failedFor op (wordFor s (l .chip))) 0) (λ w. rw (t, u, w)) (λ w. rw (t, u, w)))
     (λ u. rw (t, u)))
+
+-- one that is cut leaves no cycle
+pub ends-used-up : (s : Setting) (l : Line) (op m : ℕ) → isCut (endsAs s l op m) ≡ true → l .left - totalFor s (l .chip) m ≡ 0
+unfolding isCut
+ends-used-up s l op m c =
+    cases (ltb (l .left) (totalFor s (l .chip) m))
+    (λ t. omega (arith, ltb-true (l .left) (totalFor s (l .chip) m) t))
+    (λ t.
+    cases (ltb (busyOf (wordFor s (l .chip))) 256)
+    (λ u.
+    cases (eqb (failedFor op (wordFor s (l .chip))) 0) (λ w. absurd (false≢true (sym (rw (t, u, w)) ∙ c))) (λ w. absurd (false≢true (sym (rw (t, u, w)) ∙ c))))
+    (λ u. absurd (false≢true (sym (rw (t, u)) ∙ c))))
 
 -- an operation that did not pass left all as it was, or took effect as the mask says
 pub part-effect : (s : Setting) (l : Line) (op m : ℕ) (a₁ h₁ a₂ h₂ : List ℕ) → isPassed (confirmedEnd s l op m a₁ h₁ a₂ h₂ .outcome) ≡ false
@@ -100,6 +112,7 @@ module _ (s : Setting) (p : Progress) (block : ℕ) (below : block < s .geometry
   sound =
       record {
         known = ap isIllegal outcome-is ∙ ends-known s (p .line) 3 4;
+        used-up = λ c. left-is ∙ ends-used-up s (p .line) 3 4 (sym (ap isCut outcome-is) ∙ c);
         legal = ap (λ (x : Line). x .chip .port .illegal) line-is ∙ erase-legal s (p .line) block can;
         called = λ a. subst (Called s) (sym line-is) (erase-next s (p .line) block can (sym (ap answered outcome-is) ∙ a));
       }

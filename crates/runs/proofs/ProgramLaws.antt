@@ -24,10 +24,10 @@ use Rattle.copies.specs.Blocks.{blockIn, pageIn}
 use Rattle.scan.specs.Progress.{Progress}
 use Rattle.fill.specs.Steps.{programOn, isFailed}
 use Rattle.fill.proofs.StepLaws.{program-on-line, program-on-outcome, whole-effect}
-use Rattle.runs.specs.Run.{isIllegal, failedIn, FailedMore, Sound, Programmed, OthersSame, pageOn}
+use Rattle.runs.specs.Run.{isIllegal, isCut, failedIn, FailedMore, Sound, Programmed, OthersSame, pageOn}
 use Rattle.runs.proofs.TraceLaws.{failed-append, failed-one, cut-unfailed}
 use Rattle.runs.proofs.PlaceLaws.{page-place, page-there, page-elsewhere, page-other-block, page-long}
-use Rattle.runs.proofs.EraseLaws.{part-effect, ends-known, total-most}
+use Rattle.runs.proofs.EraseLaws.{part-effect, ends-known, ends-used-up, total-most}
 
 module _ (s : Setting) (p : Progress) (block page : ℕ) (bytes : List ℕ) (t : isPassed (p .outcome) ≡ true) (can : CanProgram s (p .line) block page bytes) where
   abbrev next : Progress
@@ -63,6 +63,7 @@ module _ (s : Setting) (p : Progress) (block page : ℕ) (bytes : List ℕ) (t :
   sound =
       record {
         known = ap isIllegal outcome-is ∙ ends-known s (p .line) 2 (6 + length bytes);
+        used-up = λ c. left-is ∙ ends-used-up s (p .line) 2 (6 + length bytes) (sym (ap isCut outcome-is) ∙ c);
         legal = ap (λ (x : Line). x .chip .port .illegal) line-is ∙ program-legal s (p .line) block page bytes can;
         called = λ a. subst (Called s) (sym line-is) (program-next s (p .line) block page bytes can (sym (ap answered outcome-is) ∙ a));
       }

@@ -1,6 +1,6 @@
 -- Resets and reads of a request on its way: nothing on the chip changes. Assumes nothing.
 use Prim.Native.Nat.{ℕ, zero, suc, _+_, _-_, _*_, _/_, _≤_, _<_}
-use mathlib.Core.Bool.{Bool, true, false, cond}
+use mathlib.Core.Bool.{Bool, true, false, cond, false≢true}
 use mathlib.Core.List.{List, []}
 use mathlib.Core.Path.{_≡_, refl, sym, ap, subst, _∙_}
 use native.Mathlib.Nat.{suc-mul}
@@ -26,7 +26,7 @@ use Rattle.scan.specs.Scan.{pagesRead, blocksRead}
 use Rattle.scan.proofs.ReadOnLaws.{read-line, read-outcome, read-stopped, is-passed}
 use Rattle.calls.specs.Call.{sizedFor, callLine}
 use Rattle.calls.proofs.ResetLaws.{reset-called}
-use Rattle.runs.specs.Run.{isReadEnd, failedIn, NoneFailed, Unchanged, Spent, readMost}
+use Rattle.runs.specs.Run.{isReadEnd, isCut, failedIn, NoneFailed, Unchanged, Spent, readMost}
 use Rattle.runs.proofs.TraceLaws.{failed-append, failed-one, read-unfailed, and-none, or-none}
 use Rattle.runs.proofs.OutcomeLaws.{read-passed, read-known}
 
@@ -37,6 +37,18 @@ ends-as-read s l n =
     cases (ltb (l .left) (readTotal s (l .chip) n))
     (λ t. rw t)
     (λ t. cases (ltb (busyOf (wordFor s (l .chip))) 256) (λ u. rw (t, u)) (λ u. rw (t, u)))
+
+-- one that is cut leaves no cycle
+read-used-up : (s : Setting) (l : Line) (n : ℕ) → isCut (readEnd s l n .outcome) ≡ true → l .left - readTotal s (l .chip) n ≡ 0
+unfolding readEnd isCut
+read-used-up s l n c =
+    cases (ltb (l .left) (readTotal s (l .chip) n))
+    (λ t. omega (arith, ltb-true (l .left) (readTotal s (l .chip) n) t))
+    (λ t. cases (ltb (busyOf (wordFor s (l .chip))) 256) (λ u. absurd (false≢true (sym (rw (t, u)) ∙ c))) (λ u. absurd (false≢true (sym (rw (t, u)) ∙ c))))
+
+reset-used-up : (l : Line) → isCut (resetEnd l .outcome) ≡ true → l .left - 3 ≡ 0
+unfolding resetEnd isCut
+reset-used-up l c = cases (ltb (l .left) 3) (λ t. omega (arith, ltb-true (l .left) 3 t)) (λ t. absurd (false≢true (sym (rw t) ∙ c)))
 
 read-most : (s : Setting) (l : Line) (n : ℕ) → readTotal s (l .chip) n ≤ readMost n
 read-most s l n =
@@ -59,6 +71,7 @@ module _ (s : Setting) (array history : List ℕ) where
           sound = record {
             legal = ap (λ (x : Line). x .chip .port .illegal) line-is ∙ read-legal s l row column n can;
             known = read-known (readOn s row column n p .outcome) fine;
+            used-up = λ c. ap (λ (x : Line). x .left) line-is ∙ ap (λ (e : End). e .left) ends ∙ read-used-up s l n (sym (ap isCut outcome-is) ∙ c);
             called = λ a. subst (Called s) (sym line-is) (read-next s l row column n can (sym (ap isPassed outcome-is) ∙ read-passed (readOn s row column n p .outcome) fine a));
           };
           ends = fine;
@@ -165,6 +178,7 @@ module _ (s : Setting) (d : Device) (n : ℕ) (t : sizedFor s d ≡ true) where
         sound = record {
           legal = reset-legal s (callLine d n) refl refl;
           known = read-known (begun .outcome) fine;
+          used-up = λ c. ap (λ (e : End). e .left) ends ∙ reset-used-up (callLine d n) (sym (ap isCut outcome-is) ∙ c);
           called = λ a. reset-called s d n t (begun .line) (begun .outcome) line-is refl (read-passed (begun .outcome) fine a);
         };
         ends = fine;

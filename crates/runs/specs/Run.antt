@@ -38,6 +38,13 @@ isIllegal Silent = false
 isIllegal Cut = false
 isIllegal Illegal = true
 
+unfoldable pub isCut : Outcome → Bool
+isCut Passed = false
+isCut Failed = false
+isCut Silent = false
+isCut Cut = true
+isCut Illegal = false
+
 -- an erase or a program of block b failed
 unfoldable pub failedIn : ℕ → List ArrayOperation → Bool
 failedIn b [] = false
@@ -48,10 +55,12 @@ abbrev pub FailedMore : Progress → Progress → ℕ → Type 0
 FailedMore p q block =
     (b : ℕ) → failedIn b (q .started) ≡ cond (failedIn b (p .started)) true (cond (eqb block b) (isFailed (q .outcome)) false)
 
--- no cycle was answered illegal, and after an operation that was answered the chip takes the next one
+-- no cycle was answered illegal, one that was cut used up the allowance, and after an operation that was answered the
+-- chip takes the next one
 pub record Sound (s : Setting) (p : Progress) : Type 0 where
   pub legal : p .line .chip .port .illegal ≡ 0
   pub known : isIllegal (p .outcome) ≡ false
+  pub used-up : isCut (p .outcome) ≡ true → p .line .left ≡ 0
   pub called : answered (p .outcome) ≡ true → Called s (p .line)
 
 -- so far nothing but resets and reads: array and history are as they were
