@@ -32,7 +32,7 @@ enum flash_store_answer {
     FLASH_STORE_WORN = 8,           /* no block left: stopped */
     FLASH_STORE_SILENT = 10,        /* 256 status reads of one operation all busy: stopped */
     FLASH_STORE_CUT = 11,           /* the allowed cycles are used and another is due: stopped */
-    FLASH_STORE_ILLEGAL = 255       /* the chip answered a cycle as illegal: stopped (docs/DECISIONS.md) */
+    FLASH_STORE_ILLEGAL = 255       /* a read was handed the words of a chip that is not ready: stopped (docs/DECISIONS.md) */
 };
 
 enum {

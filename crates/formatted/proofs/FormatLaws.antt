@@ -111,6 +111,7 @@ pub record Whole (s : Setting) (p : Progress) (t : Tabled) : Type 0 where
   pub sound : Sound s (t .progress)
   pub answers : t .answer ≤ 11
   pub used-up : t .answer ≡ 11 → t .progress .line .left ≡ 0
+  pub stopped-so : (t .answer ≡ 0 → ⊥) → t .state ≡ blank 2
   pub marked-kept : (b : ℕ) → b < s .geometry .blocks → isMarked (s .geometry) (blockOn s p b) ≡ true → blockOn s (t .progress) b ≡ blockOn s p b
   pub called : t .answer ≡ 0 → Called s (t .progress .line)
   pub formatted : t .answer ≡ 0 → Formatted (s .geometry) (t .progress .line .chip .array) (t .state)
@@ -134,12 +135,13 @@ module _ (s : Setting) (v : Valid (s .geometry)) (mask-bytes : Bytes (s .mask)) 
   rounded = round-leaves s v mask-bytes marked p mark-is sound ends none (g .blocks) (omega arith)
 
   -- a run that ends with a stopped state
-  stops : (t : Tabled) → Sound s (t .progress) → t .answer ≤ 11 → (t .answer ≡ 11 → t .progress .line .left ≡ 0) → (t .answer ≡ 0 → ⊥) → ((b : ℕ) → b < g .blocks → bitAt marked b ≡ true → blockOn s (t .progress) b ≡ blockOn s p b) → Spent p (t .progress) (g .blocks * blockMost g) → Whole s p t
-  stops t x most used not-done kept few =
+  stops : (t : Tabled) → Sound s (t .progress) → t .answer ≤ 11 → (t .answer ≡ 11 → t .progress .line .left ≡ 0) → t .state ≡ blank 2 → (t .answer ≡ 0 → ⊥) → ((b : ℕ) → b < g .blocks → bitAt marked b ≡ true → blockOn s (t .progress) b ≡ blockOn s p b) → Spent p (t .progress) (g .blocks * blockMost g) → Whole s p t
+  stops t x most used blank-so not-done kept few =
       record {
         sound = x;
         answers = most;
         used-up = used;
+        stopped-so = λ y. blank-so;
         marked-kept = λ b h m. kept b h (sym (mark-is b h) ∙ m);
         called = λ z. absurd (not-done z);
         formatted = λ z. absurd (not-done z);
@@ -222,7 +224,7 @@ module _ (s : Setting) (v : Valid (s .geometry)) (mask-bytes : Bytes (s .mask)) 
             only-table = λ b h c l. settled.only-table (d .settled) b h c (sym (settled.lists-invalid (d .settled) b h) ∙ l);
             mounts = settled.mounts-well (d .settled);
             state-is = state-is;
-            blank = settled.reads-blank (d .settled);
+            reads-blank = settled.reads-blank (d .settled);
           }
 
     kept-marked : (b : ℕ) → b < g .blocks → bitAt marked b ≡ true → blockOn s (t .progress) b ≡ blockOn s p b
@@ -240,13 +242,14 @@ module _ (s : Setting) (v : Valid (s .geometry)) (mask-bytes : Bytes (s .mask)) 
     unfolding tablesRun
     tables-whole =
         cases (tooFew g marked (r .invalid))
-        (λ few. subst (Whole s p) (sym (rw few)) (stops (tabled (r .progress) 8 (blank 2)) (rounded .sound) (omega arith) (λ z. absurd (omega (arith, z))) (λ z. omega (arith, z)) (rounded .marked-kept) (rounded .spent)))
+        (λ few. subst (Whole s p) (sym (rw few)) (stops (tabled (r .progress) 8 (blank 2)) (rounded .sound) (omega arith) (λ z. absurd (omega (arith, z))) refl (λ z. omega (arith, z)) (rounded .marked-kept) (rounded .spent)))
         (λ enough.
         subst (Whole s p) (sym (rw enough))
         (record {
           sound = left .sound;
           answers = left .answers;
           used-up = left .used-up;
+          stopped-so = left .stopped;
           marked-kept = λ b h m. kept-marked b h (sym (mark-is b h) ∙ m);
           called = λ z. d z .called;
           formatted = formats;
@@ -262,7 +265,7 @@ module _ (s : Setting) (v : Valid (s .geometry)) (mask-bytes : Bytes (s .mask)) 
       (λ y. subst (Whole s p) (sym (rw y)) (tables-whole y))
       (λ f.
       let most = stop-most (r .progress .outcome) (rounded .ends) f in
-      subst (Whole s p) (sym (rw f)) (stops (stopped (r .progress)) (rounded .sound) (most .0) (λ z. rounded .sound .used-up (stop-cut (r .progress .outcome) z)) (most .1) (rounded .marked-kept) (rounded .spent)))
+      subst (Whole s p) (sym (rw f)) (stops (stopped (r .progress)) (rounded .sound) (most .0) (λ z. rounded .sound .used-up (stop-cut (r .progress .outcome) z)) refl (most .1) (rounded .marked-kept) (rounded .spent)))
 
 -- the request from its reset on
 module _ (s : Setting) (d : Device) (n : ℕ) (t : sizedFor s d ≡ true) (mask-bytes : Bytes (s .mask)) where
@@ -295,6 +298,7 @@ module _ (s : Setting) (d : Device) (n : ℕ) (t : sizedFor s d ≡ true) (mask-
         legal = w .sound .legal;
         answers = w .answers;
         used-up = w .used-up;
+        stopped-so = w .stopped-so;
         marked-kept = λ b h m. w .marked-kept b h (ap (isMarked (s .geometry)) (block-same b) ∙ m) ∙ block-same b;
         called = w .called;
         formatted = w .formatted;
@@ -309,6 +313,7 @@ module _ (s : Setting) (d : Device) (n : ℕ) (t : sizedFor s d ≡ true) (mask-
         legal = same .sound .legal;
         answers = most .0;
         used-up = λ z. same .sound .used-up (stop-cut (q .outcome) z);
+        stopped-so = λ y. refl;
         marked-kept = λ b h m. block-same b;
         called = λ z. absurd (most .1 z);
         formatted = λ z. absurd (most .1 z);

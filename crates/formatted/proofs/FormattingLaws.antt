@@ -68,6 +68,7 @@ module _ (s : Setting) (d : Device) (n : ℕ) (mask-bytes : Bytes (s .mask)) (t 
         sent-is = omega (arith, counted);
         sent-most = omega (arith, left .spent);
         cut-at = λ z. omega (arith, left .used-up z);
+        stopped-so = left .stopped-so;
       }
 
   pub format-ends : (state : State) → Formatting s d n (formatting s d n state)

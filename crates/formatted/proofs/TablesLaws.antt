@@ -85,6 +85,7 @@ pub record Left (s : Setting) (held : List ℕ) (st : State) (p : Progress) (t :
   pub sound : Sound s (t .progress)
   pub answers : t .answer ≤ 11
   pub used-up : t .answer ≡ 11 → t .progress .line .left ≡ 0
+  pub stopped : (t .answer ≡ 0 → ⊥) → t .state ≡ blank 2
   pub marked-kept : (b : ℕ) → b < s .geometry .blocks → bitAt (st .marked) b ≡ true → blockOn s (t .progress) b ≡ blockOn s p b
   pub done : t .answer ≡ 0 → Done s st (t .progress) (t .state)
   pub spent : Spent p (t .progress) (countPermitted (st .marked) (st .invalid) held (s .geometry .blocks) * fillMost (s .geometry))
@@ -321,6 +322,14 @@ end-cut Silent z = absurd (omega (arith, z))
 end-cut Cut z = refl
 end-cut Illegal z = absurd (omega (arith, z))
 
+end-stopped : (o : Outcome) (st : State) → (endAnswer o ≡ 0 → ⊥) → endState o st ≡ blank 2
+unfolding endAnswer endState isPassed
+end-stopped Passed st x = absurd (x refl)
+end-stopped Failed st x = refl
+end-stopped Silent st x = refl
+end-stopped Cut st x = refl
+end-stopped Illegal st x = refl
+
 end-passed : (o : Outcome) → endAnswer o ≡ 0 → isPassed o ≡ true
 unfolding endAnswer isPassed stopAnswer
 end-passed Passed z = refl
@@ -352,7 +361,7 @@ module _ (s : Setting) (mask-bytes : Bytes (s .mask)) (held : List ℕ) where
     -- no block is left
     worn : Left s held st p (after-try k (tryBlock s st p Worn))
     unfolding after-try tryBlock
-    worn = record { sound = r .sound; answers = omega arith; used-up = λ z. absurd (omega (arith, z)); marked-kept = λ b l t. refl; done = λ z. absurd (omega (arith, z)); spent = omega arith }
+    worn = record { sound = r .sound; answers = omega arith; used-up = λ z. absurd (omega (arith, z)); stopped = λ x. refl; marked-kept = λ b l t. refl; done = λ z. absurd (omega (arith, z)); spent = omega arith }
 
     -- block b is filled
     module _ (b : ℕ) (e : choice ≡ Block b) where
@@ -406,6 +415,7 @@ module _ (s : Setting) (mask-bytes : Bytes (s .mask)) (held : List ℕ) where
             sound = x .sound;
             answers = x .answers;
             used-up = x .used-up;
+            stopped = x .stopped;
             marked-kept = λ c h m. x .marked-kept c h m ∙ kept-marked c h m;
             done = λ z.
                 let d = x .done z in
@@ -431,6 +441,7 @@ module _ (s : Setting) (mask-bytes : Bytes (s .mask)) (held : List ℕ) where
             sound = block-left .sound;
             answers = end-most (ended .outcome) (block-left .sound .known) f;
             used-up = λ z. block-left .sound .used-up (end-cut (ended .outcome) z);
+            stopped = end-stopped (ended .outcome) (stateAfter b (ended .outcome) taken);
             marked-kept = kept-marked;
             done = λ z.
                 let y = end-passed (ended .outcome) z in
@@ -450,7 +461,7 @@ module _ (s : Setting) (mask-bytes : Bytes (s .mask)) (held : List ℕ) where
   pub tables-leave : (k : ℕ) (st : State) (p : Progress) → Ready s p st → k ≤ 4294967296 - st .number → Left s held st p (tablesFilled s held k st p)
   unfolding tablesFilled
   tables-leave zero st p r h =
-      record { sound = r .sound; answers = omega arith; used-up = λ z. absurd (omega (arith, z)); marked-kept = λ b l t. refl; done = λ z. absurd (omega (arith, z)); spent = omega arith }
+      record { sound = r .sound; answers = omega arith; used-up = λ z. absurd (omega (arith, z)); stopped = λ x. refl; marked-kept = λ b l t. refl; done = λ z. absurd (omega (arith, z)); spent = omega arith }
   tables-leave (suc k) st p r h =
       let fits : st .number < 4294967296 = omega (arith, h) in
       subst (Left s held st p) (sym (one-try k st p))

@@ -15,6 +15,7 @@ use Rattle.copies.specs.Blocks.{blockIn, pageIn, isMarked, isComplete, aboveTo}
 use Rattle.copies.specs.Current.{currentTable, mountAnswer, reading}
 use Rattle.copies.specs.Pick.{at}
 use Rattle.copies.specs.Table.{lists, bitmapBytes}
+use Rattle.state.specs.State.{blank}
 use Rattle.state.specs.declared.State.{State}
 use Rattle.calls.specs.Call.{Result, sizedFor}
 use Rattle.format.specs.Format.{formatRun}
@@ -53,7 +54,7 @@ pub record Formatted (g : Geometry) (array : List ℕ) (st : State) : Type 0 whe
   pub only-table : (b : ℕ) → b < g .blocks → isComplete g (blockIn g array b) ≡ true → lists g (blockIn g array (st .table)) b ≡ false → b ≡ st .table
   pub mounts : mountAnswer g array ≡ 0
   pub state-is : st ≡ mountedState g array
-  pub blank : (logical p : ℕ) → reading g array (st .table) logical p ≡ replicate (g .main) 255
+  pub reads-blank : (logical p : ℕ) → reading g array (st .table) logical p ≡ replicate (g .main) 255
 
 -- the most cycles of a block's erase with the reading of its pages, and of a formatting
 abbrev pub blockMost : Geometry → ℕ
@@ -67,6 +68,7 @@ pub record FormatLeft (s : Setting) (d : Device) (n : ℕ) (t : Tabled) : Type 0
   pub legal : t .progress .line .chip .port .illegal ≡ 0
   pub answers : t .answer ≤ 11
   pub used-up : t .answer ≡ 11 → t .progress .line .left ≡ 0
+  pub stopped-so : (t .answer ≡ 0 → ⊥) → t .state ≡ blank 2
   pub marked-kept : (b : ℕ) → b < s .geometry .blocks → isMarked (s .geometry) (blockIn (s .geometry) (d .array) b) ≡ true
       → blockIn (s .geometry) (t .progress .line .chip .array) b ≡ blockIn (s .geometry) (d .array) b
   pub called : t .answer ≡ 0 → Called s (t .progress .line)
@@ -82,7 +84,8 @@ pub record Acknowledged (s : Setting) (r : Result) : Type 0 where
 
 -- a formatting of a chip whose sizes go together, whatever its state, fates, mask and allowance of n cycles: every
 -- cycle legal, blocks with a factory mark untouched, no more cycles than formatMost; if it is acknowledged, the table
--- lists the blocks of which an erase or a program failed, and no others; if it is cut, all n cycles were sent
+-- lists the blocks of which an erase or a program failed, and no others; if it is
+-- cut, all n cycles were sent; if it is not acknowledged, the state is stopped
 pub record Formatting (s : Setting) (d : Device) (n : ℕ) (r : Result) : Type 0 where
   pub legal : r .chip .port .illegal ≡ 0
   pub answers : r .answer ≤ 11
@@ -93,3 +96,4 @@ pub record Formatting (s : Setting) (d : Device) (n : ℕ) (r : Result) : Type 0
   pub sent-is : r .sent ≡ length (formatRun s d n .progress .cycles)
   pub sent-most : r .sent ≤ formatMost (s .geometry)
   pub cut-at : r .answer ≡ 11 → r .sent ≡ n
+  pub stopped-so : (r .answer ≡ 0 → ⊥) → r .state ≡ blank 2
