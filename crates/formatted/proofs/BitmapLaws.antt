@@ -17,7 +17,15 @@ use Rattle.bitmaps.proofs.BitLaws.{bit-set, bit-kept, power-small}
 use Rattle.pages.proofs.OverLaws.{and-or, bytes-next}
 use Rattle.state.proofs.MountedLaws.{blank-clear}
 use Rattle.runs.proofs.TraceLaws.{or-none}
-use Rattle.formatted.specs.Settled.{Bitmap}
+use Rattle.copies.specs.Pick.{at}
+use Rattle.copies.specs.Table.{bitmapBytes}
+
+-- a bitmap that has no bit past the last block
+pub record Bitmap (blocks : ℕ) (bits : List ℕ) : Type 0 where
+  pub long : length bits ≡ 512
+  pub bytes : Bytes bits
+  pub past : (j : ℕ) → bitmapBytes blocks ≤ j → getD bits j 0 ≡ 0
+  pub clear : (b : ℕ) → blocks ≤ b → b < 4096 → bitAt bits b ≡ false
 
 -- nothing is listed at first
 zeros : (n j : ℕ) → _≡_ {A = ℕ} (getD (replicate n 0) j 0) 0

@@ -42,10 +42,23 @@ use Rattle.runs.proofs.OutcomeLaws.{stop-answer, stop-cut}
 use Rattle.runs.proofs.PlaceLaws.{page-erased}
 use Rattle.runs.proofs.ReadLaws.{read-unchanged, read-spends, read-calm, reset-unchanged, reset-spends}
 use Rattle.runs.proofs.CopyLaws.{erased-unmarked}
-use Rattle.formatted.specs.Settled.{Formatted, FormatLeft, blockMost}
 use Rattle.formatted.proofs.SettledLaws as settled
 use Rattle.formatted.proofs.TablesLaws.{Ready, Done, Left, tables-leave}
 use Rattle.formatted.proofs.RoundLaws.{Rounded, round-leaves}
+use Rattle.formatted.specs.Formatting.{Formatted, blockMost, formatMost}
+
+-- how a formatting of chip d ends that may send n cycles, whatever fails or is cut
+pub record FormatLeft (s : Setting) (d : Device) (n : ℕ) (t : Tabled) : Type 0 where
+  pub legal : t .progress .line .chip .port .illegal ≡ 0
+  pub answers : t .answer ≤ 11
+  pub used-up : t .answer ≡ 11 → t .progress .line .left ≡ 0
+  pub stopped-so : (t .answer ≡ 0 → ⊥) → t .state ≡ blank 2
+  pub marked-kept : (b : ℕ) → b < s .geometry .blocks → isMarked (s .geometry) (blockIn (s .geometry) (d .array) b) ≡ true
+      → blockIn (s .geometry) (t .progress .line .chip .array) b ≡ blockIn (s .geometry) (d .array) b
+  pub called : t .answer ≡ 0 → Called s (t .progress .line)
+  pub formatted : t .answer ≡ 0 → Formatted (s .geometry) (t .progress .line .chip .array) (t .state)
+  pub failures : t .answer ≡ 0 → (b : ℕ) → b < s .geometry .blocks → failedIn b (t .progress .started) ≡ bitAt (t .state .invalid) b
+  pub spent : n ≤ t .progress .line .left + formatMost (s .geometry)
 
 -- the marks' reads change nothing
 module _ (s : Setting) (array history : List ℕ) (v : Valid (s .geometry)) where

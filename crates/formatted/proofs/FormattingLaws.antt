@@ -27,7 +27,7 @@ use Rattle.tables.proofs.CountLaws.{tables-count}
 use Rattle.format.specs.Format.{tooFew, tablesRun, roundRun, marksRun, formatRun, endOfRun, formatting}
 use Rattle.format.proofs.WholeLaws.{marks-count, round-count}
 use Rattle.runs.specs.Run.{readMost, pageMost, fillMost}
-use Rattle.formatted.specs.Settled.{blockMost, formatMost, Acknowledged, Formatting}
+use Rattle.formatted.specs.Formatting.{blockMost, formatMost, Acknowledged, Formatting}
 use Rattle.formatted.proofs.FormatLaws.{format-leaves}
 
 -- the cycles of a run and those left are as many as were allowed

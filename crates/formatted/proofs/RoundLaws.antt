@@ -39,7 +39,8 @@ use Rattle.runs.proofs.ReadLaws.{pages-unchanged, pages-spend, pages-calm}
 use Rattle.runs.proofs.TraceLaws.{unfailed-none}
 use Rattle.runs.proofs.EraseLaws.{erase-leaves}
 use Rattle.runs.proofs.CopyLaws.{no-mark}
-use Rattle.formatted.specs.Settled.{Bitmap, blockMost}
+use Rattle.formatted.proofs.BitmapLaws.{Bitmap}
+use Rattle.formatted.specs.Formatting.{blockMost}
 use Rattle.state.proofs.MountedLaws.{blank-clear}
 use Rattle.formatted.proofs.TablesLaws.{failed-unpassed}
 use Rattle.formatted.proofs.BitmapLaws.{bits-none, bits-more, bit-more, or-full}

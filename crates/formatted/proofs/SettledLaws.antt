@@ -20,7 +20,8 @@ use Rattle.bitmaps.specs.Bitmap.{bitAt, clearFrom, countBits}
 use Rattle.pages.specs.Layout.{Label, allOnes, bytesOf, numberWidth, tableKind, dataKind}
 use Rattle.pages.proofs.LayoutLaws.{bytes-bytesOf, length-bytesOf, allOnes-replicate, unless}
 use Rattle.copies.specs.Blocks.{blockIn, pageIn, mainIn, labelIn, wholeIn, isMarked, agrees, isComplete, completeTo, isTable, isData, isCopyOf, aboveTo, above}
-use Rattle.copies.specs.Current.{currentTable, currentCopy, filledLast, nextNumber, aboveAll, numberAt, counts, unlisted, sharesNumber, clashesAt, clashes, judgeTable, mountAnswer, pageOf, reading}
+use Rattle.copies.specs.Current as current
+use Rattle.copies.specs.Current.{currentTable, currentCopy, filledLast, nextNumber, aboveAll, numberAt, counts, unlisted, sharesNumber, clashesAt, clashes, judgeTable, mountAnswer, reading}
 use Rattle.copies.specs.Pick.{nothing, at, someBelow}
 use Rattle.copies.specs.Table.{bitmapBytes, bitmapOf, tablePage, header, lists, clearWhere, rightFirst, rightPage, rightTo, rightTable}
 use Rattle.copies.proofs.PickLaws.{picked-is}
@@ -28,10 +29,27 @@ use Rattle.copies.proofs.TableLaws.{table-right, valid-roomy, later-page, first
 use Rattle.found.specs.Contents.{entryOf, tabulate, mapOf}
 use Rattle.found.specs.Found.{bitsAt}
 use Rattle.found.proofs.MapLaws.{length-tabulate, getD-tabulate}
-use Rattle.fill.specs.Fill.{tableCopy, tableMain}
+use Rattle.fill.specs.Fill.{tableCopy, tableMain, pageOf}
 use Rattle.runs.specs.Run.{Labelled}
 use Rattle.runs.proofs.CopyLaws.{erased-unwhole, erased-above, above-least, copy-label, copy-main, copy-complete, copy-above, copy-unmarked}
-use Rattle.formatted.specs.Settled.{Bitmap, Settled}
+use Rattle.geometry.specs.Sizes.{pageSize, chipSize}
+use Rattle.state.specs.State.{blank}
+use Rattle.formatted.proofs.BitmapLaws.{Bitmap}
+
+-- a table under a number lists the invalid blocks; every other unmarked block is erased, or is listed and has no whole
+-- page with that number or a greater one
+pub record Settled (g : Geometry) (array invalid : List ℕ) (table number : ℕ) : Type 0 where
+  pub is-valid : Valid g
+  pub array-long : length array ≡ chipSize g
+  pub invalid-bits : Bitmap (g .blocks) invalid
+  pub table-below : table < g .blocks
+  pub table-valid : bitAt invalid table ≡ false
+  pub number-fits : number < 4294967296
+  pub table-pages : (i : ℕ) → i < g .pages → pageIn g (blockIn g array table) i ≡ pageOf g (tableCopy number) i (tableMain g invalid i)
+  pub erased : (b : ℕ) → b < g .blocks → (b ≡ table → ⊥) → isMarked g (blockIn g array b) ≡ false → bitAt invalid b ≡ false
+      → (i : ℕ) → i < g .pages → pageIn g (blockIn g array b) i ≡ replicate (pageSize g) 255
+  pub listed : (b : ℕ) → b < g .blocks → isMarked g (blockIn g array b) ≡ false → bitAt invalid b ≡ true → aboveTo g (blockIn g array b) (g .pages) ≤ number
+  pub apart : (b : ℕ) → b < g .blocks → isMarked g (blockIn g array b) ≡ true → bitAt invalid b ≡ false
 
 not-true : (b : Bool) → not b ≡ true → b ≡ false
 not-true true t = absurd (false≢true t)
@@ -377,5 +395,5 @@ module _ {g : Geometry} {array invalid : List ℕ} {table number : ℕ} (r : Set
       ∙ sym (getD-replicate 4096 i 65535 0 low))
 
   pub reads-blank : (logical p : ℕ) → reading g array table logical p ≡ replicate (g .main) 255
-  unfolding pageOf
-  reads-blank logical p = ap (pageOf g array p) (no-copy logical)
+  unfolding current.pageOf
+  reads-blank logical p = ap (current.pageOf g array p) (no-copy logical)

@@ -43,7 +43,8 @@ use Rattle.runs.proofs.TraceLaws.{passed-unfailed, unfailed-none}
 use Rattle.runs.proofs.PlaceLaws.{page-erased}
 use Rattle.runs.proofs.FillLaws.{fill-leaves, over-erased}
 use Rattle.runs.proofs.CopyLaws.{copy-long, copy-bytes, copy-unmarked, raised-above, raised-unmarked}
-use Rattle.formatted.specs.Settled.{Bitmap, Settled}
+use Rattle.formatted.proofs.BitmapLaws.{Bitmap}
+use Rattle.formatted.proofs.SettledLaws.{Settled}
 use Rattle.formatted.proofs.SettledLaws.{table-label, table-long, table-bytes}
 use Rattle.formatted.proofs.BitmapLaws.{bits-more, bit-more, raised-erased}
 
