@@ -5,6 +5,7 @@ use mathlib.Core.List.{List}
 use mathlib.Core.Path.{_≡_, refl, ap, _∙_}
 use native.Mathlib.Nat.{one-mul, zero-mul, pow-le-pow-right, lt-of-le-of-lt, add-comm, add-zero, mul-comm, mul-div-cancel, div-eq-of-lt, div-self, pow-suc, mod-eq-of-lt}
 use native.Mathlib.Numerals.{add-one}
+use borrow.Table.Steps.{cases}
 use lib.Pow.{pow-pos, pow-lt, pow-add}
 use native.Mathlib.Omega.{arith}
 use borrow.Author.Tests.{eq-eqb, ne-eqb, eqb-true, eqb-false, ltb-true, ltb-false}
@@ -13,10 +14,6 @@ use lib.ListN.{length, getD}
 use lib.Seq.{getD-set-same, getD-set-other, set-out}
 use lib.Bits.{bitAnd, bitOr, and-le-r, and-mask, and-high, or-shr, or-mod, or-zero-r}
 use Rattle.bitmaps.specs.Bitmap.{byteOf, placeOf, bitIn, bitAt, withBit, countBits, clearFrom, neverBoth}
-
-by-test : {P : Type 0} (b : Bool) → (b ≡ true → P) → (b ≡ false → P) → P
-by-test true f g = f refl
-by-test false f g = g refl
 
 -- a power below 2 ^ 8
 pub power-small : (p : ℕ) → p < 8 → 2 ^ p < 256
@@ -64,7 +61,7 @@ power-above q d =
 
 pub power-bit : (p q : ℕ) → (p ≡ q → ⊥) → bitIn (2 ^ p) q ≡ 0
 power-bit p q h =
-    by-test (ltb p q)
+    cases (ltb p q)
     (λ t. rw (div-eq-of-lt (pow-lt {i = p} {j = q} (ltb-true p q t))))
     (λ t.
     let g : q < p = omega (arith, ltb-false p q t, h) in
@@ -95,10 +92,10 @@ bit-set bits b h =
 pub bit-kept : (bits : List ℕ) (b c : ℕ) → (c ≡ b → ⊥) → bitAt (withBit bits b) c ≡ bitAt bits c
 unfolding bitAt withBit
 bit-kept bits b c h =
-    by-test (eqb (byteOf c) (byteOf b))
+    cases (eqb (byteOf c) (byteOf b))
     (λ t.
     let e = eqb-true (byteOf c) (byteOf b) t in
-    by-test (ltb (byteOf b) (length bits))
+    cases (ltb (byteOf b) (length bits))
     (λ u. rw (e, getD-set-same bits (byteOf b) (bitOr (getD bits (byteOf b) 0) (2 ^ placeOf b)) 0 (ltb-true (byteOf b) (length bits) u))
     (ap (λ (k : ℕ). eqb k 1)
     (or-bit (getD bits (byteOf b) 0) (2 ^ placeOf b) (placeOf c)

@@ -1,11 +1,12 @@
 -- Laws of lists of cycles on a bus: what is sent, what a stopped bus leaves alone, and where a run is cut. Assumes nothing.
 use Prim.Native.Nat.{ℕ, zero, suc, _+_, _-_, _≤_, _<_}
-use mathlib.Core.Bool.{Bool, true, false, true≢false}
+use mathlib.Core.Bool.{true, false, true≢false}
 use mathlib.Core.List.{List, [], _∷_, _++_}
 use mathlib.Core.Path.{_≡_, refl, sym, ap, _∙_}
 use native.Mathlib.Nat.{sub-zero}
 use native.Mathlib.Omega.{arith}
 use borrow.Author.Tests.{eq-eqb, lt-ltb, le-ltb, eqb-true, ltb-true}
+use borrow.Table.Steps.{cases}
 use lib.Dec.{eqb}
 use lib.ListN.{length, take}
 use Rattle.geometry.proofs.LimitLaws.{both}
@@ -14,11 +15,6 @@ use Rattle.array.specs.Device.{Device, Setting, device}
 use Rattle.chip.specs.Chip.{Cycle, exec}
 use Rattle.bus.specs.declared.Bus.{Bus}
 use Rattle.bus.specs.Line.{Line, line, mayGo, admits, cutAfter, blocked, spent, blockedBus, spentBus, send, sendAll, sent, run, goesOn, Going, Legal, uncutLine, cutLine}
-
--- a test decides
-pub by-test : {P : Type 0} (b : Bool) → (b ≡ true → P) → (b ≡ false → P) → P
-by-test true f g = f refl
-by-test false f g = g refl
 
 -- where a cycle is sent one is left
 pub left-of-admits : (l : Line) → admits l ≡ true → 0 < l .left
@@ -48,24 +44,24 @@ admits-none l g h = rw (eq-eqb _ _ (g .uncut), eq-eqb _ _ (g .legal), le-ltb 0 (
 pub admits-stopped : (l : Line) → goesOn l ≡ false → admits l ≡ false
 unfolding goesOn mayGo
 admits-stopped l h =
-    by-test (eqb (l .cut) 0)
-    (λ a. by-test (eqb (l .chip .port .illegal) 0) (λ b. absurd (true≢false (sym (rw (a, b)) ∙ h))) (λ b. rw (a, b)))
+    cases (eqb (l .cut) 0)
+    (λ a. cases (eqb (l .chip .port .illegal) 0) (λ b. absurd (true≢false (sym (rw (a, b)) ∙ h))) (λ b. rw (a, b)))
     (λ a. rw a)
 
 pub blocked-stopped : (l : Line) → goesOn l ≡ false → blocked l ≡ l
 unfolding goesOn cutAfter
 blocked-stopped l h =
     ap (λ (k : ℕ). record { chip = l .chip; left = l .left; cut = k })
-    (by-test (eqb (l .cut) 0)
-    (λ a. by-test (eqb (l .chip .port .illegal) 0) (λ b. absurd (true≢false (sym (rw (a, b)) ∙ h))) (λ b. rw (a, b) (sym (eqb-true _ _ a))))
+    (cases (eqb (l .cut) 0)
+    (λ a. cases (eqb (l .chip .port .illegal) 0) (λ b. absurd (true≢false (sym (rw (a, b)) ∙ h))) (λ b. rw (a, b) (sym (eqb-true _ _ a))))
     (λ a. rw a))
 
 -- after a cycle that was not sent no other is
 pub blocked-stops : (l : Line) → goesOn (blocked l) ≡ false
 unfolding goesOn cutAfter
 blocked-stops l =
-    by-test (eqb (l .cut) 0)
-    (λ a. by-test (eqb (l .chip .port .illegal) 0) (λ b. rw (a, b)) (λ b. rw (a, b)))
+    cases (eqb (l .cut) 0)
+    (λ a. cases (eqb (l .chip .port .illegal) 0) (λ b. rw (a, b)) (λ b. rw (a, b)))
     (λ a. rw (a, a))
 
 module _ (s : Setting) where
@@ -108,7 +104,7 @@ module _ (s : Setting) where
   unfolding sent sendAll
   sent-counts l [] = omega arith
   sent-counts l (c ∷ cs) =
-      by-test (admits l)
+      cases (admits l)
       (λ h. rw h
       (omega
       (arith, sent-counts (send s l c) cs, ap (λ (x : Line). x .left) (send-on l c h), left-of-admits l h)))

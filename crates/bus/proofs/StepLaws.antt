@@ -7,6 +7,7 @@ use native.Mathlib.Nat.{zero-add, add-zero, sub-zero}
 use native.Mathlib.Omega.{arith}
 use native.Mathlib.Numerals.{add-one}
 use borrow.Author.Tests.{eq-eqb, ne-eqb, le-leb, lt-leb, lt-ltb, le-ltb}
+use borrow.Table.Steps.{cases}
 use lib.Dec.{eqb}
 use lib.ListN.{length, set, getD, replicate, length-set}
 use lib.Seq.{sets}
@@ -19,7 +20,6 @@ use Rattle.array.specs.Device.{Device, Setting, device, withPort, lengthsFit, r
 use Rattle.chip.specs.Chip.{exec, commanded, isConfirm, nextColumn, dataTaken, dataGiven, lessBusy, finished, statusRead, confirmable, confirmed}
 use Rattle.chip.specs.Chip.Cycle.{command, address, dataIn, dataOut, status}
 use Rattle.bus.specs.Line.{run}
-use Rattle.bus.proofs.LineLaws.{by-test}
 
 -- a phase in which address bytes are taken
 abbrev pub taking : ℕ → Bool
@@ -36,9 +36,9 @@ busyWith k i =
 addressed-latched : (g : Geometry) (b : ℕ) (i : Interface) → taking (i .phase) ≡ true → addressed g b i ≡ latched g b i
 unfolding addressed
 addressed-latched g b i h =
-    by-test (eqb (i .phase) 3) (λ e. rw e)
-    (λ e. by-test (eqb (i .phase) 4) (λ f. rw (e, f))
-    (λ f. by-test (eqb (i .phase) 5) (λ k. rw (e, f, k)) (λ k. absurd (false≢true (sym (rw (e, f, k)) ∙ h)))))
+    cases (eqb (i .phase) 3) (λ e. rw e)
+    (λ e. cases (eqb (i .phase) 4) (λ f. rw (e, f))
+    (λ f. cases (eqb (i .phase) 5) (λ k. rw (e, f, k)) (λ k. absurd (false≢true (sym (rw (e, f, k)) ∙ h)))))
 
 -- the address register after two column bytes, and after three row bytes behind them
 column-number : (c : ℕ) → c < 65536 → shifted (c / 256 % 256) (shifted (c % 256) 0) ≡ c * 16777216

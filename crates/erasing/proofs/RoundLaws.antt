@@ -22,7 +22,7 @@ use Rattle.operations.specs.Trace.{ArrayOperation}
 use Rattle.copies.specs.Blocks.{blockIn, aboveTo}
 use Rattle.scan.specs.Progress.{Progress, progress}
 use Rattle.scan.specs.Scan.{pagesRead}
-use Rattle.scan.proofs.ReadOnLaws.{is-passed}
+use Rattle.scan.proofs.ReadOnLaws.{is-passed, same-progress}
 use Rattle.fill.specs.Steps.{eraseOn, resumed, isFailed}
 use Rattle.fill.proofs.OutcomeLaws.{failed-answered}
 use Rattle.fill.proofs.StepLaws.{passed-answered, erase-called, erase-on-line, erase-on-outcome}
@@ -84,10 +84,6 @@ module _ (s : Setting) (marked : List ℕ) (l : Line) (block : ℕ) (clear : bit
         failed-is = λ t cs os. rw (clear, yes cs os);
         above-is = λ t cs os. f₃ t ∙ ap (λ (x : Line). aboveTo (s .geometry) (blockIn (s .geometry) (x .chip .array) block) (s .geometry .pages)) (line-on cs os) ∙ rw (clear, yes cs os);
       }
-
--- a request at line m that goes on
-same-progress : (p : Progress) (m : Line) → m ≡ p .line → Passed ≡ p .outcome → progress m Passed (p .cycles) (p .started) ≡ p
-same-progress p m e q = λ i. record { line = e i; outcome = q i; cycles = p .cycles; started = p .started }
 
 -- once a block has not passed nothing more is sent
 block-stopped : (s : Setting) (marked : List ℕ) (b : ℕ) (p : Progress) → isPassed (p .outcome) ≡ false → blockErased s marked b p ≡ p

@@ -1,39 +1,31 @@
 -- The cycles of fills: those in a request's trace and those still allowed are as many as were allowed. Assumes nothing.
-use Prim.Native.Nat.{ℕ, zero, suc, _+_}
-use mathlib.Core.List.{List, _++_}
+use Prim.Native.Nat.{ℕ, zero, suc}
+use mathlib.Core.List.{List}
 use mathlib.Core.Path.{_≡_, refl, _∙_}
-use native.Mathlib.Omega.{arith}
 use borrow.Table.Steps.{cases}
 use lib.Dec.{eqb}
-use lib.ListN.{length, length-append}
 use Rattle.geometry.specs.Sizes.{rowOf}
 use Rattle.array.specs.Device.{Setting}
-use Rattle.chip.specs.Chip.{Cycle}
-use Rattle.bus.specs.Line.{Line, sendAll, sent}
-use Rattle.bus.proofs.LineLaws.{sent-counts}
 use Rattle.polling.specs.Polling.{isPassed}
 use Rattle.sequences.specs.Cycles.{eraseCycles, programCycles}
 use Rattle.scan.specs.Progress.{Progress}
-use Rattle.scan.proofs.CountLaws.{allowance, read-counts}
+use Rattle.scan.proofs.CountLaws.{allowance, sent-more, read-counts}
 use Rattle.fill.specs.Fill.{Copy, Source, given, kept, mainRead, pageFilled, pagesFilled, filled, erasedFor, stepFilled}
 use Rattle.fill.specs.Steps.{eraseOn, programOn}
-
-more : (s : Setting) (l : Line) (before cs : List Cycle) → length (before ++ sent s l cs) + sendAll s l cs .left ≡ length before + l .left
-more s l before cs = omega (arith, length-append before (sent s l cs), sent-counts s l cs)
 
 module _ (s : Setting) where
   pub erase-counts : (block : ℕ) (p : Progress) → allowance (eraseOn s block p) ≡ allowance p
   unfolding eraseOn
   erase-counts block p =
       cases (isPassed (p .outcome))
-      (λ t. rw t (more s (p .line) (p .cycles) (eraseCycles s (p .line) (rowOf (s .geometry) block 0))))
+      (λ t. rw t (sent-more s (p .line) (p .cycles) (eraseCycles s (p .line) (rowOf (s .geometry) block 0))))
       (λ t. rw t)
 
   pub program-counts : (block page : ℕ) (bytes : List ℕ) (p : Progress) → allowance (programOn s block page bytes p) ≡ allowance p
   unfolding programOn
   program-counts block page bytes p =
       cases (isPassed (p .outcome))
-      (λ t. rw t (more s (p .line) (p .cycles) (programCycles s (p .line) (rowOf (s .geometry) block page) bytes)))
+      (λ t. rw t (sent-more s (p .line) (p .cycles) (programCycles s (p .line) (rowOf (s .geometry) block page) bytes)))
       (λ t. rw t)
 
   main-counts : (n : ℕ) (source : Source) (p : Progress) → allowance (mainRead s n source p) ≡ allowance p

@@ -28,7 +28,7 @@ use Rattle.operations.specs.Trace.{ArrayOperation}
 use Rattle.copies.specs.Blocks.{blockIn, markByte, isMarked}
 use Rattle.found.specs.Found.{marksTo}
 use Rattle.scan.specs.Progress.{Progress, progress, readOn}
-use Rattle.scan.proofs.ReadOnLaws.{read-leaves, read-line, read-outcome, read-stopped, is-passed}
+use Rattle.scan.proofs.ReadOnLaws.{read-leaves, read-line, read-outcome, read-stopped, is-passed, same-progress}
 use Rattle.scan.proofs.ScanLaws.{row-is-page}
 use Rattle.marks.specs.Marks.{MarkRead, MarksFound, marksRead}
 
@@ -69,10 +69,6 @@ module _ (s : Setting) (l : Line) (block place : ℕ) (called : Called s l) (blo
         next = d .next;
         byte-is = λ t. fb ∙ ap (λ (x : List ℕ). getD x 0 0) (d .bytes-are t) ∙ mark-is (s .geometry) (called .is-valid) (l .chip .array) block place page-below;
       }
-
--- a request at line m that goes on
-same-progress : (p : Progress) (m : Line) → m ≡ p .line → Passed ≡ p .outcome → progress m Passed (p .cycles) (p .started) ≡ p
-same-progress p m e q = λ i. record { line = e i; outcome = q i; cycles = p .cycles; started = p .started }
 
 -- once a read has not passed no further one is sent
 pub marks-stopped : (s : Setting) (n : ℕ) (p : Progress) → isPassed (marksRead s n p .outcome) ≡ false → (k : ℕ) → marksRead s (k + n) p ≡ marksRead s n p

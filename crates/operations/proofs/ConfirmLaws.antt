@@ -6,6 +6,7 @@ use mathlib.Core.Path.{_≡_, refl, sym, ap, ap₂, _∙_}
 use native.Mathlib.Nat.{le-refl, sub-self}
 use native.Mathlib.Omega.{arith}
 use borrow.Author.Tests.{eq-eqb, ne-eqb, lt-ltb, le-ltb, eqb-true, eqb-false, ltb-true, ltb-false, leb-true, leb-false}
+use borrow.Table.Steps.{cases}
 use lib.Dec.{eqb, leb, ltb}
 use lib.ListN.{length, take, replicate, length-append, length-replicate, replicate-append-replicate}
 use lib.Seq.{take-append-le, take-append-add}
@@ -16,7 +17,7 @@ use Rattle.array.specs.Device.{Device, Setting, device, withPort, lengthsFit, r
 use Rattle.chip.specs.Chip.{Cycle, exec, lessBusy}
 use Rattle.chip.specs.Chip.Cycle.{command, status}
 use Rattle.bus.specs.Line.{Line, sendAll, run, Legal, uncutLine, cutLine}
-use Rattle.bus.proofs.LineLaws.{by-test, sendAll-append, run-append, run-uncut, run-cut, cut-stays}
+use Rattle.bus.proofs.LineLaws.{sendAll-append, run-append, run-uncut, run-cut, cut-stays}
 use Rattle.bus.proofs.LegalLaws.{legal-run, legal-start, legal-take, legal-first}
 use Rattle.bus.proofs.StepLaws.{busyWith, one-busy, busy-reads, ready-read, status-busy}
 use Rattle.polling.specs.Polling.{waiting, polls, statusReads}
@@ -34,7 +35,7 @@ polls-silent k h = rw (le-ltb k 256 h)
 
 polls-most : (k : ℕ) → pollsFor k ≤ k + 1
 polls-most k =
-    by-test (ltb k 256) (λ t. rw t (le-refl (k + 1))) (λ t. rw t (omega (arith, ltb-false k 256 t)))
+    cases (ltb k 256) (λ t. rw t (le-refl (k + 1))) (λ t. rw t (omega (arith, ltb-false k 256 t)))
 
 take-replicate : (j p : ℕ) (c : Cycle) → j ≤ p → take j (replicate p c) ≡ replicate j c
 take-replicate zero p c h = refl
@@ -44,7 +45,7 @@ take-replicate (suc j) (suc p) c h = ap (λ (cs : List Cycle). c ∷ cs) (take-r
 -- one status read more
 count-one : (b n : ℕ) → 0 < b → suc (cond (ltb (b - 1) n) (b - 1 + 1) n) ≡ cond (ltb b (suc n)) (b + 1) (suc n)
 count-one b n p =
-    by-test (ltb b (suc n))
+    cases (ltb b (suc n))
     (λ h. rw (h, lt-ltb (b - 1) n (omega (arith, ltb-true b (suc n) h))) (omega arith))
     (λ h. rw (h, le-ltb (b - 1) n (omega (arith, ltb-false b (suc n) h))))
 
@@ -63,7 +64,7 @@ module _ (s : Setting) where
   unfolding polls
   polls-are zero i a r h p e f w q = rw (le-ltb (i .busy) 0 (omega arith))
   polls-are (suc n) i a r h p e f w q =
-      by-test (eqb (i .busy) 0)
+      cases (eqb (i .busy) 0)
       (λ t.
       let z = eqb-true (i .busy) 0 t in
       rw (ready-at i a r h p z f w, q, lt-ltb (i .busy) (suc n) (omega arith)) (omega (arith, z)))
@@ -171,7 +172,7 @@ module _ (s : Setting) (d : Device) (first : List Cycle) (code : ℕ) (d₂ d₄
 
   polls-legal : Legal s asked (replicate (pollsFor (d₂ .port .busy)) status)
   polls-legal =
-      by-test (ltb (d₂ .port .busy) 256)
+      cases (ltb (d₂ .port .busy) 256)
       (λ t. rw (polls-ready (d₂ .port .busy) (ltb-true (d₂ .port .busy) 256 t)) reads-legal)
       (λ t.
       let k = ltb-false (d₂ .port .busy) 256 t in
@@ -206,7 +207,7 @@ module _ (s : Setting) (d : Device) (first : List Cycle) (code : ℕ) (d₂ d₄
   pub late-cut : (n : ℕ) → length first < n → n < length first + 2 + pollsFor (d₂ .port .busy) → (i : Interface) × (i .fate ≡ d₂ .port .fate) × (i .illegal ≡ 0) × (sendAll s (uncutLine d n) (confirmedCycles s (uncutLine d n) first code) ≡ cutLine (withPort i d₂))
   unfolding prefix
   late-cut n h k =
-      by-test (eqb n (length first + 1))
+      cases (eqb n (length first + 1))
       (λ t. (
         d₂ .port,
         refl,
@@ -232,15 +233,15 @@ module _ (s : Setting) (d : Device) (first : List Cycle) (code : ℕ) (d₂ d₄
   -- no cycle is answered illegal, wherever the operation is cut
   pub confirmed-legal : (n : ℕ) → sendAll s (uncutLine d n) (confirmedCycles s (uncutLine d n) first code) .chip .port .illegal ≡ 0
   confirmed-legal n =
-      by-test (leb n (length first))
+      cases (leb n (length first))
       (λ t.
       ap (λ (x : Line). x .chip .port .illegal) (early-cut n (leb-true n (length first) t))
       ∙ legal-take s d n first start-legal (legal-first s d first (confirmCycles code) prefix-legal))
-      (λ t. by-test (ltb n (length first + 2 + pollsFor (d₂ .port .busy)))
+      (λ t. cases (ltb n (length first + 2 + pollsFor (d₂ .port .busy)))
       (λ u.
       let k = late-cut n (leb-false n (length first) t) (ltb-true n (length first + 2 + pollsFor (d₂ .port .busy)) u) in
       ap (λ (x : Line). x .chip .port .illegal) (k .3) ∙ k .2)
-      (λ u. by-test (ltb (d₂ .port .busy) 256)
+      (λ u. cases (ltb (d₂ .port .busy) 256)
       (λ v.
       let b = ltb-true (d₂ .port .busy) 256 v in
       let h : length first + 2 + (d₂ .port .busy + 1) ≤ n = rw (polls-ready (d₂ .port .busy) b) at (ltb-false n (length first + 2 + pollsFor (d₂ .port .busy)) u) in

@@ -5,6 +5,7 @@ use mathlib.Core.List.{List}
 use mathlib.Core.Path.{_≡_, refl, sym, ap, subst, _∙_}
 use native.Mathlib.Omega.{arith}
 use borrow.Author.Tests.{eq-eqb, ne-eqb, le-leb, lt-leb, lt-ltb, le-ltb, leb-true, leb-false, ltb-true, ltb-false}
+use borrow.Table.Steps.{cases}
 use lib.Dec.{eqb, leb, ltb}
 use lib.ListN.{length, take}
 use Rattle.geometry.specs.Limits.{Valid}
@@ -13,7 +14,6 @@ use Rattle.interface.specs.Interface.{busyOf, failedFor, nextFate}
 use Rattle.array.specs.Device.{Device, Setting}
 use Rattle.chip.specs.Chip.{Cycle}
 use Rattle.bus.specs.Line.{Line, run, sendAll, uncutLine, Quiet}
-use Rattle.bus.proofs.LineLaws.{by-test}
 use Rattle.polling.specs.Polling.{outcomeOf}
 use Rattle.sequences.specs.Cycles.{confirmedCycles}
 use Rattle.operations.specs.Ends.{Called, End, endOf, confirmedEnd, endsAs, answered, wordFor, totalFor}
@@ -92,10 +92,10 @@ module _ (s : Setting) (d : Device) (first : List Cycle) (code op : ℕ) (d₂ d
   pub effect-ends : (n : ℕ) → endOf (sendAll s (uncutLine d n) (confirmedCycles s (uncutLine d n) first code)) ≡ confirmedEnd s (uncutLine d n) op (length first) (d₂ .array) (d₂ .history) a₂ h₂
   unfolding whole expected
   effect-ends n =
-      by-test (leb n (length first)) (λ t. ends-early n (leb-true n (length first) t))
-      (λ t. by-test (ltb n (totalFor s d (length first)))
+      cases (leb n (length first)) (λ t. ends-early n (leb-true n (length first) t))
+      (λ t. cases (ltb n (totalFor s d (length first)))
       (λ u. ends-late n (leb-false n (length first) t) (ltb-true n (totalFor s d (length first)) u))
-      (λ u. by-test (ltb (busyOf (wordFor s d)) 256)
+      (λ u. cases (ltb (busyOf (wordFor s d)) 256)
       (λ v. ends-ready n (ltb-false n (totalFor s d (length first)) u) (ltb-true (busyOf (wordFor s d)) 256 v))
       (λ v. ends-silent n (ltb-false n (totalFor s d (length first)) u) (ltb-false (busyOf (wordFor s d)) 256 v))))
 
@@ -104,9 +104,9 @@ module _ (s : Setting) (d : Device) (first : List Cycle) (code op : ℕ) (d₂ d
   unfolding answered
   effect-next n v m a =
       let c = e .confirmed in
-      by-test (ltb n (totalFor s d (length first)))
+      cases (ltb n (totalFor s d (length first)))
       (λ t. absurd (false≢true (sym (rw t) ∙ a)))
-      (λ t. by-test (ltb (busyOf (wordFor s d)) 256)
+      (λ t. cases (ltb (busyOf (wordFor s d)) 256)
       (λ u.
       let k = ltb-true (busyOf (wordFor s d)) 256 u in
       let h : length first + 2 + (busyOf (wordFor s d) + 1) ≤ n = rw u at (ltb-false n (totalFor s d (length first)) t) in

@@ -7,6 +7,7 @@ use native.Mathlib.Nat.{add-zero}
 use native.Mathlib.Omega.{arith}
 use native.Mathlib.Numerals.{add-one}
 use borrow.Author.Tests.{eq-eqb, lt-leb, lt-ltb, le-ltb, ltb-true, ltb-false}
+use borrow.Table.Steps.{cases}
 use lib.Dec.{eqb, leb, ltb}
 use lib.ListN.{length, getD, take, drop, replicate, length-replicate}
 use lib.Seq.{drop-cons, take-take, drop-drop}
@@ -20,7 +21,7 @@ use Rattle.array.specs.Device.{Device, Setting, device, withPort, rowAt, comple
 use Rattle.chip.specs.Chip.{Cycle, exec, isConfirm, nextColumn, dataByte}
 use Rattle.chip.specs.Chip.Cycle.{command, address, dataOut}
 use Rattle.bus.specs.Line.{Line, run, send, sendAll, uncutLine, cutLine, still, AllStill, Quiet, Legal, goesOn, byteOut}
-use Rattle.bus.proofs.LineLaws.{by-test, sendAll-append, run-uncut, run-cut, send-one, send-on, goes, admits-more}
+use Rattle.bus.proofs.LineLaws.{sendAll-append, run-uncut, run-cut, send-one, send-on, goes, admits-more}
 use Rattle.bus.proofs.LegalLaws.{legal-run, legal-take}
 use Rattle.bus.proofs.QuietLaws.{quiet-run, still-take, still-address, still-out}
 use Rattle.bus.proofs.StepLaws.{atColumn, busyWith, begin-read, resume-output, five-bytes, confirm-read, one-out, data-given}
@@ -84,7 +85,7 @@ module _ (s : Setting) (d : Device) (left row column n : ℕ) (p : CanRead s (un
   after-address : run s d (readAddress row column) ≡ device filled (d .array) (d .register) (d .history)
   unfolding run filled
   after-address =
-      by-test (eqb (d .port .loaded) 1)
+      cases (eqb (d .port .loaded) 1)
       (λ t.
       ap (λ (x : Device). run s x (addressCycles column row)) (resume-output s d (p .called .ready) t)
       ∙ ap (λ (x : Device). run s x (address (column / 256 % 256) ∷ rowCycles row)) (first-again (column % 256) (d .port))
@@ -306,13 +307,13 @@ module _ (s : Setting) (d : Device) (left row column n : ℕ) (p : CanRead s (un
   ends : endOfRead s line row column n ≡ readEnd s line n
   unfolding more
   ends =
-      by-test (ltb left (totalFor s d 6)) (λ t. ends-cut (ltb-true left (totalFor s d 6) t))
+      cases (ltb left (totalFor s d 6)) (λ t. ends-cut (ltb-true left (totalFor s d 6) t))
       (λ t.
       let g = ltb-false left (totalFor s d 6) t in
-      by-test (ltb (busyOf (wordFor s d)) 256)
+      cases (ltb (busyOf (wordFor s d)) 256)
       (λ u.
       let b = ltb-true (busyOf (wordFor s d)) 256 u in
-      by-test (ltb (left - totalFor s d 6) (1 + n))
+      cases (ltb (left - totalFor s d 6) (1 + n))
       (λ v. ends-broken g b (ltb-true (left - totalFor s d 6) (1 + n) v))
       (λ v. ends-whole g b (ltb-false (left - totalFor s d 6) (1 + n) v)))
       (λ u. ends-silent g (ltb-false (busyOf (wordFor s d)) 256 u)))
@@ -325,8 +326,8 @@ module _ (s : Setting) (d : Device) (left row column n : ℕ) (p : CanRead s (un
   passing : isPassed (readEnd s line n .outcome) ≡ true → Passing
   unfolding readEnd isPassed line
   passing h =
-      by-test (ltb left (readTotal s d n)) (λ t. absurd (false≢true (sym (rw t) ∙ h)))
-      (λ t. by-test (ltb (busyOf (wordFor s d)) 256)
+      cases (ltb left (readTotal s d n)) (λ t. absurd (false≢true (sym (rw t) ∙ h)))
+      (λ t. cases (ltb (busyOf (wordFor s d)) 256)
       (λ u.
       let b = ltb-true (busyOf (wordFor s d)) 256 u in
       record { in-time = b; covered = omega (arith, total-is b, ltb-false left (readTotal s d n) t) })
@@ -395,13 +396,13 @@ module _ (s : Setting) (d : Device) (left row column n : ℕ) (p : CanRead s (un
   allowed : final .chip .port .illegal ≡ 0
   unfolding line more
   allowed =
-      by-test (isPassed (endsAs s line 1 6))
-      (λ h. by-test (ltb left (totalFor s d 6)) (λ t. absurd (false≢true (sym (unpassed-cut t) ∙ h)))
-      (λ t. by-test (ltb (busyOf (wordFor s d)) 256)
+      cases (isPassed (endsAs s line 1 6))
+      (λ h. cases (ltb left (totalFor s d 6)) (λ t. absurd (false≢true (sym (unpassed-cut t) ∙ h)))
+      (λ t. cases (ltb (busyOf (wordFor s d)) 256)
       (λ u.
       let g = ltb-false left (totalFor s d 6) t in
       let b = ltb-true (busyOf (wordFor s d)) 256 u in
-      by-test (ltb (left - totalFor s d 6) (1 + n))
+      cases (ltb (left - totalFor s d 6) (1 + n))
       (λ v.
       ap (λ (x : Line). x .chip .port .illegal) (broken h g b (ltb-true (left - totalFor s d 6) (1 + n) v))
       ∙ legal-take s loaded (left - totalFor s d 6) tail loaded-legal tail-legal)

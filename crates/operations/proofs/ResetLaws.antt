@@ -4,6 +4,7 @@ use mathlib.Core.List.{[], _∷_}
 use mathlib.Core.Path.{_≡_, refl, sym, ap, subst, _∙_}
 use native.Mathlib.Omega.{arith}
 use borrow.Author.Tests.{eq-eqb, ltb-true, ltb-false}
+use borrow.Table.Steps.{cases}
 use lib.Dec.{ltb}
 use lib.ListN.{length, take}
 use Rattle.geometry.specs.Limits.{Valid}
@@ -13,7 +14,7 @@ use Rattle.array.specs.Device.{Device, Setting, withPort}
 use Rattle.chip.specs.Chip.{exec, statusRead, isConfirm}
 use Rattle.chip.specs.Chip.Cycle.{command, status}
 use Rattle.bus.specs.Line.{Line, run, sendAll, uncutLine, cutLine, Legal, Quiet, still}
-use Rattle.bus.proofs.LineLaws.{by-test, run-uncut, run-cut}
+use Rattle.bus.proofs.LineLaws.{run-uncut, run-cut}
 use Rattle.bus.proofs.LegalLaws.{legal-run, legal-take}
 use Rattle.bus.proofs.QuietLaws.{quiet-run}
 use Rattle.bus.proofs.StepLaws.{reset-command, status-ready}
@@ -53,7 +54,7 @@ module _ (s : Setting) (d : Device) (n : ℕ) (g : d .port .illegal ≡ 0) where
   ends : endOfReset s (uncutLine d n) ≡ resetEnd (uncutLine d n)
   unfolding endOfReset resetEnd endedAs done
   ends =
-      by-test (ltb n 3)
+      cases (ltb n 3)
       (λ t.
       let h = ltb-true n 3 t in
       let e = broken h in
@@ -74,7 +75,7 @@ module _ (s : Setting) (d : Device) (n : ℕ) (g : d .port .illegal ≡ 0) where
   allowed : sendAll s (uncutLine d n) resetCycles .chip .port .illegal ≡ 0
   unfolding done
   allowed =
-      by-test (ltb n 3)
+      cases (ltb n 3)
       (λ t. ap (λ (x : Line). x .chip .port .illegal) (broken (ltb-true n 3 t)) ∙ legal-take s d n resetCycles g legal)
       (λ t. ap (λ (x : Line). x .chip .port .illegal) (whole (ltb-false n 3 t)) ∙ g)
 

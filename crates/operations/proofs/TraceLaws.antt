@@ -6,6 +6,7 @@ use mathlib.Core.Path.{_≡_, refl, sym, ap, _∙_}
 use native.Mathlib.Nat.{le-refl}
 use native.Mathlib.Omega.{arith}
 use borrow.Author.Tests.{leb-true, leb-false}
+use borrow.Table.Steps.{cases}
 use lib.Dec.{leb}
 use lib.ListN.{length, length-append}
 use lib.Seq.{take-all}
@@ -13,7 +14,7 @@ use Rattle.array.specs.Device.{Device, Setting}
 use Rattle.chip.specs.Chip.{Cycle}
 use Rattle.chip.specs.Chip.Cycle.{command}
 use Rattle.bus.specs.Line.{Line, run, sendAll, uncutLine, goesOn, Legal}
-use Rattle.bus.proofs.LineLaws.{by-test, run-uncut, run-cut, goes}
+use Rattle.bus.proofs.LineLaws.{run-uncut, run-cut, goes}
 use Rattle.bus.proofs.LegalLaws.{legal-run, legal-first, legal-start}
 use Rattle.operations.specs.Ends.{endsAs, endOf, confirmedEnd}
 use Rattle.operations.specs.Trace.{startedBy}
@@ -43,7 +44,7 @@ module _ (s : Setting) (d : Device) (first : List Cycle) (code op : ℕ) (d₂ d
   pub effect-starts : (n : ℕ) → startedBy s (uncutLine d n) first code op row bytes ≡ cond (leb n (length first)) [] (record { kind = op; block = row / s .geometry .pages; page = row % s .geometry .pages; bytes = bytes; before = d .array; answer = endsAs s (uncutLine d n) op (length first) } ∷ [])
   unfolding startedBy steps goesOn endOf confirmedEnd
   effect-starts n =
-      by-test (leb n (length first))
+      cases (leb n (length first))
       (λ t. rw (t, run-cut s d n steps start-legal steps-legal (rw length-steps (omega (arith, leb-true n (length first) t)))))
       (λ t.
       let h = leb-false n (length first) t in

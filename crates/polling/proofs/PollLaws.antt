@@ -8,6 +8,7 @@ use native.Mathlib.Omega.{arith}
 use denote.Enum.Declared.{tagOf}
 use types.Run.{OneOf}
 use borrow.Author.Tests.{eq-eqb, ne-eqb, eqb-true, eqb-false}
+use borrow.Table.Steps.{cases}
 use lib.Dec.{eqb}
 use lib.ListN.{replicate}
 use Rattle.geometry.specs.declared.Geometry.{Geometry}
@@ -16,7 +17,7 @@ use Rattle.array.specs.Device.{Device, Setting, setting, completed}
 use Rattle.chip.specs.Chip.{Cycle, exec, finished, statusRead, statusShown}
 use Rattle.chip.specs.Chip.Cycle.{status}
 use Rattle.bus.specs.Line.{Line, admits, send, sendAll, statusOut, goesOn, Going}
-use Rattle.bus.proofs.LineLaws.{by-test, going, send-on, send-off, blocked-stops, sendAll-stopped}
+use Rattle.bus.proofs.LineLaws.{going, send-on, send-off, blocked-stops, sendAll-stopped}
 use Rattle.polling.specs.Polling.{outcomeOf, isPassed, endedAs, ready, judged, waiting, polls, polled}
 use Rattle.polling.specs.declared.Outcome.{Outcome}
 use Rattle.polling.specs.declared.Outcome.the-variants.{Passed, Failed, Silent, Cut, Illegal}
@@ -67,27 +68,27 @@ settled-told k d p = record { tells = λ h. inr (ap (statusByte 1) (sym (p .is h
 pub status-told : (g : Geometry) (d : Device) → Told (statusShown (d .port)) (statusRead g d)
 unfolding statusRead statusShown statusByte
 status-told g d =
-    by-test (eqb (d .port .phase) 1)
+    cases (eqb (d .port .phase) 1)
     (λ a. rw a (settled-told (d .port .failed) d (settled (eqb-true _ _ a) refl)))
-    (λ a. by-test (eqb (d .port .phase) 8)
-    (λ b. by-test (eqb (d .port .busy) 0)
+    (λ a. cases (eqb (d .port .phase) 8)
+    (λ b. cases (eqb (d .port .busy) 0)
     (λ z. rw (a, b, z) (settled-told (d .port .failed) (finished g d) (finished-settled g d)))
     (λ z. rw (a, b, z) (record { tells = λ h. inl (refl, eqb-true _ _ b) })))
     (λ b. rw (a, b) (record { tells = λ h. absurd (true≢false (ap (λ (n : ℕ). eqb n 1) h)) })))
 
 pub ready-told : (k : ℕ) → ready (statusByte 1 k) ≡ true
 unfolding statusByte ready
-ready-told k = by-test (eqb k 0) (λ a. rw a) (λ a. rw a)
+ready-told k = cases (eqb k 0) (λ a. rw a) (λ a. rw a)
 
 pub judged-told : (k : ℕ) → judged (statusByte 1 k) ≡ cond (eqb k 0) Passed Failed
 unfolding statusByte judged
-judged-told k = by-test (eqb k 0) (λ a. rw a) (λ a. rw a)
+judged-told k = cases (eqb k 0) (λ a. rw a) (λ a. rw a)
 
 -- the bit of the status byte that says ready
 pub ready-bit : (n : ℕ) → not (eqb (n / 64 % 2 * 64) 0) ≡ ready n
 unfolding ready
 ready-bit n =
-    by-test (eqb (n / 64 % 2) 1)
+    cases (eqb (n / 64 % 2) 1)
     (λ a. rw (ne-eqb (n / 64 % 2 * 64) 0 (λ e. omega (arith, e, eqb-true (n / 64 % 2) 1 a)), a))
     (λ a.
     let z : n / 64 % 2 ≡ 0 = omega (arith, eqb-false (n / 64 % 2) 1 a) in
@@ -108,15 +109,15 @@ outcome-silent l t p =
 pub ended-stopped : (l : Line) → goesOn l ≡ false → endedAs l ≡ outcomeOf l
 unfolding outcomeOf endedAs goesOn
 ended-stopped l h =
-    by-test (eqb (l .cut) 0)
-    (λ a. by-test (eqb (l .chip .port .illegal) 0) (λ b. absurd (true≢false (sym (rw (a, b)) ∙ h))) (λ b. rw (a, b)))
+    cases (eqb (l .cut) 0)
+    (λ a. cases (eqb (l .chip .port .illegal) 0) (λ b. absurd (true≢false (sym (rw (a, b)) ∙ h))) (λ b. rw (a, b)))
     (λ a. rw a)
 
 module _ (s : Setting) where
   -- a line that goes on after a cycle sent it
   pub sent-on : (l : Line) (c : Cycle) → goesOn (send s l c) ≡ true → admits l ≡ true
   sent-on l c h =
-      by-test (admits l) (λ a. a)
+      cases (admits l) (λ a. a)
       (λ a. absurd (true≢false (sym h ∙ ap goesOn (send-off s l c a) ∙ blocked-stops l)))
 
   pub chip-on : (l : Line) (c : Cycle) → goesOn (send s l c) ≡ true → send s l c .chip ≡ exec s (l .chip) c
@@ -183,7 +184,7 @@ module _ (s : Setting) where
   unfolding polls waiting
   polls-on n l h =
       ap (λ (d : Device). suc (cond (waiting d) (polls s n d) zero)) (sym (chip-on l status h))
-      ∙ by-test (eqb (send s l status .chip .port .phase) 8)
+      ∙ cases (eqb (send s l status .chip .port .phase) 8)
       (λ p. rw (p, eq-eqb _ _ (going (send s l status) h .legal)))
       (λ p. rw p)
 
@@ -192,8 +193,8 @@ module _ (s : Setting) where
   unfolding polled polls sendAll
   polled-all zero l = refl
   polled-all (suc n) l =
-      by-test (goesOn (send s l status))
-      (λ h. by-test (eqb (send s l status .chip .port .phase) 8)
+      cases (goesOn (send s l status))
+      (λ h. cases (eqb (send s l status .chip .port .phase) 8)
       (λ p. polled-more n l h p ∙ polled-all n (send s l status)
       ∙ ap (λ (k : ℕ). sendAll s l (replicate k status)) (sym (rw p at (polls-on n l h))))
       (λ p. polled-ends n l h p ∙ ap (λ (k : ℕ). sendAll s l (replicate k status)) (sym (rw p at (polls-on n l h)))))

@@ -21,10 +21,7 @@ use Rattle.found.specs.declared.Found.{Found}
 use Rattle.scan.specs.Progress.{Progress, progress}
 use Rattle.scan.specs.Scan.{pagesRead, blocksRead}
 use Rattle.scan.proofs.ScanLaws.{pages-stopped}
-
--- a request at line m that goes on
-same-progress : (p : Progress) (m : Line) → m ≡ p .line → Passed ≡ p .outcome → progress m Passed (p .cycles) (p .started) ≡ p
-same-progress p m e q = λ i. record { line = e i; outcome = q i; cycles = p .cycles; started = p .started }
+use Rattle.scan.proofs.ReadOnLaws.{same-progress}
 
 -- once a block's scan has not passed no further one is scanned
 pub blocks-stopped : (s : Setting) (n : ℕ) (p : Progress) → isPassed (blocksRead s n p .outcome) ≡ false → (k : ℕ) → blocksRead s (k + n) p ≡ blocksRead s n p

@@ -19,22 +19,23 @@ use Rattle.scan.specs.Scan.{pagesRead, blocksRead}
 abbrev pub allowance : Progress → ℕ
 allowance p = length (p .cycles) + p .line .left
 
-more : (s : Setting) (l : Line) (before cs : List Cycle) → length (before ++ sent s l cs) + sendAll s l cs .left ≡ length before + l .left
-more s l before cs = omega (arith, length-append before (sent s l cs), sent-counts s l cs)
+-- a run of cycles after those sent before
+pub sent-more : (s : Setting) (l : Line) (before cs : List Cycle) → length (before ++ sent s l cs) + sendAll s l cs .left ≡ length before + l .left
+sent-more s l before cs = omega (arith, length-append before (sent s l cs), sent-counts s l cs)
 
 module _ (s : Setting) where
   pub read-counts : (row column n : ℕ) (p : Progress) → allowance (readOn s row column n p) ≡ allowance p
   unfolding readOn
   read-counts row column n p =
       cases (isPassed (p .outcome))
-      (λ t. rw t (more s (p .line) (p .cycles) (readCycles s (p .line) row column n)))
+      (λ t. rw t (sent-more s (p .line) (p .cycles) (readCycles s (p .line) row column n)))
       (λ t. rw t)
 
   pub reset-counts : (p : Progress) → allowance (resetOn s p) ≡ allowance p
   unfolding resetOn
   reset-counts p =
       cases (isPassed (p .outcome))
-      (λ t. rw t (more s (p .line) (p .cycles) resetCycles))
+      (λ t. rw t (sent-more s (p .line) (p .cycles) resetCycles))
       (λ t. rw t)
 
   pub pages-count : (block n : ℕ) (p : Progress) → allowance (pagesRead s block n p) ≡ allowance p

@@ -18,7 +18,7 @@ use Rattle.polling.specs.declared.Outcome.{Outcome}
 use Rattle.polling.specs.declared.Outcome.the-variants.{Passed, Failed, Silent, Cut, Illegal}
 use Rattle.operations.specs.Ends.{Called, CanRead, End, endOfRead, readEnd}
 use Rattle.operations.proofs.ReadLaws.{read-ends, read-bytes, read-next}
-use Rattle.scan.specs.Progress.{Progress, readOn}
+use Rattle.scan.specs.Progress.{Progress, progress, readOn}
 
 -- line m and outcome o after a read, and the bytes in its buffer
 pub record Read (s : Setting) (l m : Line) (o : Outcome) (row column n : ℕ) (bytes : List ℕ) : Type 0 where
@@ -82,3 +82,7 @@ is-passed Failed t = absurd (false≢true t)
 is-passed Silent t = absurd (false≢true t)
 is-passed Cut t = absurd (false≢true t)
 is-passed Illegal t = absurd (false≢true t)
+
+-- a request that has come to line m, all passed
+pub same-progress : (p : Progress) (m : Line) → m ≡ p .line → Passed ≡ p .outcome → progress m Passed (p .cycles) (p .started) ≡ p
+same-progress p m e q = λ i. record { line = e i; outcome = q i; cycles = p .cycles; started = p .started }
