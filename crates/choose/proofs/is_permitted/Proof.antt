@@ -1,9 +1,9 @@
--- `state::choose::is_permitted` meets its contract. Assumes nothing.
-use Rattle.state.specs.Choose.{permitted}
+-- `choose::is_permitted` meets its contract. Assumes nothing.
+use Rattle.choose.specs.Choose.{permitted}
 use mathlib.Core.Path.{sym, _∙_}
 use borrow.Author.Needs.{needs}
-use Rattle.state.proofs.choose.is_permitted.Statement.{statement}
-use Rattle.state.proofs.choose.is_permitted.Tie as tie
+use Rattle.choose.proofs.is_permitted.Statement.{statement}
+use Rattle.choose.proofs.is_permitted.Tie as tie
 
 is-set-requires : tie.Need-is-set-requires
 is-set-requires c κs = search needs

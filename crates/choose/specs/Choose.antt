@@ -1,11 +1,11 @@
--- The block that the next fill takes.
+-- The block that the next fill takes, and how many there are to take.
 use Prim.Native.Nat.{ℕ, zero, suc, _+_}
 use mathlib.Core.Bool.{Bool, true, false, cond}
 use mathlib.Core.List.{List}
 use lib.Dec.{eqb}
 use Rattle.bitmaps.specs.Bitmap.{bitAt}
-use Rattle.state.specs.declared.choose.Choice.{Choice}
-use Rattle.state.specs.declared.choose.Choice.the-variants.{Block, Worn}
+use Rattle.choose.specs.declared.Choice.{Choice}
+use Rattle.choose.specs.declared.Choice.the-variants.{Block, Worn}
 
 -- a block may be filled if it is unmarked, not invalid, and held by nothing
 unfoldable pub permitted : List ℕ → List ℕ → List ℕ → ℕ → Bool
@@ -26,3 +26,9 @@ searchAfter test blocks (suc n) b =
 -- the next block after the one filled last that may be filled, that one itself as the last candidate
 abbrev pub chosen : List ℕ → List ℕ → List ℕ → ℕ → ℕ → Choice
 chosen marked invalid held blocks last = searchAfter (permitted marked invalid held) blocks blocks last
+
+-- how many of the first n blocks may be filled
+unfoldable pub countPermitted : List ℕ → List ℕ → List ℕ → ℕ → ℕ
+countPermitted marked invalid held zero = 0
+countPermitted marked invalid held (suc n) =
+    countPermitted marked invalid held n + cond (permitted marked invalid held n) 1 0

@@ -1,4 +1,4 @@
--- `state::count_permitted` meets its contract: the count is that of the blocks passed. Assumes nothing.
+-- `choose::count_permitted` meets its contract: the count is that of the blocks passed. Assumes nothing.
 use Prim.Native.Nat.{_≤_, _<_, _-_}
 use mathlib.Core.Logic.{⊎-elim}
 use mathlib.Core.Path.{_≡_, refl, sym, ap, _∙_}
@@ -6,10 +6,10 @@ use native.Mathlib.Omega.{arith}
 use borrow.Author.Needs.{needs}
 use denote.Ref.{now}
 use Rattle.bitmaps.specs.Bitmap.{byteOf}
-use Rattle.state.specs.State.{countPermitted}
-use Rattle.state.proofs.StateLaws.{count-permitted, count-refused}
-use Rattle.state.proofs.count_permitted.Statement.{statement}
-use Rattle.state.proofs.count_permitted.Tie as tie
+use Rattle.choose.specs.Choose.{countPermitted}
+use Rattle.choose.proofs.ChooseLaws.{count-permitted, count-refused}
+use Rattle.choose.proofs.count_permitted.Statement.{statement}
+use Rattle.choose.proofs.count_permitted.Tie as tie
 
 abbrev Inv-loop : tie.InvT-loop
 Inv-loop marked invalid held blocks count₀ b₀ count b =

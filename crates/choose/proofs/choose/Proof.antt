@@ -1,15 +1,15 @@
--- `state::choose::choose` meets its contract. Assumes nothing.
+-- `choose::choose` meets its contract. Assumes nothing.
 use Prim.Native.Nat.{_+_}
-use Rattle.state.proofs.ChooseLaws.{next-below, search-found, search-on, search-over}
-use Rattle.state.specs.declared.choose.Choice.the-variants.{Block}
-use Rattle.state.specs.Choose.{permitted, searchAfter, chosen}
+use Rattle.choose.proofs.ChooseLaws.{next-below, search-found, search-on, search-over}
+use Rattle.choose.specs.declared.Choice.the-variants.{Block}
+use Rattle.choose.specs.Choose.{permitted, searchAfter, chosen}
 use denote.Ref.{now}
 use native.Mathlib.Omega.{arith}
 use native.Mathlib.Nat.{sub-zero}
 use mathlib.Core.Path.{_≡_, sym, ap, _∙_}
 use Prim.Native.Nat.{ℕ, _≤_, _<_, _-_}
-use Rattle.state.proofs.choose.choose.Statement.{statement}
-use Rattle.state.proofs.choose.choose.Tie as tie
+use Rattle.choose.proofs.choose.Statement.{statement}
+use Rattle.choose.proofs.choose.Tie as tie
 
 abbrev Inv-loop : tie.InvT-loop
 Inv-loop marked invalid held blocks last block₀ tried₀ block tried =

@@ -1,9 +1,9 @@
-// The choice of a block for the next fill.
+// The choice of a block for the next fill, and the count of those that may be filled.
 ghost use mathlib.Core.Path.{_≡_};
 ghost use Prim.Native.Nat.{_*_, _<_, _≤_};
 ghost use lib.ListN.{length};
 ghost use Rattle.bitmaps.specs.Bitmap.{byteOf};
-ghost use Rattle.state.specs.Choose.{permitted, nextBlock, chosen};
+ghost use Rattle.choose.specs.Choose.{permitted, nextBlock, chosen, countPermitted};
 
 // A block to fill, or none ("worn").
 pub enum Choice {
@@ -59,4 +59,25 @@ pub fn choose(marked: &[u8], invalid: &[u8], held: &[u8], blocks: usize, last: u
         tried += 1;
     }
     Choice::Worn
+}
+
+// How many blocks may be filled.
+pub fn count_permitted(
+    marked: &[u8; 512],
+    invalid: &[u8; 512],
+    held: &[u8; 512],
+    blocks: usize,
+) -> usize
+    requires { ⌜ blocks ≤ 4096 ⌝ }
+    ensures { λ r. ⌜ r ≡ countPermitted (now (marked .entry)) (now (invalid .entry)) (now (held .entry)) blocks ⌝ }
+{
+    let mut count: usize = 0;
+    let mut b = 0;
+    while b < blocks {
+        if is_permitted(marked, invalid, held, b) {
+            count += 1;
+        }
+        b += 1;
+    }
+    count
 }

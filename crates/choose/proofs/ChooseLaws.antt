@@ -1,15 +1,17 @@
--- Laws of the search for a block. Assumes nothing.
+-- Laws of the search for a block, and of the count of those that may be filled. Assumes nothing.
 use Prim.Native.Nat.{ℕ, zero, suc, _+_, _-_, _%_, _≤_, _<_}
 use mathlib.Core.Bool.{Bool, true, false}
+use mathlib.Core.List.{List}
 use mathlib.Core.Logic.{_↔_}
 use mathlib.Core.Path.{_≡_, refl, sym, ap, _∙_}
-use native.Mathlib.Nat.{mod-self, mod-lt, mod-eq-of-lt, mod-add-mod, add-mod-mod, add-mod-right}
+use native.Mathlib.Nat.{add-zero, mod-self, mod-lt, mod-eq-of-lt, mod-add-mod, add-mod-mod, add-mod-right}
+use native.Mathlib.Numerals.{add-one}
 use native.Mathlib.Omega.{arith}
 use borrow.Table.Steps.{cases}
 use borrow.Author.Tests.{eqb-true, eqb-false}
 use lib.Dec.{eqb}
-use Rattle.state.specs.Choose.{nextBlock, searchAfter}
-use Rattle.state.specs.declared.choose.Choice.the-variants.{Block, Worn}
+use Rattle.choose.specs.Choose.{permitted, nextBlock, searchAfter, countPermitted}
+use Rattle.choose.specs.declared.Choice.the-variants.{Block, Worn}
 
 pub next-below : (blocks b : ℕ) → b < blocks → nextBlock blocks b < blocks
 next-below blocks b h =
@@ -146,3 +148,13 @@ worn-exactly test blocks last h = (
   λ e c l. ap test (sym (met blocks last c h l)) ∙ worn-none test blocks blocks last h e ((c + blocks - last - 1) % blocks) (mod-lt (c + blocks - last - 1) (omega arith)),
   λ f. none-worn test blocks blocks last h (λ k l. f (after blocks last (suc k)) (after-below blocks last (suc k) (omega arith))),
 )
+
+-- one block more is counted, where it may be filled
+module _ (marked invalid held : List ℕ) where
+  pub count-permitted : (n : ℕ) → permitted marked invalid held n ≡ true → countPermitted marked invalid held (n + 1) ≡ countPermitted marked invalid held n + 1
+  unfolding countPermitted
+  count-permitted n h = rw (add-one, h)
+
+  pub count-refused : (n : ℕ) → permitted marked invalid held n ≡ false → countPermitted marked invalid held (n + 1) ≡ countPermitted marked invalid held n
+  unfolding countPermitted
+  count-refused n h = rw (add-one, h) (add-zero (countPermitted marked invalid held n))

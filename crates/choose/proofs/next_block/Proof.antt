@@ -1,8 +1,8 @@
--- `state::choose::next_block` meets its contract. Assumes nothing.
+-- `choose::next_block` meets its contract. Assumes nothing.
 use borrow.Author.Tests.{eq-eqb, ne-eqb}
 use borrow.Author.Needs.{needs}
-use Rattle.state.proofs.choose.next_block.Statement.{statement}
-use Rattle.state.proofs.choose.next_block.Tie as tie
+use Rattle.choose.proofs.next_block.Statement.{statement}
+use Rattle.choose.proofs.next_block.Tie as tie
 
 add-if1 : tie.Need-add-if1
 add-if1 c = search needs
