@@ -24,8 +24,8 @@ use Rattle.marks.specs.Marks.{marksRead}
 use Rattle.erasing.specs.Round.{afterErase, blockErased, failedAt, aboveAt, erasedTo}
 use Rattle.fill.specs.Steps.{eraseOn, programOn, isFailed}
 use Rattle.fill.specs.Fill.{mainOf, mainRead, pageFilled, pagesFilled, tableMain}
-use Rattle.state.specs.Choose.{permitted, searchAfter}
-use Rattle.state.specs.State.{blank, countPermitted, copyBits, emptyFrom, soundFrom, soundEntries, mounted, freeBlocks}
+use Rattle.choose.specs.Choose.{permitted, searchAfter, countPermitted}
+use Rattle.state.specs.State.{blank, copyBits, emptyFrom, soundFrom, soundEntries, mounted, freeBlocks}
 use Rattle.tables.specs.Tables.{stateAfter, tryBlock, tryTable, endAnswer, endState, tablesFilled}
 use Rattle.format.specs.Format.{firstState, tooFew, tablesRun, roundRun, marksRun, formatting}
 use Rattle.copies.specs.Current.{currentTable, currentCopy, aboveAll, nextNumber, filledLast, sharesNumber, clashesAt, clashes, judgeTable, mountAnswer}

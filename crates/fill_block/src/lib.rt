@@ -147,7 +147,7 @@ pub fn fill_table(
 {
     let mut first = [0u8; 4096];
     let main = g.main;
-    copies::table::build_first(&mut first[0..main], g.blocks, g.logical, invalid);
+    table::build_first(&mut first[0..main], g.blocks, g.logical, invalid);
     let content = Content {
         kind: 0x54,
         logical: 0,

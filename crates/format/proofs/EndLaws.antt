@@ -12,7 +12,8 @@ use Rattle.chip.specs.Chip.{Cycle}
 use Rattle.bus.specs.Line.{Line}
 use Rattle.polling.specs.declared.Outcome.the-variants.{Passed}
 use Rattle.operations.specs.Trace.{ArrayOperation}
-use Rattle.state.specs.State.{blank, countPermitted}
+use Rattle.choose.specs.Choose.{countPermitted}
+use Rattle.state.specs.State.{blank}
 use Rattle.state.specs.declared.State.{State}
 use Rattle.calls.specs.Call.{endAt}
 use Rattle.scan.specs.Progress.{progress}

@@ -10,7 +10,8 @@ use Rattle.polling.specs.Polling.{isPassed}
 use Rattle.polling.specs.declared.Outcome.the-variants.{Passed}
 use Rattle.scan.specs.Progress.{Progress, progress, resetOn}
 use Rattle.found.specs.Found.{marksTo}
-use Rattle.state.specs.State.{blank, countPermitted}
+use Rattle.choose.specs.Choose.{countPermitted}
+use Rattle.state.specs.State.{blank}
 use Rattle.state.specs.declared.State.{State}
 use Rattle.calls.specs.Call.{Result, result, sizedFor, callLine, stopAnswer, endAt}
 use Rattle.tables.specs.Tables.{Tabled, tabled, tablesFilled, numbersLeft}

@@ -63,7 +63,7 @@ fn fill_first(
     ensures { λ r. ⌜ ((cs : List Cycle) (os : List ArrayOperation) → result (r .answer) (r .state) (device (r .interface) (now (array .exit)) (now (register .exit)) (now (history .exit))) (r .sent) ≡ endOfRun allowed (tablesRun (setting g (now (mask .entry)) (now (fates .entry))) marked invalid above (progress (line from (now (array .entry)) (now (register .entry)) (now (history .entry))) Passed cs os))) ⌝ }
 {
     let held = [0u8; 512];
-    if state::count_permitted(&marked, &invalid, &held, g.blocks) < g.logical + 2 {
+    if choose::count_permitted(&marked, &invalid, &held, g.blocks) < g.logical + 2 {
         return calls::end(8, State::blank(2), from, allowed);
     }
     let first = first_state(g, marked, invalid, above);

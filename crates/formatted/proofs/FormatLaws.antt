@@ -23,8 +23,8 @@ use Rattle.polling.specs.declared.Outcome.the-variants.{Passed}
 use Rattle.operations.specs.Ends.{Called}
 use Rattle.copies.specs.Blocks.{blockIn, pageIn, isMarked}
 use Rattle.copies.specs.Current.{currentTable, filledLast, nextNumber}
-use Rattle.state.specs.Choose.{permitted}
-use Rattle.state.specs.State.{blank, countPermitted}
+use Rattle.choose.specs.Choose.{permitted, countPermitted}
+use Rattle.state.specs.State.{blank}
 use Rattle.state.specs.declared.State.{State}
 use Rattle.found.specs.Contents.{mapOf}
 use Rattle.found.specs.Found.{bitsAt, marksTo}

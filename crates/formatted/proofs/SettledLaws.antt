@@ -25,7 +25,7 @@ use Rattle.copies.specs.Current.{currentTable, currentCopy, filledLast, nextNum
 use Rattle.copies.specs.Pick.{nothing, at, someBelow}
 use Rattle.copies.specs.Table.{bitmapBytes, bitmapOf, tablePage, header, lists, clearWhere, rightFirst, rightPage, rightTo, rightTable}
 use Rattle.copies.proofs.PickLaws.{picked-is}
-use Rattle.copies.proofs.TableLaws.{table-right, valid-roomy, later-page, first-page}
+use Rattle.table.proofs.TableLaws.{table-right, valid-roomy, later-page, first-page}
 use Rattle.found.specs.Contents.{entryOf, tabulate, mapOf}
 use Rattle.found.specs.Found.{bitsAt}
 use Rattle.found.proofs.MapLaws.{length-tabulate, getD-tabulate}

@@ -25,12 +25,12 @@ use Rattle.operations.specs.Ends.{Called}
 use Rattle.pages.specs.Over.{Over}
 use Rattle.pages.proofs.LayoutLaws.{unless}
 use Rattle.copies.specs.Blocks.{pageIn, isMarked, aboveTo}
-use Rattle.state.specs.Choose.{permitted, chosen}
-use Rattle.state.specs.State.{blank, countPermitted, withNumber, withInvalid, withTable}
+use Rattle.choose.specs.Choose.{permitted, chosen, countPermitted}
+use Rattle.state.specs.State.{blank, withNumber, withInvalid, withTable}
 use Rattle.state.specs.declared.State.{State}
-use Rattle.state.specs.declared.choose.Choice.{Choice}
-use Rattle.state.specs.declared.choose.Choice.the-variants.{Block, Worn}
-use Rattle.state.proofs.ChooseLaws as choose
+use Rattle.choose.specs.declared.Choice.{Choice}
+use Rattle.choose.specs.declared.Choice.the-variants.{Block, Worn}
+use Rattle.choose.proofs.ChooseLaws as choose
 use Rattle.calls.specs.Call.{stopAnswer}
 use Rattle.scan.specs.Progress.{Progress}
 use Rattle.fill.specs.Fill.{tableCopy, tableSource, tableMain, tableFilled, pageOf}

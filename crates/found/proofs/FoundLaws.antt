@@ -14,9 +14,9 @@ use Rattle.pages.proofs.LayoutLaws.{positive}
 use Rattle.copies.specs.Blocks.{blockIn, isMarked, isComplete, isTable, above}
 use Rattle.copies.specs.Current.{numberAt, aboveAll}
 use Rattle.copies.specs.Pick.{Pick, nothing, at, better, pick}
-use Rattle.copies.specs.Summary.{saysComplete, saysAbove}
-use Rattle.copies.specs.declared.Summary.{Summary}
-use Rattle.copies.proofs.BlockLaws.{says-complete, says-above, says-marked, complete-label}
+use Rattle.summary.specs.Summary.{saysComplete, saysAbove}
+use Rattle.summary.specs.declared.Summary.{Summary}
+use Rattle.summary.proofs.BlockLaws.{says-complete, says-above, says-marked, complete-label}
 use Rattle.found.specs.Found.{markNoted, aboveNoted, isNewer, withTable, tableNoted, noted, foundTo, summaryAt, rightAt, bitsAt, marksTo}
 use Rattle.found.specs.declared.Found.{Found}
 

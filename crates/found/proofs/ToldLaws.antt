@@ -22,8 +22,8 @@ use Rattle.copies.specs.Blocks.{blockIn, pageIn, mainIn, isComplete, isData, la
 use Rattle.copies.specs.Current.{numberAt, unlisted, counts, sharesNumber, clashesAt, clashes}
 use Rattle.copies.specs.Pick.{someBelow}
 use Rattle.copies.specs.Table.{bitmapBytes, bitmapOf, lists}
-use Rattle.copies.proofs.TableLaws.{valid-roomy}
-use Rattle.copies.proofs.BlockLaws.{says-complete, complete-label}
+use Rattle.table.proofs.TableLaws.{valid-roomy}
+use Rattle.summary.proofs.BlockLaws.{says-complete, complete-label}
 use Rattle.copies.proofs.PickLaws.{up-to, some-same}
 use Rattle.found.specs.Contents.{Contents, contents, copyNoted, contentsTo, counted, bears, pastLast, clashing}
 use Rattle.found.specs.Found.{summaryAt, bitsAt}

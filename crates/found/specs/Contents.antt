@@ -8,8 +8,8 @@ use Rattle.geometry.specs.declared.Geometry.{Geometry}
 use Rattle.bitmaps.specs.Bitmap.{bitAt}
 use Rattle.copies.specs.Current.{currentCopy}
 use Rattle.copies.specs.Pick.{Pick, nothing, at, someBelow}
-use Rattle.copies.specs.Summary.{saysComplete}
-use Rattle.copies.specs.declared.Summary.{Summary}
+use Rattle.summary.specs.Summary.{saysComplete}
+use Rattle.summary.specs.declared.Summary.{Summary}
 use Rattle.found.specs.Found.{summaryAt}
 
 -- kind 0 stands for a block that is not complete

@@ -8,9 +8,9 @@ use Rattle.geometry.specs.declared.Geometry.{Geometry}
 use Rattle.bitmaps.specs.Bitmap.{withBit}
 use Rattle.cells.specs.Part.{put}
 use Rattle.copies.specs.Blocks.{blockIn, mainIn, isMarked}
-use Rattle.copies.specs.Summary.{summed, saysComplete, saysAbove}
+use Rattle.summary.specs.Summary.{summed, saysComplete, saysAbove}
 use Rattle.copies.specs.Table.{bitmapOf, rightTo}
-use Rattle.copies.specs.declared.Summary.{Summary}
+use Rattle.summary.specs.declared.Summary.{Summary}
 use Rattle.found.specs.declared.Found.{Found}
 
 abbrev pub blankFound : Found

@@ -1,5 +1,5 @@
 // The copies that a scan found: kind, logical block and number of each complete block; clashes and the map.
-use copies::Summary;
+use summary::Summary;
 ghost use mathlib.Core.Path.{_≡_};
 ghost use Prim.Native.Nat.{_<_, _≤_};
 ghost use lib.ListN.{length};

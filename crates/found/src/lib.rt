@@ -1,7 +1,7 @@
 // What a scan of the chip found: marks, complete copies, the current table, the greatest number.
 pub mod contents;
 
-use copies::Summary;
+use summary::Summary;
 ghost use mathlib.Core.Bool.{cond};
 ghost use mathlib.Core.Path.{_≡_};
 ghost use lib.Dec.{eqb};

@@ -14,7 +14,7 @@ use Rattle.polling.specs.declared.Outcome.{Outcome}
 use Rattle.polling.specs.declared.Outcome.the-variants.{Passed}
 use Rattle.operations.specs.Ends.{Called}
 use Rattle.operations.specs.Trace.{ArrayOperation}
-use Rattle.copies.specs.declared.Summary.{Summary}
+use Rattle.summary.specs.declared.Summary.{Summary}
 use Rattle.found.specs.Contents.{Contents, copyNoted, contentsTo}
 use Rattle.found.specs.Found.{blankFound, noted, foundTo, summaryAt, rightAt, bitsAt}
 use Rattle.found.specs.declared.Found.{Found}

@@ -27,10 +27,10 @@ use Rattle.polling.specs.declared.Outcome.the-variants.{Passed}
 use Rattle.operations.specs.Ends.{Called, CanRead}
 use Rattle.operations.specs.Trace.{ArrayOperation}
 use Rattle.copies.specs.Blocks.{blockIn, pageIn, mainIn}
-use Rattle.copies.specs.Summary.{blankSummary, summed, stepped}
-use Rattle.copies.specs.declared.Summary.{Summary}
+use Rattle.summary.specs.Summary.{blankSummary, summed, stepped}
+use Rattle.summary.specs.declared.Summary.{Summary}
 use Rattle.copies.specs.Table.{bitmapOf, bitsWith, rightPage, rightTo, rightWith}
-use Rattle.copies.proofs.TableLaws.{part-take}
+use Rattle.table.proofs.TableLaws.{part-take}
 use Rattle.scan.specs.Progress.{Progress, progress}
 use Rattle.scan.specs.Scan.{pagesRead}
 use Rattle.scan.proofs.ReadOnLaws.{Read, read-leaves, read-line, read-outcome, read-stopped}

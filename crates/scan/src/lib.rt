@@ -1,9 +1,9 @@
 // The scan of a block and of the chip: every page read whole through the bus, and what the pages tell.
 use bus::Bus;
-use copies::Summary;
 use found::Found;
 use geometry::Geometry;
 use polling::Outcome;
+use summary::Summary;
 ghost use mathlib.Core.Bool.{true, cond};
 ghost use mathlib.Core.List.{List};
 ghost use mathlib.Core.Path.{_≡_};
@@ -18,7 +18,7 @@ ghost use Rattle.polling.specs.declared.Outcome.the-variants.{Passed};
 ghost use Rattle.operations.specs.Ends.{Called};
 ghost use Rattle.operations.specs.Trace.{ArrayOperation};
 ghost use Rattle.copies.specs.Blocks.{blockIn, mainIn};
-ghost use Rattle.copies.specs.Summary.{summed};
+ghost use Rattle.summary.specs.Summary.{summed};
 ghost use Rattle.copies.specs.Table.{bitmapBytes, bitmapOf, rightTo};
 ghost use Rattle.cells.specs.Part.{put};
 ghost use Rattle.scan.specs.Progress.{progress};
@@ -81,8 +81,8 @@ pub fn scan_block(
             };
         };
         summary = summary.step(page, main, place);
-        right = copies::table::right_with(right, page, g, place);
-        copies::table::copy_bitmap(page, g, place, bits);
+        right = table::right_with(right, page, g, place);
+        table::copy_bitmap(page, g, place, bits);
         place += 1;
     }
     Scanned {

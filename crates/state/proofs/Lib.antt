@@ -1,3 +1,2 @@
-pub mod ChooseLaws
 pub mod MountedLaws
 pub mod StateLaws

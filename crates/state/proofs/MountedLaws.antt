@@ -11,7 +11,7 @@ use lib.Dec.{eqb, ltb}
 use lib.ListN.{length, getD, replicate, getD-replicate, length-replicate}
 use Rattle.bitmaps.specs.Bitmap.{byteOf, placeOf, bitAt, withBit, clearFrom, neverBoth}
 use Rattle.bitmaps.proofs.BitLaws.{bit-set, bit-kept}
-use Rattle.state.specs.Choose.{permitted}
+use Rattle.choose.specs.Choose.{permitted}
 use Rattle.state.specs.State.{none, emptyFrom, soundBlock, soundFrom, soundEntries, mounted, Mounted}
 use Rattle.state.specs.declared.State.{State}
 use Rattle.state.proofs.StateLaws.{with-length}

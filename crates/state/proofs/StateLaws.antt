@@ -3,7 +3,7 @@ use Prim.Native.Nat.{ℕ, zero, suc, _+_, _-_, _≤_, _<_}
 use mathlib.Core.Bool.{true, false, false≢true}
 use mathlib.Core.List.{List}
 use mathlib.Core.Path.{_≡_, refl, sym, ap, _∙_}
-use native.Mathlib.Nat.{add-zero, sub-zero}
+use native.Mathlib.Nat.{sub-zero}
 use native.Mathlib.Numerals.{add-one}
 use native.Mathlib.Omega.{arith}
 use borrow.Table.Steps.{cases}
@@ -11,8 +11,8 @@ use borrow.Author.Tests.{eq-eqb, ne-eqb, lt-ltb, le-ltb, ltb-true}
 use lib.Dec.{ltb}
 use lib.ListN.{length, getD, length-set}
 use Rattle.bitmaps.specs.Bitmap.{withBit}
-use Rattle.state.specs.Choose.{permitted}
-use Rattle.state.specs.State.{addBlock, copyBits, countPermitted, emptyFrom, soundBlock, soundFrom}
+use Rattle.choose.specs.Choose.{permitted}
+use Rattle.state.specs.State.{addBlock, copyBits, emptyFrom, soundBlock, soundFrom}
 use Rattle.state.specs.declared.State.{State}
 
 -- an entry of the map from n on that is not empty, an empty one, and no entry left
@@ -33,16 +33,6 @@ unfolding emptyFrom
 empty-over map m n h =
     let e : m - n ≡ 0 = omega arith in
     rw e
-
--- one block more is counted, where it may be filled
-module _ (marked invalid held : List ℕ) where
-  pub count-permitted : (n : ℕ) → permitted marked invalid held n ≡ true → countPermitted marked invalid held (n + 1) ≡ countPermitted marked invalid held n + 1
-  unfolding countPermitted
-  count-permitted n h = rw (add-one, h)
-
-  pub count-refused : (n : ℕ) → permitted marked invalid held n ≡ false → countPermitted marked invalid held (n + 1) ≡ countPermitted marked invalid held n
-  unfolding countPermitted
-  count-refused n h = rw (add-one, h) (add-zero (countPermitted marked invalid held n))
 
 -- a bitmap keeps its length
 pub with-length : (bits next : List ℕ) (b k : ℕ) → next ≡ withBit bits b → length bits ≡ k → length next ≡ k

@@ -1,2 +1,1 @@
-pub mod Choose
 pub mod State

@@ -6,7 +6,7 @@ use mathlib.Core.Path.{_≡_}
 use lib.Dec.{eqb, ltb}
 use lib.ListN.{getD, set, replicate}
 use Rattle.bitmaps.specs.Bitmap.{bitAt, withBit, clearFrom, neverBoth}
-use Rattle.state.specs.Choose.{permitted}
+use Rattle.choose.specs.Choose.{permitted, countPermitted}
 use Rattle.state.specs.declared.State.{State}
 
 -- a state that is 0 in all fields but its status: 0 not mounted, 1 mounted, 2 stopped
@@ -53,12 +53,6 @@ copyBits map (suc n) bits = let rest = copyBits map n bits in addBlock (getD map
 -- the blocks that hold something current: the table and the copies of n logical blocks
 abbrev pub heldBits : State → ℕ → List ℕ
 heldBits s n = copyBits (s .map) n (addBlock (s .table) (replicate 512 0))
-
--- how many of the first n blocks may be filled
-unfoldable pub countPermitted : List ℕ → List ℕ → List ℕ → ℕ → ℕ
-countPermitted marked invalid held zero = 0
-countPermitted marked invalid held (suc n) =
-    countPermitted marked invalid held n + cond (permitted marked invalid held n) 1 0
 
 -- the k entries of the map from n on are empty
 unfoldable pub emptyFrom : List ℕ → ℕ → ℕ → Bool

@@ -1,13 +1,11 @@
-// The mounted state, and the choice of a block for the next fill.
-pub mod choose;
-
+// The mounted state.
 use choose::Choice;
 ghost use mathlib.Core.Path.{_≡_};
 ghost use Prim.Native.Nat.{_+_, _-_, _<_, _≤_};
 ghost use lib.ListN.{replicate};
 ghost use Rattle.bitmaps.specs.Bitmap.{withBit};
-ghost use Rattle.state.specs.Choose.{chosen};
-ghost use Rattle.state.specs.State.{blank, spent, withNumber, withInvalid, withCopy, withTable, heldBits, emptyFrom, countPermitted, soundBlock, soundFrom, soundEntries, mounted, freeBlocks};
+ghost use Rattle.choose.specs.Choose.{chosen};
+ghost use Rattle.state.specs.State.{blank, spent, withNumber, withInvalid, withCopy, withTable, heldBits, emptyFrom, soundBlock, soundFrom, soundEntries, mounted, freeBlocks};
 
 // What a mount found and the fills since changed. It goes in by value and comes back.
 pub struct State {
@@ -45,27 +43,6 @@ fn is_empty_from(map: &[u16; 4096], logical: usize) -> bool
         l += 1;
     }
     true
-}
-
-// How many blocks may be filled.
-pub fn count_permitted(
-    marked: &[u8; 512],
-    invalid: &[u8; 512],
-    held: &[u8; 512],
-    blocks: usize,
-) -> usize
-    requires { ⌜ blocks ≤ 4096 ⌝ }
-    ensures { λ r. ⌜ r ≡ countPermitted (now (marked .entry)) (now (invalid .entry)) (now (held .entry)) blocks ⌝ }
-{
-    let mut count: usize = 0;
-    let mut b = 0;
-    while b < blocks {
-        if choose::is_permitted(marked, invalid, held, b) {
-            count += 1;
-        }
-        b += 1;
-    }
-    count
 }
 
 impl State {
@@ -247,7 +224,7 @@ impl State {
             let marked = self.marked;
             let invalid = self.invalid;
             let held = self.held(logical);
-            return count_permitted(&marked, &invalid, &held, blocks);
+            return choose::count_permitted(&marked, &invalid, &held, blocks);
         }
         0
     }

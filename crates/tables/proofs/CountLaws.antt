@@ -5,10 +5,10 @@ use mathlib.Core.Path.{_≡_, refl, _∙_}
 use borrow.Table.Steps.{cases}
 use lib.Dec.{eqb}
 use Rattle.array.specs.Device.{Setting}
-use Rattle.state.specs.Choose.{chosen}
+use Rattle.choose.specs.Choose.{chosen}
 use Rattle.state.specs.declared.State.{State}
-use Rattle.state.specs.declared.choose.Choice.{Choice}
-use Rattle.state.specs.declared.choose.Choice.the-variants.{Block, Worn}
+use Rattle.choose.specs.declared.Choice.{Choice}
+use Rattle.choose.specs.declared.Choice.the-variants.{Block, Worn}
 use Rattle.scan.specs.Progress.{Progress}
 use Rattle.scan.proofs.CountLaws.{allowance}
 use Rattle.fill.specs.Fill.{tableCopy, tableSource}

@@ -13,11 +13,11 @@ use Rattle.polling.specs.declared.Outcome.{Outcome}
 use Rattle.polling.specs.declared.Outcome.the-variants.{Passed, Failed, Silent, Cut, Illegal}
 use Rattle.operations.specs.Ends.{Called}
 use Rattle.operations.specs.Trace.{ArrayOperation}
-use Rattle.state.specs.Choose.{chosen}
+use Rattle.choose.specs.Choose.{chosen}
 use Rattle.state.specs.State.{blank, withNumber}
 use Rattle.state.specs.declared.State.{State}
-use Rattle.state.specs.declared.choose.Choice.{Choice}
-use Rattle.state.specs.declared.choose.Choice.the-variants.{Block, Worn}
+use Rattle.choose.specs.declared.Choice.{Choice}
+use Rattle.choose.specs.declared.Choice.the-variants.{Block, Worn}
 use Rattle.scan.specs.Progress.{Progress, progress}
 use Rattle.fill.specs.Fill.{tableFilled}
 use Rattle.fill.specs.Steps.{resumed, isFailed}

@@ -9,13 +9,13 @@ use Rattle.bus.specs.Line.{Line}
 use Rattle.polling.specs.declared.Outcome.{Outcome}
 use Rattle.polling.specs.declared.Outcome.the-variants.{Passed}
 use Rattle.operations.specs.Ends.{Called}
-use Rattle.state.specs.Choose.{chosen, permitted}
+use Rattle.choose.specs.Choose.{chosen, permitted}
 use Rattle.state.specs.State.{withNumber}
 use Rattle.state.specs.declared.State.{State}
-use Rattle.state.specs.declared.choose.Choice.{Choice}
-use Rattle.state.specs.declared.choose.Choice.the-variants.{Block, Worn}
-use Rattle.state.proofs.choose.Choice.{the-type}
-use Rattle.state.proofs.ChooseLaws.{found, after-below}
+use Rattle.choose.specs.declared.Choice.{Choice}
+use Rattle.choose.specs.declared.Choice.the-variants.{Block, Worn}
+use Rattle.choose.proofs.Choice.{the-type}
+use Rattle.choose.proofs.ChooseLaws.{found, after-below}
 use Rattle.scan.specs.Progress.{progress}
 use Rattle.fill.specs.Fill.{tableFilled}
 use Rattle.fill.specs.Steps.{ComesTo}

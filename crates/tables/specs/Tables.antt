@@ -12,11 +12,11 @@ use Rattle.operations.specs.Trace.{ArrayOperation}
 use Rattle.polling.specs.Polling.{isPassed}
 use Rattle.polling.specs.declared.Outcome.{Outcome}
 use Rattle.polling.specs.declared.Outcome.the-variants.{Passed, Failed, Silent, Cut, Illegal}
-use Rattle.state.specs.Choose.{chosen}
+use Rattle.choose.specs.Choose.{chosen}
 use Rattle.state.specs.State.{blank, withNumber, withInvalid, withTable}
 use Rattle.state.specs.declared.State.{State}
-use Rattle.state.specs.declared.choose.Choice.{Choice}
-use Rattle.state.specs.declared.choose.Choice.the-variants.{Block, Worn}
+use Rattle.choose.specs.declared.Choice.{Choice}
+use Rattle.choose.specs.declared.Choice.the-variants.{Block, Worn}
 use Rattle.calls.specs.Call.{stopAnswer}
 use Rattle.scan.specs.Progress.{Progress, progress}
 use Rattle.fill.specs.Fill.{tableFilled}

@@ -1,9 +1,9 @@
 // Table fills until one passes: each takes the next number, then the next permitted block; a failure makes that block invalid.
 use bus::Bus;
+use choose::Choice;
 use geometry::Geometry;
 use polling::Outcome;
 use state::State;
-use state::choose::Choice;
 ghost use mathlib.Core.Path.{_≡_};
 ghost use Prim.Native.Nat.{_<_};
 ghost use lib.ListN.{length};

@@ -6,8 +6,8 @@ use denote.Ref.{now}
 use Rattle.array.specs.Device.{setting}
 use Rattle.bus.specs.Line.{line, sendAll}
 use Rattle.sequences.specs.Cycles.{eraseCycles}
-use Rattle.copies.specs.declared.Summary.{Summary}
-use Rattle.copies.proofs.BlockLaws.{summed-above}
+use Rattle.summary.specs.declared.Summary.{Summary}
+use Rattle.summary.proofs.BlockLaws.{summed-above}
 use Rattle.fill.proofs.OutcomeLaws.{failed-by-tag, unfailed-by-tag}
 use Rattle.erasing.proofs.RoundLaws.{block-marked, block-unfailed, failed-called, block-failed}
 use borrow.Author.Needs.{needs}
