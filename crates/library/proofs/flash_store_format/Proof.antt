@@ -5,8 +5,10 @@ use denote.Ref.{now}
 use Rattle.array.specs.Device.{Device, setting}
 use Rattle.state.specs.declared.State.{State}
 use Rattle.format.specs.Format.{formatting}
-use Rattle.library.specs.Library.{geometryOf, lent, formattingLent}
-use Rattle.library.proofs.LibraryLaws.{right-long, lent-wrongly, request-handed}
+use Rattle.lent.specs.Buffers.{geometryOf, lent}
+use Rattle.library.specs.Library.{formattingLent}
+use Rattle.lent.proofs.BufferLaws.{right-long}
+use Rattle.library.proofs.LibraryLaws.{lent-wrongly, request-handed}
 use borrow.Author.Needs.{needs}
 use Rattle.library.proofs.flash_store_format.Statement.{statement}
 use Rattle.library.proofs.flash_store_format.Tie as tie

@@ -5,8 +5,10 @@ use denote.Ref.{now}
 use Rattle.array.specs.Device.{Device, setting}
 use Rattle.state.specs.declared.State.{State}
 use Rattle.mount.specs.Mount.{mounting}
-use Rattle.library.specs.Library.{geometryOf, lent, mountingLent}
-use Rattle.library.proofs.LibraryLaws.{right-long, lent-wrongly, request-handed}
+use Rattle.lent.specs.Buffers.{geometryOf, lent}
+use Rattle.library.specs.Library.{mountingLent}
+use Rattle.lent.proofs.BufferLaws.{right-long}
+use Rattle.library.proofs.LibraryLaws.{lent-wrongly, request-handed}
 use borrow.Author.Needs.{needs}
 use Rattle.library.proofs.flash_store_mount.Statement.{statement}
 use Rattle.library.proofs.flash_store_mount.Tie as tie

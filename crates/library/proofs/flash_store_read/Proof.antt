@@ -3,8 +3,9 @@ use mathlib.Core.Path.{sym, _∙_}
 use borrow.Author.Tests.{not-true, not-false}
 use denote.Ref.{now}
 use Rattle.array.specs.Device.{setting}
-use Rattle.library.specs.Library.{geometryOf, lent}
-use Rattle.library.proofs.LibraryLaws.{right-long, read-wrongly, read-handed}
+use Rattle.lent.specs.Buffers.{geometryOf, lent}
+use Rattle.lent.proofs.BufferLaws.{right-long}
+use Rattle.library.proofs.LibraryLaws.{read-wrongly, read-handed}
 use borrow.Author.Needs.{needs}
 use Rattle.library.proofs.flash_store_read.Statement.{statement}
 use Rattle.library.proofs.flash_store_read.Tie as tie

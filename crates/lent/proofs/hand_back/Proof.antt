@@ -1,4 +1,4 @@
--- `library::hand_back` meets its contract. Assumes nothing.
+-- `lent::hand_back` meets its contract. Assumes nothing.
 use denote.Ref.{now}
 use Prim.Native.Nat.{ℕ}
 use mathlib.Core.Path.{_≡_, ap, _∙_}
@@ -7,10 +7,10 @@ use mir.Syntax.{w8, w16, w64}
 use mir.Val.{Fits}
 use Rattle.state_bytes.specs.StateBytes.{bytesState, Ranged}
 use Rattle.state_bytes.proofs.RoundLaws.{load-stored}
-use Rattle.library.proofs.LibraryLaws.{put-back}
+use Rattle.lent.proofs.BufferLaws.{put-back}
 use borrow.Author.Needs.{needs}
-use Rattle.library.proofs.hand_back.Statement.{statement}
-use Rattle.library.proofs.hand_back.Tie as tie
+use Rattle.lent.proofs.hand_back.Statement.{statement}
+use Rattle.lent.proofs.hand_back.Tie as tie
 
 -- a state is in the range of its types
 status-fits : (s : tie.Start) → Fits w64 (s .args .returned .state .status)

@@ -1,10 +1,10 @@
--- `library::write_words` meets its contract. Assumes nothing.
+-- `lent::write_words` meets its contract. Assumes nothing.
 use lib.ListN.{length-set}
-use Rattle.library.proofs.LibraryLaws.{words-written}
+use Rattle.lent.proofs.WordLaws.{words-written}
 use native.Mathlib.Omega.{arith}
 use borrow.Author.Needs.{needs}
-use Rattle.library.proofs.write_words.Statement.{statement}
-use Rattle.library.proofs.write_words.Tie as tie
+use Rattle.lent.proofs.write_words.Statement.{statement}
+use Rattle.lent.proofs.write_words.Tie as tie
 
 slice-write-words : tie.Need-slice-write-words
 slice-write-words c = search needs

@@ -1,8 +1,8 @@
--- `library::is_lent_rightly` meets its contract. Assumes nothing.
-use Rattle.library.specs.Library.{lengthsRight}
+-- `lent::is_lent_rightly` meets its contract. Assumes nothing.
+use Rattle.lent.specs.Buffers.{lengthsRight}
 use borrow.Author.Tests.{eq-eqb, ne-eqb}
-use Rattle.library.proofs.is_lent_rightly.Statement.{statement}
-use Rattle.library.proofs.is_lent_rightly.Tie as tie
+use Rattle.lent.proofs.is_lent_rightly.Statement.{statement}
+use Rattle.lent.proofs.is_lent_rightly.Tie as tie
 
 returns : tie.Need-returns
 unfolding lengthsRight

@@ -1,9 +1,9 @@
--- `library::interface_of` meets its contract. Assumes nothing.
-use Rattle.library.specs.Library.{interfaceOf}
+-- `lent::interface_of` meets its contract. Assumes nothing.
+use Rattle.lent.specs.Buffers.{interfaceOf}
 use mathlib.Core.Path.{refl}
 use borrow.Author.Needs.{needs}
-use Rattle.library.proofs.interface_of.Statement.{statement}
-use Rattle.library.proofs.interface_of.Tie as tie
+use Rattle.lent.proofs.interface_of.Statement.{statement}
+use Rattle.lent.proofs.interface_of.Tie as tie
 
 shared-slice-read-t3 : tie.Need-shared-slice-read-t3
 shared-slice-read-t3 c = search needs
