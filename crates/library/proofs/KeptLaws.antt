@@ -14,7 +14,8 @@ use Rattle.state_bytes.proofs.RoundLaws.{store-loaded}
 use Rattle.calls.specs.Call.{Result, result, sizedFor}
 use Rattle.format.specs.Format.{formatting}
 use Rattle.mount.specs.Mount.{mounting}
-use Rattle.reading.specs.Reading.{refusalOf, readingPage}
+use Rattle.refusals.specs.Refusals.{refusalOf}
+use Rattle.reading.specs.Reading.{readingPage}
 use Rattle.reading.proofs.ReadingLaws.{read-keeps}
 use Rattle.lent.specs.Buffers.{Lent, lent, chipOf, rightly, handed, putBack, answered}
 use Rattle.lent.proofs.BufferLaws.{right-long}

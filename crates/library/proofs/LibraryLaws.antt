@@ -9,7 +9,8 @@ use Rattle.array.specs.Device.{Device, Setting, device}
 use Rattle.state.specs.declared.State.{State}
 use Rattle.state_bytes.specs.StateBytes.{bytesState}
 use Rattle.calls.specs.Call.{Result}
-use Rattle.reading.specs.Reading.{ReadResult, readResult, readingPage}
+use Rattle.fetching.specs.Fetching.{ReadResult, readResult}
+use Rattle.reading.specs.Reading.{readingPage}
 use Rattle.lent.specs.Buffers.{interfaceOf, Lent, chipOf, rightly, Handed, handed, putBack, answered, PassedOn}
 use Rattle.library.specs.Library.{readPage, readHanded, readingLent}
 

@@ -7,7 +7,8 @@ use Rattle.state_bytes.specs.StateBytes.{bytesState}
 use Rattle.calls.specs.Call.{Result}
 use Rattle.format.specs.Format.{formatting}
 use Rattle.mount.specs.Mount.{mounting}
-use Rattle.reading.specs.Reading.{ReadResult, readingPage}
+use Rattle.fetching.specs.Fetching.{ReadResult}
+use Rattle.reading.specs.Reading.{readingPage}
 use Rattle.lent.specs.Buffers.{Lent, chipOf, rightly, Handed, answered}
 
 -- the requests on the state and the chip that are lent; n: the cycles allowed

@@ -1,12 +1,12 @@
--- `reading::refusal` meets its contract. Assumes nothing.
+-- `refusals::refusal` meets its contract. Assumes nothing.
 use mathlib.Core.Path.{sym, _∙_}
 use native.Mathlib.Omega.{arith}
 use borrow.Author.Tests.{not-true, not-false}
 use Rattle.calls.proofs.CallLaws.{sizes}
-use Rattle.reading.proofs.RefusalLaws.{refused-geometry, refused-unmounted, refused-logical, refused-page, refused-length, accepted}
+use Rattle.refusals.proofs.RefusalLaws.{refused-geometry, refused-unmounted, refused-logical, refused-page, refused-length, accepted}
 use borrow.Author.Needs.{needs}
-use Rattle.reading.proofs.refusal.Statement.{statement}
-use Rattle.reading.proofs.refusal.Tie as tie
+use Rattle.refusals.proofs.refusal.Statement.{statement}
+use Rattle.refusals.proofs.refusal.Tie as tie
 
 is-sized-requires : tie.Need-is-sized-requires
 is-sized-requires c κs = search needs

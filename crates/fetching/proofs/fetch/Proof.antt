@@ -1,12 +1,12 @@
--- `reading::fetch` meets its contract. Assumes nothing.
+-- `fetching::fetch` meets its contract. Assumes nothing.
 use denote.Ref.{now}
 use Rattle.array.specs.Device.{setting}
 use Rattle.bus.specs.Line.{line}
 use Rattle.polling.proofs.PollLaws.{passed-by-tag, other-by-tag}
-use Rattle.reading.proofs.FetchLaws.{fetch-line, fetch-outcome, fetch-stopped, fetch-passed}
+use Rattle.fetching.proofs.FetchLaws.{fetch-line, fetch-outcome, fetch-stopped, fetch-passed}
 use borrow.Author.Needs.{needs}
-use Rattle.reading.proofs.fetch.Statement.{statement}
-use Rattle.reading.proofs.fetch.Tie as tie
+use Rattle.fetching.proofs.fetch.Statement.{statement}
+use Rattle.fetching.proofs.fetch.Tie as tie
 
 read-requires : tie.Need-read-requires
 read-requires c κs = search needs

@@ -1,14 +1,14 @@
--- `reading::read_block` meets its contract. Assumes nothing.
+-- `fetching::read_block` meets its contract. Assumes nothing.
 use mathlib.Core.Path.{ap}
 use denote.Ref.{now}
 use Rattle.array.specs.Device.{device, setting}
 use Rattle.bus.specs.Line.{line}
 use Rattle.bus.specs.declared.Bus.{Bus}
 use Rattle.polling.proofs.PollLaws.{passed-by-tag, other-by-tag}
-use Rattle.reading.proofs.EndLaws.{left-most, ends-passed, ends-stopped}
+use Rattle.fetching.proofs.PageLaws.{left-most, ends-passed, ends-stopped}
 use borrow.Author.Needs.{needs}
-use Rattle.reading.proofs.read_block.Statement.{statement}
-use Rattle.reading.proofs.read_block.Tie as tie
+use Rattle.fetching.proofs.read_block.Statement.{statement}
+use Rattle.fetching.proofs.read_block.Tie as tie
 
 row-of-requires : tie.Need-row-of-requires
 row-of-requires c κs = search needs

@@ -16,7 +16,7 @@ use Rattle.bus.proofs.LineLaws.{sendAll-append, sendAll-stopped}
 use Rattle.polling.specs.Polling.{isPassed, endedAs, outcomeOf}
 use Rattle.polling.specs.declared.Outcome.{Outcome}
 use Rattle.sequences.specs.Cycles.{pageRead, pageLine, readCycles, readOutcome, outputs, readOutputs}
-use Rattle.reading.specs.Reading.{fetched}
+use Rattle.fetching.specs.Fetching.{fetched}
 
 -- all of one list over another that is as long
 pub over-all : (xs ys : List ℕ) → length ys ≡ length xs → over xs ys ≡ xs
