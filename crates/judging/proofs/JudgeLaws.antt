@@ -7,7 +7,7 @@ use Rattle.bitmaps.specs.Bitmap.{bitAt, neverBoth}
 use Rattle.copies.specs.Pick.{someBelow}
 use Rattle.found.specs.Contents.{Contents, clashing}
 use Rattle.found.specs.declared.Found.{Found}
-use Rattle.mount.specs.Mount.{judgedBy}
+use Rattle.judging.specs.Judging.{judgedBy}
 
 module _ (g : Geometry) (f : Found) (c : Contents) where
   pub no-table : f .tables ≡ 0 → 4 ≡ judgedBy g f c

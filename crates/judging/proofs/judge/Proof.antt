@@ -1,14 +1,14 @@
--- `mount::judge` meets its contract. Assumes nothing.
+-- `judging::judge` meets its contract. Assumes nothing.
 use mathlib.Core.Path.{_≡_, sym, _∙_}
 use native.Mathlib.Omega.{arith}
 use borrow.Author.Tests.{not-true, not-false}
 use denote.Ref.{now}
 use lib.ListN.{length}
 use Rattle.found.specs.Contents.{contents}
-use Rattle.mount.proofs.JudgeLaws.{no-table, wrong-pages, marked-listed, own-listed, clash-found, all-right}
+use Rattle.judging.proofs.JudgeLaws.{no-table, wrong-pages, marked-listed, own-listed, clash-found, all-right}
 use borrow.Author.Needs.{needs}
-use Rattle.mount.proofs.judge.Statement.{statement}
-use Rattle.mount.proofs.judge.Tie as tie
+use Rattle.judging.proofs.judge.Statement.{statement}
+use Rattle.judging.proofs.judge.Tie as tie
 
 returns : tie.Need-returns
 returns c =

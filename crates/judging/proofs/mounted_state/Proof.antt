@@ -1,7 +1,7 @@
--- `mount::mounted_state` meets its contract. Assumes nothing.
+-- `judging::mounted_state` meets its contract. Assumes nothing.
 use borrow.Author.Needs.{needs}
-use Rattle.mount.proofs.mounted_state.Statement.{statement}
-use Rattle.mount.proofs.mounted_state.Tie as tie
+use Rattle.judging.proofs.mounted_state.Statement.{statement}
+use Rattle.judging.proofs.mounted_state.Tie as tie
 
 map-copies-requires : tie.Need-map-copies-requires
 map-copies-requires c κs = search needs
