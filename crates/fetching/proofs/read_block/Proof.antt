@@ -45,16 +45,16 @@ end-requires c κs =
     left-most set d (s .args .allowed) (s .args .state) (s .args .block) (s .args .page) (now (s .args .buffer)) _ _ (c .before .before .before .before .before .before .before .before .before .before .before .before .before .fetch .result .outcome) (c .before .before .before .before .before .before .before .before .before .before .before .before .before .before .before .before .before .before .before .before .row-of .result) _ (ap (λ (x : Bus). line x (now (s .args .array)) (now (s .args .register)) (now (s .args .history))) (c .before .before .before .before .before .before .before .before .before .before .before .before .before .before .before .before .before .before .before .begin .ensures)) (c .before .before .before .before .before .before .before .before .before .before .before .before .before .before .before .before .before .before .before .before .row-of .ensures) (c .before .before .before .before .before .before .before .before .before .before .before .before .before .fetch .ensures .0) (c .before .before .before .before .before .before .before .before .before .before .before .before .before .fetch .ensures .1 .0) (c .before .before .before .before .before .before .before .before .before .before .before .before .before .fetch .ensures .1 .1)
 
 same-length : tie.Need-same-length
-same-length c = search needs
+same-length c = c .before .before .before .before .before .before .before .before .before .before .before .before .before .array .given
 
 same-length-2 : tie.Need-same-length-2
-same-length-2 c = search needs
+same-length-2 c = c .before .before .before .before .before .before .before .before .before .before .before .register .given
 
 same-length-3 : tie.Need-same-length-3
-same-length-3 c = search needs
+same-length-3 c = c .before .before .before .before .before .before .before .before .before .history .given
 
 same-length-4 : tie.Need-same-length-4
-same-length-4 c = search needs
+same-length-4 c = c .before .before .before .before .before .before .buffer .given
 
 returns : tie.Need-returns
 returns c =
@@ -72,16 +72,16 @@ end-requires-2 c κs =
     left-most set d (s .args .allowed) (s .args .state) (s .args .block) (s .args .page) (now (s .args .buffer)) _ _ (c .before .before .before .before .before .before .before .before .before .before .before .before .fetch .result .outcome) (c .before .before .before .before .before .before .before .before .before .before .before .before .before .before .before .before .before .before .before .row-of .result) _ (ap (λ (x : Bus). line x (now (s .args .array)) (now (s .args .register)) (now (s .args .history))) (c .before .before .before .before .before .before .before .before .before .before .before .before .before .before .before .before .before .before .begin .ensures)) (c .before .before .before .before .before .before .before .before .before .before .before .before .before .before .before .before .before .before .before .row-of .ensures) (c .before .before .before .before .before .before .before .before .before .before .before .before .fetch .ensures .0) (c .before .before .before .before .before .before .before .before .before .before .before .before .fetch .ensures .1 .0) (c .before .before .before .before .before .before .before .before .before .before .before .before .fetch .ensures .1 .1)
 
 same-length-5 : tie.Need-same-length-5
-same-length-5 c = search needs
+same-length-5 c = c .before .before .before .before .before .before .before .before .before .before .before .before .array .given
 
 same-length-6 : tie.Need-same-length-6
-same-length-6 c = search needs
+same-length-6 c = c .before .before .before .before .before .before .before .before .before .before .register .given
 
 same-length-7 : tie.Need-same-length-7
-same-length-7 c = search needs
+same-length-7 c = c .before .before .before .before .before .before .before .before .history .given
 
 same-length-8 : tie.Need-same-length-8
-same-length-8 c = search needs
+same-length-8 c = c .before .before .before .before .before .buffer .given
 
 returns-2 : tie.Need-returns-2
 returns-2 c =
