@@ -12,7 +12,8 @@ use Rattle.geometry.specs.Sizes.{rowOf}
 use Rattle.bitmaps.specs.Bitmap.{bitAt, withBit}
 use Rattle.array.specs.Device.{Setting}
 use Rattle.chip.specs.Chip.{Cycle}
-use Rattle.bus.specs.Line.{Line, sendAll}
+use Rattle.bus.specs.Line.{Line, line, sendAll}
+use Rattle.bus.specs.declared.Bus.{Bus}
 use Rattle.polling.specs.Polling.{isPassed, outcomeOf}
 use Rattle.polling.specs.declared.Outcome.{Outcome}
 use Rattle.polling.specs.declared.Outcome.the-variants.{Passed}
@@ -20,13 +21,24 @@ use Rattle.sequences.specs.Cycles.{eraseCycles}
 use Rattle.operations.specs.Ends.{Called, CanErase}
 use Rattle.operations.specs.Trace.{ArrayOperation}
 use Rattle.copies.specs.Blocks.{blockIn, aboveTo}
+use Rattle.summary.specs.declared.Summary.{Summary}
+use Rattle.summary.specs.Summary.{summed}
+use Rattle.summary.proofs.BlockLaws.{summed-above}
 use Rattle.scan.specs.Progress.{Progress, progress}
 use Rattle.scan.specs.Scan.{pagesRead}
 use Rattle.scan.proofs.ReadOnLaws.{is-passed, same-progress}
 use Rattle.fill.specs.Steps.{eraseOn, resumed, isFailed}
 use Rattle.fill.proofs.OutcomeLaws.{failed-answered}
 use Rattle.fill.proofs.StepLaws.{passed-answered, erase-called, erase-on-line, erase-on-outcome}
+use Rattle.erasing.specs.declared.BlockErased.{BlockErased}
 use Rattle.erasing.specs.Round.{afterErase, blockErased, failedAt, aboveAt, erasedTo, BlockDone, RoundDone}
+
+-- a block is told by the bus and the outcome handed back
+pub block-told : (s : Setting) (marked : List ℕ) (l : Line) (block : ℕ) (array register history : List ℕ) {r : BlockErased} {bus : Bus} {o : Outcome} → r ≡ record { bus = bus; outcome = o; failed = 0; above = 0 }
+    → BlockDone s marked l (line bus array register history) o block 0 0
+    → BlockDone s marked l (line (r .bus) array register history) (r .outcome) block (r .failed) (r .above)
+block-told s marked l block array register history e d =
+    subst (λ (x : BlockErased). BlockDone s marked l (line (x .bus) array register history) (x .outcome) block (x .failed) (x .above)) (sym e) d
 
 -- a block with a factory mark
 pub block-marked : (s : Setting) (marked : List ℕ) (l : Line) (block : ℕ) → bitAt marked block ≡ true → Called s l → BlockDone s marked l l Passed block 0 0
@@ -41,7 +53,10 @@ block-marked s marked l block t called =
     }
 
 -- a block whose erase leaves line m and outcome o
-module _ (s : Setting) (marked : List ℕ) (l : Line) (block : ℕ) (clear : bitAt marked block ≡ false) (can : CanErase s l block) (m : Line) (o : Outcome) (e : m ≡ sendAll s l (eraseCycles s l (rowOf (s .geometry) block 0))) (q : o ≡ outcomeOf m) where
+module _ (s : Setting) (marked : List ℕ) (l : Line) (block : ℕ) (clear : bitAt marked block ≡ false) (can : CanErase s l block) (m : Line) (o : Outcome) (row : ℕ) (row-is : row ≡ rowOf (s .geometry) block 0) (reached : m ≡ sendAll s l (eraseCycles s l row)) (q : o ≡ outcomeOf m) where
+  e : m ≡ sendAll s l (eraseCycles s l (rowOf (s .geometry) block 0))
+  e = reached ∙ ap (λ (x : ℕ). sendAll s l (eraseCycles s l x)) row-is
+
   line-on : (cs : List Cycle) (os : List ArrayOperation) → m ≡ eraseOn s block (progress l Passed cs os) .line
   unfolding isPassed
   line-on cs os = e ∙ sym (erase-on-line s block (progress l Passed cs os) l refl refl)
@@ -67,13 +82,13 @@ module _ (s : Setting) (marked : List ℕ) (l : Line) (block : ℕ) (clear : bit
       }
 
   -- it failed, and the scan of the block leaves line m' and outcome o'
-  pub block-failed : isFailed o ≡ true → (m' : Line) (o' : Outcome) (above : ℕ)
+  pub block-failed : isFailed o ≡ true → (m' : Line) (o' : Outcome) (summary : Summary)
       → ((cs : List Cycle) (os : List ArrayOperation) → m' ≡ pagesRead s block (s .geometry .pages) (progress m Passed cs os) .line)
       → ((cs : List Cycle) (os : List ArrayOperation) → o' ≡ pagesRead s block (s .geometry .pages) (progress m Passed cs os) .outcome)
-      → (isPassed o' ≡ true → Called s m') → (isPassed o' ≡ true → above ≡ aboveTo (s .geometry) (blockIn (s .geometry) (m .chip .array) block) (s .geometry .pages))
-      → BlockDone s marked l m' o' block 1 above
+      → (isPassed o' ≡ true → Called s m') → (isPassed o' ≡ true → summary ≡ summed (s .geometry) (blockIn (s .geometry) (m .chip .array) block) (s .geometry .pages))
+      → BlockDone s marked l m' o' block 1 (summary .above)
   unfolding isPassed blockErased afterErase failedAt aboveAt
-  block-failed f m' o' above f₁ f₂ next f₃ =
+  block-failed f m' o' summary f₁ f₂ next f₃ =
       let yes : (cs : List Cycle) (os : List ArrayOperation) → isFailed (eraseOn s block (progress l Passed cs os) .outcome) ≡ true = λ cs os. sym (ap isFailed (outcome-on cs os)) ∙ f in
       let same : (cs : List Cycle) (os : List ArrayOperation) → progress m Passed (eraseOn s block (progress l Passed cs os) .cycles) (eraseOn s block (progress l Passed cs os) .started) ≡ resumed (eraseOn s block (progress l Passed cs os)) =
       λ cs os. ap (λ (x : Line). progress x Passed (eraseOn s block (progress l Passed cs os) .cycles) (eraseOn s block (progress l Passed cs os) .started)) (line-on cs os) in
@@ -82,7 +97,7 @@ module _ (s : Setting) (marked : List ℕ) (l : Line) (block : ℕ) (clear : bit
         outcome-is = λ cs os. f₂ _ _ ∙ ap (λ (x : Progress). pagesRead s block (s .geometry .pages) x .outcome) (same cs os) ∙ rw (clear, yes cs os);
         next = next;
         failed-is = λ t cs os. rw (clear, yes cs os);
-        above-is = λ t cs os. f₃ t ∙ ap (λ (x : Line). aboveTo (s .geometry) (blockIn (s .geometry) (x .chip .array) block) (s .geometry .pages)) (line-on cs os) ∙ rw (clear, yes cs os);
+        above-is = λ t cs os. ap (λ (x : Summary). x .above) (f₃ t) ∙ summed-above (s .geometry) (blockIn (s .geometry) (m .chip .array) block) (omega (arith, can .called .is-valid .pages-least)) ∙ ap (λ (x : Line). aboveTo (s .geometry) (blockIn (s .geometry) (x .chip .array) block) (s .geometry .pages)) (line-on cs os) ∙ rw (clear, yes cs os);
       }
 
 -- once a block has not passed nothing more is sent

@@ -24,6 +24,18 @@ struct BlockErased {
     above: u64,
 }
 
+// The end of a block whose erase did not fail.
+fn not_failed(bus: Bus, outcome: Outcome) -> BlockErased
+    ensures { λ r. ⌜ r ≡ record { bus = bus; outcome = outcome; failed = 0; above = 0 } ⌝ }
+{
+    BlockErased {
+        bus,
+        outcome,
+        failed: 0,
+        above: 0,
+    }
+}
+
 // Erases a block unless it bears a factory mark. Directly after an erase that failed every page is read whole.
 fn erase_block(
     from: Bus,
@@ -43,24 +55,14 @@ fn erase_block(
     ensures { λ r. ⌜ BlockDone (setting g (now (mask .entry)) (now (fates .entry))) (now (marked .entry)) (line from (now (array .entry)) (now (register .entry)) (now (history .entry))) (line (r .bus) (now (array .exit)) (now (register .exit)) (now (history .exit))) (r .outcome) block (r .failed) (r .above) ⌝ }
 {
     if bitmaps::is_set(marked, block) {
-        return BlockErased {
-            bus: from,
-            outcome: Outcome::Passed,
-            failed: 0,
-            above: 0,
-        };
+        return not_failed(from, Outcome::Passed);
     }
     let row = geometry::row_of(g, block, 0);
     let erased = operations::erase(from, g, array, register, history, mask, fates, row);
     let b = erased.bus;
     let outcome = erased.outcome;
     let Outcome::Failed = outcome else {
-        return BlockErased {
-            bus: b,
-            outcome,
-            failed: 0,
-            above: 0,
-        };
+        return not_failed(b, outcome);
     };
     let mut bits = [0u8; 512];
     let scanned = scan::scan_block(

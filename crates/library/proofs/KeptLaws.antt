@@ -2,50 +2,25 @@
 use Prim.Native.Nat.{ℕ}
 use mathlib.Core.Bool.{true, false}
 use mathlib.Core.List.{List, [], _∷_}
-use mathlib.Core.Path.{_≡_, refl, ap}
-use native.Mathlib.Omega.{arith}
+use mathlib.Core.Path.{_≡_, ap}
 use borrow.Author.Tests.{ne-eqb}
 use borrow.Table.Steps.{cases}
-use lib.ListN.{length, replicate}
+use lib.ListN.{length}
 use Rattle.cells.specs.Bytes.{Bytes}
 use Rattle.interface.specs.declared.Interface.{Interface}
-use Rattle.interface.specs.Interface.{poweredOn}
 use Rattle.array.specs.Device.{Setting, device}
 use Rattle.state_bytes.specs.StateBytes.{bytesState}
 use Rattle.state_bytes.proofs.RoundLaws.{store-loaded}
 use Rattle.calls.specs.Call.{Result, result, sizedFor}
 use Rattle.format.specs.Format.{formatting}
 use Rattle.mount.specs.Mount.{mounting}
-use Rattle.reading.specs.Reading.{refusalOf, readingPage}
+use Rattle.refusals.specs.Refusals.{refusalOf}
+use Rattle.reading.specs.Reading.{readingPage}
 use Rattle.reading.proofs.ReadingLaws.{read-keeps}
-use Rattle.library.specs.Library.{wordsOf, interfaceOf, Lent, lent, chipOf, rightly, handed, putBack, answered, formattingLent, mountingLent, readHanded, readingLent}
-use Rattle.library.proofs.LibraryLaws.{right-long}
-
--- the interface and its words
-pub words-read : (i : Interface) → interfaceOf (wordsOf i) ≡ i
-unfolding wordsOf interfaceOf
-words-read i = refl
-
-pub words-kept : (xs : List ℕ) → length xs ≡ 11 → wordsOf (interfaceOf xs) ≡ xs
-unfolding wordsOf interfaceOf
-words-kept (a ∷ b ∷ c ∷ d ∷ e ∷ f ∷ g ∷ j ∷ k ∷ l ∷ m ∷ []) h = refl
-words-kept [] h = absurd (omega (arith, h))
-words-kept (a ∷ []) h = absurd (omega (arith, h))
-words-kept (a ∷ b ∷ []) h = absurd (omega (arith, h))
-words-kept (a ∷ b ∷ c ∷ []) h = absurd (omega (arith, h))
-words-kept (a ∷ b ∷ c ∷ d ∷ []) h = absurd (omega (arith, h))
-words-kept (a ∷ b ∷ c ∷ d ∷ e ∷ []) h = absurd (omega (arith, h))
-words-kept (a ∷ b ∷ c ∷ d ∷ e ∷ f ∷ []) h = absurd (omega (arith, h))
-words-kept (a ∷ b ∷ c ∷ d ∷ e ∷ f ∷ g ∷ []) h = absurd (omega (arith, h))
-words-kept (a ∷ b ∷ c ∷ d ∷ e ∷ f ∷ g ∷ j ∷ []) h = absurd (omega (arith, h))
-words-kept (a ∷ b ∷ c ∷ d ∷ e ∷ f ∷ g ∷ j ∷ k ∷ []) h = absurd (omega (arith, h))
-words-kept (a ∷ b ∷ c ∷ d ∷ e ∷ f ∷ g ∷ j ∷ k ∷ l ∷ []) h = absurd (omega (arith, h))
-words-kept (a ∷ b ∷ c ∷ d ∷ e ∷ f ∷ g ∷ j ∷ k ∷ l ∷ m ∷ n ∷ o) h = absurd (omega (arith, h))
-
--- after power comes on every word is 0
-pub power-on-words : wordsOf poweredOn ≡ replicate 11 0
-unfolding wordsOf
-power-on-words = refl
+use Rattle.lent.specs.Buffers.{Lent, lent, chipOf, rightly, handed, putBack, answered}
+use Rattle.lent.proofs.BufferLaws.{right-long}
+use Rattle.lent.proofs.WordLaws.{words-read, words-kept}
+use Rattle.library.specs.Library.{formattingLent, mountingLent, readHanded, readingLent}
 
 -- what was lent, with no cycle sent
 abbrev pub noneSent : Lent → Lent

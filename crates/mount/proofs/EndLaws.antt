@@ -24,7 +24,8 @@ use Rattle.scan.specs.Progress.{Progress, progress}
 use Rattle.scan.specs.Scan.{blocksRead}
 use Rattle.scan.proofs.CountLaws.{blocks-count}
 use Rattle.calls.specs.Call.{endAt, stopAnswer}
-use Rattle.mount.specs.Mount.{mountEnd, stateAfter, mountedState, judgedBy, stateOf}
+use Rattle.judging.specs.Judging.{judgedBy, stateOf}
+use Rattle.mount.specs.Mount.{mountEnd, stateAfter, mountedState}
 use Rattle.mount.proofs.MountLaws.{judge-is, state-is}
 
 -- a scan leaves no more cycles than it found

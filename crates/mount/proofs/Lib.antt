@@ -1,4 +1,3 @@
 pub mod EndLaws
-pub mod JudgeLaws
 pub mod MountLaws
 pub mod ResetLaws

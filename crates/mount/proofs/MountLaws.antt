@@ -25,7 +25,8 @@ use Rattle.found.specs.Found.{foundTo, bitsAt, rightAt, marksTo}
 use Rattle.found.proofs.FoundLaws.{found-marked, found-above, lasts, last-none, Kept, kept, Chosen, Missing, table-found}
 use Rattle.found.proofs.ToldLaws.{Told, told, bit-is, clash-same}
 use Rattle.found.proofs.MapLaws.{map-is}
-use Rattle.mount.specs.Mount.{blockOf, mountedState, judgedBy, stateOf}
+use Rattle.judging.specs.Judging.{judgedBy, stateOf}
+use Rattle.mount.specs.Mount.{blockOf, mountedState}
 
 -- what tells picks apart
 unfoldable placeIn : Pick → ℕ

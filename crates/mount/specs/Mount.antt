@@ -3,20 +3,17 @@ use Prim.Native.Nat.{ℕ}
 use mathlib.Core.Bool.{cond}
 use mathlib.Core.List.{List, []}
 use lib.Dec.{eqb}
-use lib.ListN.{replicate}
 use Rattle.geometry.specs.declared.Geometry.{Geometry}
-use Rattle.bitmaps.specs.Bitmap.{bitAt, neverBoth}
 use Rattle.array.specs.Device.{Device, Setting}
 use Rattle.bus.specs.Line.{Line}
 use Rattle.polling.specs.Polling.{isPassed}
 use Rattle.polling.specs.declared.Outcome.the-variants.{Passed}
 use Rattle.copies.specs.Current.{currentTable, filledLast, nextNumber, mountAnswer}
-use Rattle.copies.specs.Pick.{Pick, nothing, at, someBelow}
+use Rattle.copies.specs.Pick.{Pick, nothing, at}
 use Rattle.state.specs.State.{blank}
 use Rattle.state.specs.declared.State.{State}
-use Rattle.found.specs.Contents.{Contents, clashing, mapTo, mapOf}
+use Rattle.found.specs.Contents.{mapOf}
 use Rattle.found.specs.Found.{bitsAt, marksTo}
-use Rattle.found.specs.declared.Found.{Found}
 use Rattle.scan.specs.Progress.{Progress, progress, resetOn}
 use Rattle.scan.specs.Scan.{blocksRead}
 use Rattle.calls.specs.Call.{Result, result, sizedFor, callLine, stopAnswer, endAt}
@@ -57,24 +54,3 @@ mountEnd s n p =
 -- the request: answer 1 where the sizes do not go together, with no cycle and nothing changed
 unfoldable pub mounting : Setting → Device → ℕ → State → Result
 mounting s d n state = cond (sizedFor s d) (mountEnd s n (mountRun s (callLine d n))) (result 1 state d 0)
-
--- the same from what a scan found
-unfoldable pub judgedBy : Geometry → Found → Contents → ℕ
-judgedBy g f c =
-    cond (eqb (f .tables) 0) 4
-    (cond (eqb (f .right) 0) 5
-    (cond (neverBoth (f .marked) (f .bits) (g .blocks))
-    (cond (bitAt (f .bits) (f .table)) 5 (cond (someBelow (clashing c (f .bits) (g .logical)) (g .blocks)) 6 0))
-    5))
-
-abbrev pub stateOf : Geometry → Found → Contents → State
-stateOf g f c =
-    record {
-      status = 1;
-      table = f .table;
-      last = f .last;
-      number = cond (eqb (f .above) 0) 1 (f .above);
-      marked = f .marked;
-      invalid = f .bits;
-      map = mapTo c (f .bits) (g .blocks) (g .logical) (replicate 4096 65535) (g .blocks);
-    }

@@ -1,15 +1,13 @@
 // Mounting: a reset, a scan of the whole chip, and the state that it gives. Nothing on the chip changes.
 use bus::Bus;
 use calls::Returned;
-use found::Found;
 use geometry::Geometry;
 use interface::Interface;
 use polling::Outcome;
 use state::State;
 ghost use mathlib.Core.List.{List};
 ghost use mathlib.Core.Path.{_≡_};
-ghost use Prim.Native.Nat.{_<_, _≤_};
-ghost use Rattle.geometry.specs.Limits.{Valid};
+ghost use Prim.Native.Nat.{_≤_};
 ghost use Rattle.array.specs.Device.{device, setting};
 ghost use Rattle.chip.specs.Chip.{Cycle};
 ghost use Rattle.bus.specs.Line.{line};
@@ -18,77 +16,8 @@ ghost use Rattle.operations.specs.Ends.{Called};
 ghost use Rattle.operations.specs.Trace.{ArrayOperation};
 ghost use Rattle.scan.specs.Progress.{progress};
 ghost use Rattle.scan.specs.Scan.{blocksRead};
-ghost use Rattle.found.specs.Contents.{contents};
 ghost use Rattle.calls.specs.Call.{result};
-ghost use Rattle.mount.specs.Mount.{mountEnd, mounting, judgedBy, stateOf};
-
-// The answer from what was found: 4 no table, 5 wrong table, 6 clash, or 0.
-fn judge(
-    found: Found,
-    g: Geometry,
-    kinds: &[usize; 4096],
-    logicals: &[usize; 4096],
-    numbers: &[u64; 4096],
-) -> usize
-    requires { ⌜ Valid g ⌝ }
-    requires { ⌜ found .table < 4096 ⌝ }
-    ensures { λ r. ⌜ r ≡ judgedBy g found (contents (now (kinds .entry)) (now (logicals .entry)) (now (numbers .entry))) ⌝ }
-{
-    let tables = found.tables;
-    if tables == 0 {
-        return 4;
-    }
-    let right = found.right;
-    if right == 0 {
-        return 5;
-    }
-    let bits = found.bits;
-    let marked = found.marked;
-    if !bitmaps::is_never_both(&marked, &bits, g.blocks) {
-        return 5;
-    }
-    if bitmaps::is_set(&bits, found.table) {
-        return 5;
-    }
-    if found::contents::is_clash(kinds, logicals, numbers, &bits, g.logical, g.blocks) {
-        return 6;
-    }
-    0
-}
-
-// The mounted state from what was found.
-fn mounted_state(
-    found: Found,
-    g: Geometry,
-    kinds: &[usize; 4096],
-    logicals: &[usize; 4096],
-    numbers: &[u64; 4096],
-) -> State
-    requires { ⌜ Valid g ⌝ }
-    ensures { λ r. ⌜ r ≡ stateOf g found (contents (now (kinds .entry)) (now (logicals .entry)) (now (numbers .entry))) ⌝ }
-{
-    let bits = found.bits;
-    let marked = found.marked;
-    let mut map = [65535u16; 4096];
-    found::contents::map_copies(
-        kinds,
-        logicals,
-        numbers,
-        &bits,
-        g.blocks,
-        g.logical,
-        &mut map,
-    );
-    State {
-        status: 1,
-        table: found.table,
-        last: found.last,
-        number: found.next_number(),
-        marked,
-        invalid: bits,
-        map,
-    }
-}
+ghost use Rattle.mount.specs.Mount.{mountEnd, mounting};
 
 // The scan, once the chip is reset, and its end.
 fn scan_and_judge(
@@ -129,11 +58,11 @@ fn scan_and_judge(
         return calls::end(calls::stop_answer(outcome), State::blank(2), b, allowed);
     };
     let found = scanned.found;
-    let answer = judge(found, g, &kinds, &logicals, &numbers);
+    let answer = judging::judge(found, g, &kinds, &logicals, &numbers);
     if answer != 0 {
         return calls::end(answer, State::blank(0), b, allowed);
     }
-    let state = mounted_state(found, g, &kinds, &logicals, &numbers);
+    let state = judging::mounted_state(found, g, &kinds, &logicals, &numbers);
     calls::end(0, state, b, allowed)
 }
 

@@ -1,5 +1,4 @@
 pub mod EndLaws
-pub mod FetchLaws
 pub mod ReadingLaws
 pub mod ReadingTests
 pub mod RefusalLaws

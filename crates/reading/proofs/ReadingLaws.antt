@@ -34,9 +34,12 @@ use Rattle.state.specs.State.{none}
 use Rattle.state.specs.declared.State.{State}
 use Rattle.calls.specs.Call.{result, sized, sizedFor, callLine, stopAnswer}
 use Rattle.calls.proofs.CallLaws.{sizes}
-use Rattle.reading.specs.Reading.{ReadResult, readResult, refusalOf, fetched, pageProgress, answerFor, stateFor, readingBlock, readingCopy, readingPage}
-use Rattle.reading.proofs.EndLaws.{page-line, page-outcome, goes-on, is-valid, in-map, block-below}
-use Rattle.reading.proofs.RefusalLaws.{Accepted, accepted}
+use Rattle.refusals.specs.Refusals.{refusalOf, answerFor, stateFor}
+use Rattle.fetching.specs.Fetching.{ReadResult, readResult, fetched, pageProgress, readingBlock}
+use Rattle.reading.specs.Reading.{readingCopy, readingPage}
+use Rattle.fetching.proofs.PageLaws.{page-line, page-outcome}
+use Rattle.reading.proofs.EndLaws.{goes-on, is-valid, in-map, block-below}
+use Rattle.refusals.proofs.RefusalLaws.{Accepted, accepted}
 
 -- a read that is done: the page's bytes, the state as it was, nothing on the chip changed, and the chip ready for the
 -- next call

@@ -13,7 +13,7 @@ use Rattle.sequences.specs.Cycles.{readCycles, readOutcome, readOutputs, output
 use Rattle.scan.specs.Progress.{readOn}
 use Rattle.state.specs.State.{blank}
 use Rattle.calls.specs.Call.{stopAnswer}
-use Rattle.reading.specs.Reading.{ReadResult, fetched, readingBlock}
+use Rattle.fetching.specs.Fetching.{ReadResult, fetched, readingBlock}
 
 abbrev small : Geometry
 small = record { main = 32; spare = 16; pages = 4; blocks = 4; logical = 2 }

@@ -20,10 +20,12 @@ use Rattle.scan.proofs.CountLaws.{read-counts}
 use Rattle.state.specs.State.{none}
 use Rattle.state.specs.declared.State.{State}
 use Rattle.calls.specs.Call.{sizedFor, callLine}
-use Rattle.reading.specs.Reading.{ReadResult, refusalOf, pageProgress, readingBlock, readingCopy, readingPage}
-use Rattle.reading.proofs.EndLaws.{page-line}
+use Rattle.refusals.specs.Refusals.{refusalOf}
+use Rattle.fetching.specs.Fetching.{ReadResult, pageProgress, readingBlock}
+use Rattle.reading.specs.Reading.{readingCopy, readingPage}
+use Rattle.fetching.proofs.PageLaws.{page-line}
 use Rattle.reading.proofs.ReadingLaws.{no-copy, one-copy}
-use Rattle.reading.proofs.RefusalLaws.{Accepted}
+use Rattle.refusals.proofs.RefusalLaws.{Accepted}
 
 -- no more cycles are sent than the list has
 sent-most : (s : Setting) (l : Line) (cs : List Cycle) → length (sent s l cs) ≤ length cs

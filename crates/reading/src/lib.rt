@@ -1,154 +1,18 @@
 // The request that reads one logical page.
-use bus::Bus;
 use calls::Returned;
 use geometry::Geometry;
 use interface::Interface;
-use polling::Done;
-use polling::Outcome;
 use state::State;
 ghost use mathlib.Core.Path.{_≡_};
-ghost use mathlib.Core.List.{List};
-ghost use Prim.Native.Nat.{ℕ, _<_};
-ghost use Rattle.geometry.specs.Limits.{Valid};
-ghost use lib.ListN.{length};
 ghost use Rattle.array.specs.Device.{device, setting};
-ghost use Rattle.bus.specs.Line.{line, sendAll};
-ghost use Rattle.sequences.specs.Cycles.{readCycles, readOutcome};
-ghost use Rattle.calls.specs.Call.{result, sized};
-ghost use Rattle.reading.specs.Reading.{readResult, refusal, fetched, readingBlock, readingPage};
+ghost use Rattle.calls.specs.Call.{result};
+ghost use Rattle.fetching.specs.Fetching.{readResult};
+ghost use Rattle.reading.specs.Reading.{readingPage};
 
 fn wide(x: u16) -> usize
     ensures { λ r. ⌜ r ≡ x ⌝ }
 {
     x as usize
-}
-
-// The number of the refusal, 0 where there is none. Array, register, history, mask and buffer are told by their lengths.
-fn refusal(
-    state: State,
-    g: Geometry,
-    array: usize,
-    register: usize,
-    history: usize,
-    mask: usize,
-    logical: usize,
-    page: usize,
-    buffer: usize,
-) -> usize
-    ensures { λ r. ⌜ r ≡ refusal g (sized g array register history mask) state logical page buffer ⌝ }
-{
-    if !calls::is_sized(g, array, register, history, mask) {
-        return 1;
-    }
-    if !state.is_mounted(g.blocks, g.logical) {
-        return 7;
-    }
-    if g.logical <= logical {
-        return 2;
-    }
-    if g.pages <= page {
-        return 2;
-    }
-    if buffer != g.main {
-        return 3;
-    }
-    0
-}
-
-// The end of a request that sends no cycle and changes nothing.
-fn unchanged(answer: usize, state: State, interface: Interface) -> Returned
-    ensures { λ r. ⌜ ((a p h : List ℕ) → result (r .answer) (r .state) (device (r .interface) a p h) (r .sent) ≡ result answer state (device interface a p h) 0) ⌝ }
-{
-    Returned {
-        answer,
-        state,
-        interface,
-        sent: 0,
-    }
-}
-
-// Reads the main bytes of a row into `bytes`, and copies them to `buffer` if the read passed.
-fn fetch(
-    from: Bus,
-    g: Geometry,
-    array: &mut [u8],
-    register: &mut [u8],
-    history: &mut [u8],
-    mask: &[u8],
-    fates: &[u32],
-    row: usize,
-    bytes: &mut [u8],
-    buffer: &mut [u8],
-) -> Done
-    requires { ⌜ length (now bytes) ≡ g .main ⌝ }
-    requires { ⌜ length (now buffer) ≡ g .main ⌝ }
-    ensures { λ r. ⌜ line (r .bus) (now (array .exit)) (now (register .exit)) (now (history .exit)) ≡ sendAll (setting g (now (mask .entry)) (now (fates .entry))) (line from (now (array .entry)) (now (register .entry)) (now (history .entry))) (readCycles (setting g (now (mask .entry)) (now (fates .entry))) (line from (now (array .entry)) (now (register .entry)) (now (history .entry))) row 0 (g .main)) ⌝ }
-    ensures { λ r. ⌜ r .outcome ≡ readOutcome (setting g (now (mask .entry)) (now (fates .entry))) (line from (now (array .entry)) (now (register .entry)) (now (history .entry))) row 0 (g .main) ⌝ }
-    ensures { λ r. ⌜ now (buffer .exit) ≡ fetched (setting g (now (mask .entry)) (now (fates .entry))) (line from (now (array .entry)) (now (register .entry)) (now (history .entry))) row (now (buffer .entry)) ⌝ }
-{
-    let done = operations::read(
-        from,
-        g,
-        array,
-        register,
-        history,
-        mask,
-        fates,
-        row,
-        0,
-        bytes,
-    );
-    let ended = done.outcome;
-    let Outcome::Passed = ended else {
-        return done;
-    };
-    cells::copy(bytes, buffer);
-    done
-}
-
-// Reads a page of a block into a buffer of main bytes.
-fn read_block(
-    state: State,
-    g: Geometry,
-    interface: Interface,
-    array: &mut [u8],
-    register: &mut [u8],
-    history: &mut [u8],
-    mask: &[u8],
-    fates: &[u32],
-    allowed: u32,
-    block: usize,
-    page: usize,
-    buffer: &mut [u8],
-) -> Returned
-    requires { ⌜ Valid g ⌝ }
-    requires { ⌜ block < g .blocks ⌝ }
-    requires { ⌜ page < g .pages ⌝ }
-    requires { ⌜ length (now buffer) ≡ g .main ⌝ }
-    ensures { λ r. ⌜ readResult (result (r .answer) (r .state) (device (r .interface) (now (array .exit)) (now (register .exit)) (now (history .exit))) (r .sent)) (now (buffer .exit)) ≡ readingBlock (setting g (now (mask .entry)) (now (fates .entry))) (device interface (now (array .entry)) (now (register .entry)) (now (history .entry))) allowed state block page (now (buffer .entry)) ⌝ }
-{
-    let row = geometry::row_of(g, block, page);
-    let from = calls::begin(interface, allowed);
-    let mut bytes = [0u8; 4096];
-    let main = g.main;
-    let done = fetch(
-        from,
-        g,
-        array,
-        register,
-        history,
-        mask,
-        fates,
-        row,
-        &mut bytes[0..main],
-        buffer,
-    );
-    let bus = done.bus;
-    let outcome = done.outcome;
-    let Outcome::Passed = outcome else {
-        return calls::end(calls::stop_answer(outcome), State::blank(2), bus, allowed);
-    };
-    calls::end(0, state, bus, allowed)
 }
 
 // Reads a page of a logical block into a buffer of main bytes, which changes only with the answer 0.
@@ -168,7 +32,7 @@ pub fn read(
 ) -> Returned
     ensures { λ r. ⌜ readResult (result (r .answer) (r .state) (device (r .interface) (now (array .exit)) (now (register .exit)) (now (history .exit))) (r .sent)) (now (buffer .exit)) ≡ readingPage (setting g (now (mask .entry)) (now (fates .entry))) (device interface (now (array .entry)) (now (register .entry)) (now (history .entry))) allowed state logical page (now (buffer .entry)) ⌝ }
 {
-    let refused = refusal(
+    let refused = refusals::refusal(
         state,
         g,
         array.len(),
@@ -180,15 +44,15 @@ pub fn read(
         buffer.len(),
     );
     if refused != 0 {
-        return unchanged(refused, state, interface);
+        return refusals::unchanged(refused, state, interface);
     }
     let map = state.map;
     let block = wide(map[logical]);
     if block == 65535 {
         cells::erase_whole(buffer);
-        return unchanged(0, state, interface);
+        return refusals::unchanged(0, state, interface);
     }
-    read_block(
+    fetching::read_block(
         state,
         g,
         interface,

@@ -43,16 +43,16 @@ end-requires-2 c κs =
     omega (arith, s .pre .1 .1, tables-left (setting (s .args .g) (now (s .args .mask)) (now (s .args .fates))) _ _ (line (s .args .from) (now (s .args .array)) (now (s .args .register)) (now (s .args .history))) _ _ _ (c .before .before .before .before .before .before .before .before .before .before .fill-tables .ensures))
 
 same-length : tie.Need-same-length
-same-length c = search needs
+same-length c = c .before .before .before .before .before .before .before .before .before .before .array .given
 
 same-length-2 : tie.Need-same-length-2
-same-length-2 c = search needs
+same-length-2 c = c .before .before .before .before .before .before .before .before .register .given
 
 same-length-3 : tie.Need-same-length-3
-same-length-3 c = search needs
+same-length-3 c = c .before .before .before .before .before .before .history .given
 
 same-length-4 : tie.Need-same-length-4
-same-length-4 c = search needs
+same-length-4 c = c .before .before .before .before .page .given
 
 returns-2 : tie.Need-returns-2
 returns-2 c =

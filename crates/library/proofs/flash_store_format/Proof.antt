@@ -5,8 +5,10 @@ use denote.Ref.{now}
 use Rattle.array.specs.Device.{Device, setting}
 use Rattle.state.specs.declared.State.{State}
 use Rattle.format.specs.Format.{formatting}
-use Rattle.library.specs.Library.{geometryOf, lent, formattingLent}
-use Rattle.library.proofs.LibraryLaws.{right-long, lent-wrongly, request-handed}
+use Rattle.lent.specs.Buffers.{geometryOf, lent}
+use Rattle.library.specs.Library.{formattingLent}
+use Rattle.lent.proofs.BufferLaws.{right-long}
+use Rattle.library.proofs.LibraryLaws.{lent-wrongly, request-handed}
 use borrow.Author.Needs.{needs}
 use Rattle.library.proofs.flash_store_format.Statement.{statement}
 use Rattle.library.proofs.flash_store_format.Tie as tie
@@ -35,22 +37,22 @@ hand-back-requires c κs =
     (long .state-long, (long .words-long, long .sent-long))
 
 same-length : tie.Need-same-length
-same-length c = search needs
+same-length c = c .before .before .before .before .before .state .given
 
 same-length-2 : tie.Need-same-length-2
-same-length-2 c = search needs
+same-length-2 c = c .before .before .before .words .given
 
 same-length-3 : tie.Need-same-length-3
-same-length-3 c = search needs
+same-length-3 c = c .before .before .before .before .before .before .before .before .before .before .before .before .before .before .before .array .given
 
 same-length-4 : tie.Need-same-length-4
-same-length-4 c = search needs
+same-length-4 c = c .before .before .before .before .before .before .before .before .before .before .before .before .before .register .given
 
 same-length-5 : tie.Need-same-length-5
-same-length-5 c = search needs
+same-length-5 c = c .before .before .before .before .before .before .before .before .before .before .before .history .given
 
 same-length-6 : tie.Need-same-length-6
-same-length-6 c = search needs
+same-length-6 c = c .before .sent .given
 
 returns-2 : tie.Need-returns-2
 unfolding formattingLent

@@ -3,8 +3,9 @@ use mathlib.Core.Path.{sym, _∙_}
 use borrow.Author.Tests.{not-true, not-false}
 use denote.Ref.{now}
 use Rattle.array.specs.Device.{setting}
-use Rattle.library.specs.Library.{geometryOf, lent}
-use Rattle.library.proofs.LibraryLaws.{right-long, read-wrongly, read-handed}
+use Rattle.lent.specs.Buffers.{geometryOf, lent}
+use Rattle.lent.proofs.BufferLaws.{right-long}
+use Rattle.library.proofs.LibraryLaws.{read-wrongly, read-handed}
 use borrow.Author.Needs.{needs}
 use Rattle.library.proofs.flash_store_read.Statement.{statement}
 use Rattle.library.proofs.flash_store_read.Tie as tie
@@ -32,25 +33,25 @@ hand-back-requires c κs =
     (long .state-long, (long .words-long, long .sent-long))
 
 same-length : tie.Need-same-length
-same-length c = search needs
+same-length c = c .before .before .before .before .before .state .given
 
 same-length-2 : tie.Need-same-length-2
-same-length-2 c = search needs
+same-length-2 c = c .before .before .before .words .given
 
 same-length-3 : tie.Need-same-length-3
-same-length-3 c = search needs
+same-length-3 c = c .before .before .before .before .before .before .before .before .before .before .before .before .before .before .before .before .before .array .given
 
 same-length-4 : tie.Need-same-length-4
-same-length-4 c = search needs
+same-length-4 c = c .before .before .before .before .before .before .before .before .before .before .before .before .before .before .before .register .given
 
 same-length-5 : tie.Need-same-length-5
-same-length-5 c = search needs
+same-length-5 c = c .before .before .before .before .before .before .before .before .before .before .before .before .before .history .given
 
 same-length-6 : tie.Need-same-length-6
-same-length-6 c = search needs
+same-length-6 c = c .before .sent .given
 
 same-length-7 : tie.Need-same-length-7
-same-length-7 c = search needs
+same-length-7 c = c .before .before .before .before .before .before .before .before .before .before .before .buffer .given
 
 returns-2 : tie.Need-returns-2
 returns-2 c =

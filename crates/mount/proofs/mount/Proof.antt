@@ -45,13 +45,13 @@ end-requires c κs =
     reset-left set d (s .args .allowed) (sym (c .before .before .before .before .before .before .before .before .before .before .before .before .before .before .before .before .is-sized .ensures) ∙ not-false _ (c .before .before .before .before .before .before .before .before .before .before .before .before .before .before .before .if1 .left)) _ (c .before .before .before .before .before .before .before .before .before .before .reset .result .outcome) (c .before .before .before .before .before .before .before .before .before .before .reset .ensures .0 ∙ begun) (c .before .before .before .before .before .before .before .before .before .before .reset .ensures .1)
 
 same-length : tie.Need-same-length
-same-length c = search needs
+same-length c = c .before .before .before .before .before .before .before .before .before .before .array .given
 
 same-length-2 : tie.Need-same-length-2
-same-length-2 c = search needs
+same-length-2 c = c .before .before .before .before .before .before .before .before .register .given
 
 same-length-3 : tie.Need-same-length-3
-same-length-3 c = search needs
+same-length-3 c = c .before .before .before .before .before .before .history .given
 
 returns-2 : tie.Need-returns-2
 returns-2 c =
@@ -71,13 +71,13 @@ scan-and-judge-requires c κs =
     (reset-called set d (s .args .allowed) sized _ (c .before .before .before .before .before .before .before .before .before .before .before .before .reset .result .outcome) (c .before .before .before .before .before .before .before .before .before .before .before .before .reset .ensures .0 ∙ begun) (c .before .before .before .before .before .before .before .before .before .before .before .before .reset .ensures .1) (passed-by-tag _ (c .before .before .before .before .match .keys1)), reset-left set d (s .args .allowed) sized _ (c .before .before .before .before .before .before .before .before .before .before .before .before .reset .result .outcome) (c .before .before .before .before .before .before .before .before .before .before .before .before .reset .ensures .0 ∙ begun) (c .before .before .before .before .before .before .before .before .before .before .before .before .reset .ensures .1))
 
 same-length-4 : tie.Need-same-length-4
-same-length-4 c = search needs
+same-length-4 c = c .before .before .before .before .before .array2 .given ∙ c .before .before .before .before .before .before .before .before .before .before .before .before .before .before .before .before .before .before .array .given
 
 same-length-5 : tie.Need-same-length-5
-same-length-5 c = search needs
+same-length-5 c = c .before .before .before .register2 .given ∙ c .before .before .before .before .before .before .before .before .before .before .before .before .before .before .before .before .register .given
 
 same-length-6 : tie.Need-same-length-6
-same-length-6 c = search needs
+same-length-6 c = c .before .history2 .given ∙ c .before .before .before .before .before .before .before .before .before .before .before .before .before .before .history .given
 
 returns-3 : tie.Need-returns-3
 returns-3 c =

@@ -1,0 +1,82 @@
+-- `fetching::fetch` meets its contract. Assumes nothing.
+use denote.Ref.{now}
+use Rattle.array.specs.Device.{setting}
+use Rattle.bus.specs.Line.{line}
+use Rattle.polling.proofs.PollLaws.{passed-by-tag, other-by-tag}
+use Rattle.fetching.proofs.FetchLaws.{fetch-line, fetch-outcome, fetch-stopped, fetch-passed}
+use borrow.Author.Needs.{needs}
+use Rattle.fetching.proofs.fetch.Statement.{statement}
+use Rattle.fetching.proofs.fetch.Tie as tie
+
+read-requires : tie.Need-read-requires
+read-requires c κs = search needs
+
+enum-told : tie.Need-enum-told
+enum-told c = search needs
+
+same-length : tie.Need-same-length
+same-length c = search needs
+
+same-length-2 : tie.Need-same-length-2
+same-length-2 c = search needs
+
+same-length-3 : tie.Need-same-length-3
+same-length-3 c = search needs
+
+same-length-4 : tie.Need-same-length-4
+same-length-4 c = search needs
+
+returns : tie.Need-returns
+returns c =
+    let s = c .before .before .before .before .before .before .before .before .before .before .before .before .before .before .before .before .before .before .before .before .before in
+    let set = setting (s .args .g) (now (s .args .mask)) (now (s .args .fates)) in
+    let l = line (s .args .from) (now (s .args .array)) (now (s .args .register)) (now (s .args .history)) in
+    let e = c .before .before .before .before .before .before .before .before .before .read .ensures in
+    let t = other-by-tag (c .before .before .before .before .before .before .before .before .before .read .result .outcome) (c .match .keys2) in
+    (fetch-line set l (s .args .row) (now (s .args .buffer)) (now (s .args .bytes)) _ (c .before .before .before .before .before .before .before .before .before .read .result .outcome) (s .pre .0) (e .0) (e .1 .0), (fetch-outcome set l (s .args .row) (now (s .args .buffer)) (now (s .args .bytes)) _ (c .before .before .before .before .before .before .before .before .before .read .result .outcome) (s .pre .0) (e .0) (e .1 .0), fetch-stopped set l (s .args .row) (now (s .args .buffer)) (now (s .args .bytes)) _ (c .before .before .before .before .before .before .before .before .before .read .result .outcome) (s .pre .0) (e .0) (e .1 .0) t))
+
+copy-requires : tie.Need-copy-requires
+copy-requires c κs = search needs
+
+same-length-5 : tie.Need-same-length-5
+same-length-5 c = search needs
+
+same-length-6 : tie.Need-same-length-6
+same-length-6 c = search needs
+
+same-length-7 : tie.Need-same-length-7
+same-length-7 c = search needs
+
+same-length-8 : tie.Need-same-length-8
+same-length-8 c = search needs
+
+same-length-9 : tie.Need-same-length-9
+same-length-9 c = search needs
+
+returns-2 : tie.Need-returns-2
+returns-2 c =
+    let s = c .before .before .before .before .before .before .before .before .before .before .before .before .before .before .before .before .before .before .before .before .before .before .before .before .before .before .before in
+    let set = setting (s .args .g) (now (s .args .mask)) (now (s .args .fates)) in
+    let l = line (s .args .from) (now (s .args .array)) (now (s .args .register)) (now (s .args .history)) in
+    let e = c .before .before .before .before .before .before .before .before .before .before .before .before .before .before .before .read .ensures in
+    let t = passed-by-tag (c .before .before .before .before .before .before .before .before .before .before .before .before .before .before .before .read .result .outcome) (c .before .before .before .before .before .before .match .keys1) in
+    (fetch-line set l (s .args .row) (now (s .args .buffer)) (now (s .args .bytes)) _ (c .before .before .before .before .before .before .before .before .before .before .before .before .before .before .before .read .result .outcome) (s .pre .0) (e .0) (e .1 .0), (fetch-outcome set l (s .args .row) (now (s .args .buffer)) (now (s .args .bytes)) _ (c .before .before .before .before .before .before .before .before .before .before .before .before .before .before .before .read .result .outcome) (s .pre .0) (e .0) (e .1 .0), fetch-passed set l (s .args .row) (now (s .args .buffer)) (now (s .args .bytes)) _ (c .before .before .before .before .before .before .before .before .before .before .before .before .before .before .before .read .result .outcome) (s .pre .0) (e .0) (e .1 .0) t (s .pre .1) _ _ (e .1 .1) (c .before .before .copy .ensures)))
+
+pub fetch-spec : {M : Type 1} → statement M
+fetch-spec =
+    tie.close
+    (tie.spec
+    read-requires
+    enum-told
+    same-length
+    same-length-2
+    same-length-3
+    same-length-4
+    returns
+    copy-requires
+    same-length-5
+    same-length-6
+    same-length-7
+    same-length-8
+    same-length-9
+    returns-2)

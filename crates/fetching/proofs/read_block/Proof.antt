@@ -1,0 +1,118 @@
+-- `fetching::read_block` meets its contract. Assumes nothing.
+use mathlib.Core.Path.{ap}
+use denote.Ref.{now}
+use Rattle.array.specs.Device.{device, setting}
+use Rattle.bus.specs.Line.{line}
+use Rattle.bus.specs.declared.Bus.{Bus}
+use Rattle.polling.proofs.PollLaws.{passed-by-tag, other-by-tag}
+use Rattle.fetching.proofs.PageLaws.{left-most, ends-passed, ends-stopped}
+use borrow.Author.Needs.{needs}
+use Rattle.fetching.proofs.read_block.Statement.{statement}
+use Rattle.fetching.proofs.read_block.Tie as tie
+
+row-of-requires : tie.Need-row-of-requires
+row-of-requires c κs = search needs
+
+begin-requires : tie.Need-begin-requires
+begin-requires c κs = search needs
+
+sub-fetch : tie.Need-sub-fetch
+sub-fetch c = search needs
+
+part-bytes-start : tie.Need-part-bytes-start
+part-bytes-start c = search needs
+
+part-bytes-end : tie.Need-part-bytes-end
+part-bytes-end c = search needs
+
+fetch-requires : tie.Need-fetch-requires
+fetch-requires c κs = search needs
+
+enum-told : tie.Need-enum-told
+enum-told c = search needs
+
+stop-answer-requires : tie.Need-stop-answer-requires
+stop-answer-requires c κs = search needs
+
+blank-requires : tie.Need-blank-requires
+blank-requires c κs = search needs
+
+end-requires : tie.Need-end-requires
+end-requires c κs =
+    let s = c .before .before .before .before .before .before .before .before .before .before .before .before .before .before .before .before .before .before .before .before .before .before .before .before .before .before .before in
+    let set = setting (s .args .g) (now (s .args .mask)) (now (s .args .fates)) in
+    let d = device (s .args .interface) (now (s .args .array)) (now (s .args .register)) (now (s .args .history)) in
+    left-most set d (s .args .allowed) (s .args .state) (s .args .block) (s .args .page) (now (s .args .buffer)) _ _ (c .before .before .before .before .before .before .before .before .before .before .before .before .before .fetch .result .outcome) (c .before .before .before .before .before .before .before .before .before .before .before .before .before .before .before .before .before .before .before .before .row-of .result) _ (ap (λ (x : Bus). line x (now (s .args .array)) (now (s .args .register)) (now (s .args .history))) (c .before .before .before .before .before .before .before .before .before .before .before .before .before .before .before .before .before .before .before .begin .ensures)) (c .before .before .before .before .before .before .before .before .before .before .before .before .before .before .before .before .before .before .before .before .row-of .ensures) (c .before .before .before .before .before .before .before .before .before .before .before .before .before .fetch .ensures .0) (c .before .before .before .before .before .before .before .before .before .before .before .before .before .fetch .ensures .1 .0) (c .before .before .before .before .before .before .before .before .before .before .before .before .before .fetch .ensures .1 .1)
+
+same-length : tie.Need-same-length
+same-length c = c .before .before .before .before .before .before .before .before .before .before .before .before .before .array .given
+
+same-length-2 : tie.Need-same-length-2
+same-length-2 c = c .before .before .before .before .before .before .before .before .before .before .before .register .given
+
+same-length-3 : tie.Need-same-length-3
+same-length-3 c = c .before .before .before .before .before .before .before .before .before .history .given
+
+same-length-4 : tie.Need-same-length-4
+same-length-4 c = c .before .before .before .before .before .before .buffer .given
+
+returns : tie.Need-returns
+returns c =
+    let s = c .before .before .before .before .before .before .before .before .before .before .before .before .before .before .before .before .before .before .before .before .before .before .before .before .before .before .before .before in
+    let set = setting (s .args .g) (now (s .args .mask)) (now (s .args .fates)) in
+    let d = device (s .args .interface) (now (s .args .array)) (now (s .args .register)) (now (s .args .history)) in
+    let t = other-by-tag (c .before .before .before .before .before .before .before .before .before .before .before .before .before .before .fetch .result .outcome) (c .before .before .before .match .keys2) in
+    ends-stopped set d (s .args .allowed) (s .args .state) (s .args .block) (s .args .page) (now (s .args .buffer)) _ _ (c .before .before .before .before .before .before .before .before .before .before .before .before .before .before .fetch .result .outcome) (c .before .before .before .before .before .before .before .before .before .before .before .before .before .before .before .before .before .before .before .before .before .row-of .result) _ (ap (λ (x : Bus). line x (now (s .args .array)) (now (s .args .register)) (now (s .args .history))) (c .before .before .before .before .before .before .before .before .before .before .before .before .before .before .before .before .before .before .before .before .begin .ensures)) (c .before .before .before .before .before .before .before .before .before .before .before .before .before .before .before .before .before .before .before .before .before .row-of .ensures) (c .before .before .before .before .before .before .before .before .before .before .before .before .before .before .fetch .ensures .0) (c .before .before .before .before .before .before .before .before .before .before .before .before .before .before .fetch .ensures .1 .0) (c .before .before .before .before .before .before .before .before .before .before .before .before .before .before .fetch .ensures .1 .1) (c .before .before .stop-answer .result) (c .before .blank .result) t (c .before .before .stop-answer .ensures) (c .before .blank .ensures) (c .end .ensures _ _ _)
+
+end-requires-2 : tie.Need-end-requires-2
+end-requires-2 c κs =
+    let s = c .before .before .before .before .before .before .before .before .before .before .before .before .before .before .before .before .before .before .before .before .before .before .before .before .before .before in
+    let set = setting (s .args .g) (now (s .args .mask)) (now (s .args .fates)) in
+    let d = device (s .args .interface) (now (s .args .array)) (now (s .args .register)) (now (s .args .history)) in
+    left-most set d (s .args .allowed) (s .args .state) (s .args .block) (s .args .page) (now (s .args .buffer)) _ _ (c .before .before .before .before .before .before .before .before .before .before .before .before .fetch .result .outcome) (c .before .before .before .before .before .before .before .before .before .before .before .before .before .before .before .before .before .before .before .row-of .result) _ (ap (λ (x : Bus). line x (now (s .args .array)) (now (s .args .register)) (now (s .args .history))) (c .before .before .before .before .before .before .before .before .before .before .before .before .before .before .before .before .before .before .begin .ensures)) (c .before .before .before .before .before .before .before .before .before .before .before .before .before .before .before .before .before .before .before .row-of .ensures) (c .before .before .before .before .before .before .before .before .before .before .before .before .fetch .ensures .0) (c .before .before .before .before .before .before .before .before .before .before .before .before .fetch .ensures .1 .0) (c .before .before .before .before .before .before .before .before .before .before .before .before .fetch .ensures .1 .1)
+
+same-length-5 : tie.Need-same-length-5
+same-length-5 c = c .before .before .before .before .before .before .before .before .before .before .before .before .array .given
+
+same-length-6 : tie.Need-same-length-6
+same-length-6 c = c .before .before .before .before .before .before .before .before .before .before .register .given
+
+same-length-7 : tie.Need-same-length-7
+same-length-7 c = c .before .before .before .before .before .before .before .before .history .given
+
+same-length-8 : tie.Need-same-length-8
+same-length-8 c = c .before .before .before .before .before .buffer .given
+
+returns-2 : tie.Need-returns-2
+returns-2 c =
+    let s = c .before .before .before .before .before .before .before .before .before .before .before .before .before .before .before .before .before .before .before .before .before .before .before .before .before .before .before in
+    let set = setting (s .args .g) (now (s .args .mask)) (now (s .args .fates)) in
+    let d = device (s .args .interface) (now (s .args .array)) (now (s .args .register)) (now (s .args .history)) in
+    let t = passed-by-tag (c .before .before .before .before .before .before .before .before .before .before .before .before .before .fetch .result .outcome) (c .before .before .match .keys1) in
+    ends-passed set d (s .args .allowed) (s .args .state) (s .args .block) (s .args .page) (now (s .args .buffer)) _ _ (c .before .before .before .before .before .before .before .before .before .before .before .before .before .fetch .result .outcome) (c .before .before .before .before .before .before .before .before .before .before .before .before .before .before .before .before .before .before .before .before .row-of .result) _ (ap (λ (x : Bus). line x (now (s .args .array)) (now (s .args .register)) (now (s .args .history))) (c .before .before .before .before .before .before .before .before .before .before .before .before .before .before .before .before .before .before .before .begin .ensures)) (c .before .before .before .before .before .before .before .before .before .before .before .before .before .before .before .before .before .before .before .before .row-of .ensures) (c .before .before .before .before .before .before .before .before .before .before .before .before .before .fetch .ensures .0) (c .before .before .before .before .before .before .before .before .before .before .before .before .before .fetch .ensures .1 .0) (c .before .before .before .before .before .before .before .before .before .before .before .before .before .fetch .ensures .1 .1) t (c .end2 .ensures _ _ _)
+
+pub read-block-spec : {M : Type 1} → statement M
+read-block-spec =
+    tie.close
+    (tie.spec
+    row-of-requires
+    begin-requires
+    sub-fetch
+    part-bytes-start
+    part-bytes-end
+    fetch-requires
+    enum-told
+    stop-answer-requires
+    blank-requires
+    end-requires
+    same-length
+    same-length-2
+    same-length-3
+    same-length-4
+    returns
+    end-requires-2
+    same-length-5
+    same-length-6
+    same-length-7
+    same-length-8
+    returns-2)

@@ -1,0 +1,35 @@
+-- The refusals of a request on a mounted state, in the order of the paper's table, and the answer of its operation.
+use Prim.Native.Nat.{ℕ}
+use mathlib.Core.Bool.{Bool, cond}
+use mathlib.Core.List.{List}
+use lib.Dec.{eqb, ltb}
+use lib.ListN.{length}
+use Rattle.geometry.specs.declared.Geometry.{Geometry}
+use Rattle.array.specs.Device.{Device, Setting}
+use Rattle.polling.specs.Polling.{isPassed}
+use Rattle.polling.specs.declared.Outcome.{Outcome}
+use Rattle.state.specs.State.{blank, mounted}
+use Rattle.state.specs.declared.State.{State}
+use Rattle.calls.specs.Call.{sizedFor, stopAnswer}
+
+-- the refusal of a request for one page, tested in this order, 0 where there is none: 1 geometry, 7 mount first, 2
+-- address, 3 length
+unfoldable pub refusal : Geometry → Bool → State → ℕ → ℕ → ℕ → ℕ
+refusal g fits state logical page long =
+    cond fits
+    (cond (mounted state (g .blocks) (g .logical))
+    (cond (ltb logical (g .logical)) (cond (ltb page (g .pages)) (cond (eqb long (g .main)) 0 3) 2) 2)
+    7)
+    1
+
+-- the same, of what is handed in
+abbrev pub refusalOf : Setting → Device → State → ℕ → ℕ → List ℕ → ℕ
+refusalOf s d state logical page buffer =
+    refusal (s .geometry) (sizedFor s d) state logical page (length buffer)
+
+-- the answer and the state where the operation ended so
+abbrev pub answerFor : Outcome → ℕ
+answerFor o = cond (isPassed o) 0 (stopAnswer o)
+
+abbrev pub stateFor : Outcome → State → State
+stateFor o state = cond (isPassed o) state (blank 2)
