@@ -36,7 +36,7 @@ use Rattle.erasing.specs.Round.{Round, round, afterErase, blockErased, failedAt
 use Rattle.runs.specs.Run.{isIllegal, isCut, isReadEnd, failedIn, NoneFailed, Sound, Unchanged, Erased, Spent, readMost, blockOn}
 use Rattle.runs.proofs.PlaceLaws.{block-long, page-within}
 use Rattle.runs.proofs.ReadLaws.{pages-unchanged, pages-spend, pages-calm}
-use Rattle.runs.proofs.TraceLaws.{unfailed-none}
+use Rattle.runs.proofs.TraceLaws.{read-end-unfailed, unfailed-none}
 use Rattle.runs.proofs.EraseLaws.{erase-leaves}
 use Rattle.runs.proofs.CopyLaws.{no-mark}
 use Rattle.formatted.proofs.BitmapLaws.{Bitmap}
@@ -53,14 +53,6 @@ unfailed-end Failed k f = absurd (true≢false f)
 unfailed-end Silent k f = refl
 unfailed-end Cut k f = refl
 unfailed-end Illegal k f = absurd (true≢false k)
-
-read-unfailed : (o : Outcome) → isReadEnd o ≡ true → isFailed o ≡ false
-unfolding isFailed isReadEnd
-read-unfailed Passed r = refl
-read-unfailed Failed r = absurd (false≢true r)
-read-unfailed Silent r = refl
-read-unfailed Cut r = refl
-read-unfailed Illegal r = refl
 
 -- a block without a factory mark has none where bits of it are raised
 module _ (g : Geometry) (v : Valid g) (row ms : List ℕ) (long : length row ≡ blockSize g) (bytes : Bytes ms) where
@@ -126,7 +118,7 @@ module _ (s : Setting) (v : Valid (s .geometry)) (mask-bytes : Bytes (s .mask)) 
     unfolding next-round blockErased failedAt aboveAt
     stopped-is f =
         let unfailed : isFailed (eraseOn s n (r .progress) .outcome) ≡ false =
-        ap (λ (q : Progress). isFailed (q .outcome)) (erase-stopped s n (r .progress) f) ∙ read-unfailed (r .progress .outcome) (x .ends) in
+        ap (λ (q : Progress). isFailed (q .outcome)) (erase-stopped s n (r .progress) f) ∙ read-end-unfailed (r .progress .outcome) (x .ends) in
         cases (bitAt marked n) (λ t. rw (f, t, none-more)) (λ t. rw (f, t, unfailed, none-more))
 
     marked-is : isPassed (r .progress .outcome) ≡ true → bitAt marked n ≡ true → r ≡ next-round n r

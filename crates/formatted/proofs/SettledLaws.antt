@@ -1,11 +1,11 @@
 -- On a settled array the table is current, lists what it should, and a mount succeeds. Assumes nothing.
 use Prim.Native.Nat.{ℕ, zero, suc, _+_, _-_, _*_, _/_, _≤_, _<_}
-use mathlib.Core.Bool.{Bool, true, false, cond, not, false≢true}
+use mathlib.Core.Bool.{Bool, true, false, cond, false≢true}
 use mathlib.Core.List.{List}
 use mathlib.Core.Path.{_≡_, refl, sym, ap, subst, _∙_}
 use native.Mathlib.Omega.{arith}
 use borrow.Table.Steps.{cases}
-use borrow.Author.Tests.{eq-eqb, ne-eqb, eqb-true, eqb-false, ltb-true, ltb-false}
+use borrow.Author.Tests.{eq-eqb, ne-eqb, eqb-true, eqb-false, ltb-true, ltb-false, not-true}
 use lib.Dec.{eqb, ltb}
 use lib.ListN.{length, getD, take, replicate, length-append, length-take, length-replicate, getD-replicate, List·getD-append}
 use lib.Seq.{getD-append-add, take-at, length-take-le, getD-take, getD-drop, ext-getD}
@@ -50,10 +50,6 @@ pub record Settled (g : Geometry) (array invalid : List ℕ) (table number : ℕ
       → (i : ℕ) → i < g .pages → pageIn g (blockIn g array b) i ≡ replicate (pageSize g) 255
   pub listed : (b : ℕ) → b < g .blocks → isMarked g (blockIn g array b) ≡ false → bitAt invalid b ≡ true → aboveTo g (blockIn g array b) (g .pages) ≤ number
   pub apart : (b : ℕ) → b < g .blocks → isMarked g (blockIn g array b) ≡ true → bitAt invalid b ≡ false
-
-not-true : (b : Bool) → not b ≡ true → b ≡ false
-not-true true t = absurd (false≢true t)
-not-true false t = refl
 
 none-below : (test : ℕ → Bool) (n : ℕ) → ((k : ℕ) → k < n → test k ≡ false) → someBelow test n ≡ false
 unfolding someBelow

@@ -101,6 +101,11 @@ module _ (g : Geometry) (v : Valid g) (c : Copy) (fits : Labelled c) (main : ℕ
   by-main : (P : ℕ → Type 0) (i : ℕ) → i < g .pages → P (length (main i)) → P (g .main)
   by-main P i h = subst P (long i h)
 
+  -- spare byte 0
+  first-byte : (i : ℕ) → i < g .pages → getD (pages i) (g .main) 0 ≡ 255
+  first-byte i h =
+      by-main (λ (k : ℕ). getD (pages i) k 0 ≡ 255) i h (sym (getD-drop (length (main i)) (pages i) 0 0 ∙ ap (λ (k : ℕ). getD (pages i) k 0) (add-zero (length (main i)))) ∙ encoded-first (g .spare) (labelAt i) (main i))
+
   -- a block that holds the copy
   module _ (row : List ℕ) (same : (i : ℕ) → i < g .pages → pageIn g row i ≡ pages i) where
     pub copy-whole : (i : ℕ) → i < g .pages → wholeIn g row i ≡ true
@@ -116,8 +121,7 @@ module _ (g : Geometry) (v : Valid g) (c : Copy) (fits : Labelled c) (main : ℕ
 
     copy-byte : (i : ℕ) → i < g .pages → markByte g row i ≡ 255
     copy-byte i h =
-        ap (λ (x : List ℕ). getD x (g .main) 0) (same i h)
-        ∙ by-main (λ (k : ℕ). getD (pages i) k 0 ≡ 255) i h (sym (getD-drop (length (main i)) (pages i) 0 0 ∙ ap (λ (k : ℕ). getD (pages i) k 0) (add-zero (length (main i)))) ∙ encoded-first (g .spare) (labelAt i) (main i))
+        ap (λ (x : List ℕ). getD x (g .main) 0) (same i h) ∙ first-byte i h
 
     pub copy-unmarked : isMarked g row ≡ false
     copy-unmarked = no-mark g row (copy-byte 0 (omega (arith, v .pages-least))) (copy-byte 1 (omega (arith, v .pages-least)))
@@ -162,8 +166,7 @@ module _ (g : Geometry) (v : Valid g) (c : Copy) (fits : Labelled c) (main : ℕ
     -- byte 0 of the spare bytes is FFh still
     raised-byte : (i : ℕ) → i < g .pages → markByte g row i ≡ 255
     raised-byte i h =
-        let first : getD (pages i) (g .main) 0 ≡ 255 =
-        by-main (λ (k : ℕ). getD (pages i) k 0 ≡ 255) i h (sym (getD-drop (length (main i)) (pages i) 0 0 ∙ ap (λ (k : ℕ). getD (pages i) k 0) (add-zero (length (main i)))) ∙ encoded-first (g .spare) (labelAt i) (main i)) in
+        let first = first-byte i h in
         let kept = over-getD (g .main) (over i h) in
         let both : bitAnd 255 (markByte g row i) ≡ 255 = sym (ap (λ (x : ℕ). bitAnd x (markByte g row i)) first) ∙ kept ∙ first in
         omega (arith, both, and-le-r 255 (markByte g row i), over-bytes-to (over i h) (g .main))
