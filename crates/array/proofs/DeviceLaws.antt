@@ -11,7 +11,8 @@ use lib.ListN.{length, getD, set, replicate, drop-of-length-le}
 use Rattle.geometry.specs.declared.Geometry.{Geometry}
 use Rattle.geometry.specs.Limits.{Valid}
 use Rattle.geometry.specs.Sizes.{pageSize, blockSize, rowCount}
-use Rattle.geometry.proofs.LimitLaws.{both, limits}
+use Rattle.bools.proofs.BoolLaws.{both}
+use Rattle.geometry.proofs.LimitLaws.{limits}
 use Rattle.geometry.proofs.SizeLaws.{row-block-below}
 use Rattle.cells.specs.Cells.{programmed, weakened, raised, over}
 use Rattle.cells.specs.Part.{part, put}

@@ -13,6 +13,10 @@ byteOf b = b / 8
 abbrev pub placeOf : ℕ → ℕ
 placeOf b = b % 8
 
+-- bytes of a bitmap: one bit a block
+abbrev pub bitmapBytes : ℕ → ℕ
+bitmapBytes blocks = (blocks + 7) / 8
+
 -- bit k of a byte
 abbrev pub bitIn : ℕ → ℕ → ℕ
 bitIn x k = x / 2 ^ k % 2

@@ -9,7 +9,7 @@ use borrow.Author.Tests.{eq-eqb, lt-ltb, le-ltb, eqb-true, ltb-true}
 use borrow.Table.Steps.{cases}
 use lib.Dec.{eqb}
 use lib.ListN.{length, take}
-use Rattle.geometry.proofs.LimitLaws.{both}
+use Rattle.bools.proofs.BoolLaws.{both}
 use Rattle.interface.specs.declared.Interface.{Interface}
 use Rattle.array.specs.Device.{Device, Setting, device}
 use Rattle.chip.specs.Chip.{Cycle, exec}

@@ -1,35 +1,74 @@
 -- How a request is answered by the tag of the operation's outcome, and what sizes that go together mean. Assumes nothing.
 use Prim.Native.Nat.{ℕ, _-_, _≤_}
-use mathlib.Core.Bool.{true, cond}
-use mathlib.Core.Path.{_≡_, refl, _∙_}
+use mathlib.Core.Bool.{true, false, cond}
+use mathlib.Core.Logic.{_⊎_, inl, inr, ⊎-elim}
+use mathlib.Core.Path.{_≡_, _∙_}
 use native.Mathlib.Omega.{arith}
+use borrow.Table.Steps.{cases}
 use borrow.Author.Tests.{eq-eqb, eqb-true}
 use denote.Enum.Declared.{tagOf}
 use lib.Dec.{eqb}
 use lib.ListN.{length, take, drop, replicate, length-replicate}
 use Rattle.geometry.specs.declared.Geometry.{Geometry}
 use Rattle.geometry.specs.Sizes.{blockSize}
-use Rattle.geometry.proofs.LimitLaws.{both, holds}
+use Rattle.bools.proofs.BoolLaws.{both}
+use Rattle.geometry.proofs.LimitLaws.{holds}
 use Rattle.cells.proofs.PartLaws.{length-part}
 use Rattle.array.specs.Device.{Setting, fitting, Fitting}
 use Rattle.array.proofs.DeviceLaws.{fits}
 use Rattle.polling.specs.declared.Outcome.{Outcome}
-use Rattle.polling.specs.declared.Outcome.the-variants.{Passed, Failed, Silent, Cut, Illegal}
+use Rattle.polling.specs.Outcomes.{isPassed, isSilent, isCut, isReadEnd}
+use Rattle.polling.proofs.OutcomeLaws.{silent-tag, cut-tag, stopped-so}
 use Rattle.polling.proofs.Outcome.{the-type}
 use Rattle.bus.specs.Line.{Line}
 use Rattle.operations.specs.Ends.{Called}
-use Rattle.calls.specs.Call.{sized, sizedFor, stopAnswer}
+use Rattle.state.specs.State.{blank}
+use Rattle.state.specs.declared.State.{State}
+use Rattle.calls.specs.Call.{sized, sizedFor, stopAnswer, answerFor, stateFor}
 
 abbrev pub answerByTag : ℕ → ℕ
 answerByTag k = cond (eqb k 2) 10 (cond (eqb k 3) 11 255)
 
 pub by-tag : (o : Outcome) → answerByTag (tagOf the-type o) ≡ stopAnswer o
 unfolding stopAnswer
-by-tag Passed = refl
-by-tag Failed = refl
-by-tag Silent = refl
-by-tag Cut = refl
-by-tag Illegal = refl
+by-tag o = rw (silent-tag o, cut-tag o)
+
+-- a request that is not done after resets and reads is silent or cut
+pub stop-answer : (o : Outcome) → isReadEnd o ≡ true → isPassed o ≡ false → (stopAnswer o ≡ 10) ⊎ (stopAnswer o ≡ 11)
+unfolding stopAnswer
+stop-answer o r f = ⊎-elim (λ s. inl (rw s)) (λ c. inr (rw (c .0, c .1))) (stopped-so o r f)
+
+pub stop-cut : (o : Outcome) → stopAnswer o ≡ 11 → isCut o ≡ true
+unfolding stopAnswer
+stop-cut o z =
+    cases (isSilent o)
+    (λ s. absurd (omega (arith, rw s at z)))
+    (λ s. cases (isCut o) (λ c. c) (λ c. absurd (omega (arith, rw (s, c) at z))))
+
+-- an operation that did not pass is answered by 10 or more
+pub stop-least : (o : Outcome) → 10 ≤ stopAnswer o
+unfolding stopAnswer
+stop-least o =
+    cases (isSilent o) (λ s. rw s (omega arith)) (λ s. cases (isCut o) (λ c. rw (s, c) (omega arith)) (λ c. rw (s, c) (omega arith)))
+
+-- the answer of a request whose last operation neither failed nor was refused
+pub answer-most : (o : Outcome) → isReadEnd o ≡ true → answerFor o ≤ 11
+answer-most o r =
+    cases (isPassed o) (λ t. rw t (omega arith))
+    (λ f. rw f (⊎-elim (λ e. omega (arith, e)) (λ e. omega (arith, e)) (stop-answer o r f)))
+
+-- no operation is answered by 1
+pub answer-least : (o : Outcome) → answerFor o ≡ 1 → ⊥
+answer-least o z = cases (isPassed o) (λ t. omega (arith, rw t at z)) (λ f. omega (arith, rw f at z, stop-least o))
+
+pub answer-cut : (o : Outcome) → answerFor o ≡ 11 → isCut o ≡ true
+answer-cut o z = cases (isPassed o) (λ t. absurd (omega (arith, rw t at z))) (λ f. stop-cut o (rw f at z))
+
+pub answer-passed : (o : Outcome) → answerFor o ≡ 0 → isPassed o ≡ true
+answer-passed o z = cases (isPassed o) (λ t. t) (λ f. absurd (omega (arith, rw f at z, stop-least o)))
+
+pub answer-stopped : (o : Outcome) (st : State) → (answerFor o ≡ 0 → ⊥) → stateFor o st ≡ blank 2
+answer-stopped o st x = cases (isPassed o) (λ t. absurd (x (rw t))) (λ f. rw f)
 
 -- sizes that go together
 pub record Sized (g : Geometry) (a r h m : ℕ) : Type 0 where

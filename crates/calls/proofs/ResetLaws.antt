@@ -10,7 +10,8 @@ use lib.ListN.{length}
 use Rattle.array.specs.Device.{Device, Setting}
 use Rattle.bus.specs.Line.{Line, sendAll}
 use Rattle.bus.proofs.LineLaws.{sent-counts}
-use Rattle.polling.specs.Polling.{isPassed, endedAs}
+use Rattle.polling.specs.Outcomes.{isPassed}
+use Rattle.polling.specs.Polling.{endedAs}
 use Rattle.polling.specs.declared.Outcome.{Outcome}
 use Rattle.polling.specs.declared.Outcome.the-variants.{Passed, Cut}
 use Rattle.sequences.specs.Cycles.{resetCycles}

@@ -9,7 +9,8 @@ use Rattle.interface.specs.declared.Interface.{Interface}
 use Rattle.array.specs.Device.{Device, Setting, fitting, withPort}
 use Rattle.bus.specs.Line.{Line, uncutLine}
 use Rattle.polling.specs.declared.Outcome.{Outcome}
-use Rattle.polling.specs.declared.Outcome.the-variants.{Passed, Failed, Silent, Cut, Illegal}
+use Rattle.polling.specs.Outcomes.{isPassed, isSilent, isCut}
+use Rattle.state.specs.State.{blank}
 use Rattle.state.specs.declared.State.{State}
 
 -- the answer by its number, the next state, the chip as it is left, and the cycles sent
@@ -41,11 +42,14 @@ callLine d n = uncutLine (withPort (freshPort (d .port)) d) n
 -- 10 silent, 11 cut. 255 stands for a cycle that the chip did not allow, which comes only where a chip is handed in
 -- that is not ready
 unfoldable pub stopAnswer : Outcome → ℕ
-stopAnswer Passed = 255
-stopAnswer Failed = 255
-stopAnswer Silent = 10
-stopAnswer Cut = 11
-stopAnswer Illegal = 255
+stopAnswer o = cond (isSilent o) 10 (cond (isCut o) 11 255)
+
+-- the answer and the state where the last operation ended so
+abbrev pub answerFor : Outcome → ℕ
+answerFor o = cond (isPassed o) 0 (stopAnswer o)
+
+abbrev pub stateFor : Outcome → State → State
+stateFor o state = cond (isPassed o) state (blank 2)
 
 -- a request that has come to line l, of n cycles allowed
 abbrev pub endAt : ℕ → ℕ → State → Line → Result

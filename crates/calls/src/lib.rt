@@ -8,9 +8,10 @@ ghost use mathlib.Core.Path.{_≡_};
 ghost use Prim.Native.Nat.{_≤_};
 ghost use mathlib.Core.List.{List};
 ghost use Prim.Native.Nat.{ℕ};
-ghost use Rattle.array.specs.Device.{device};
+ghost use Rattle.array.specs.Device.{device, setting};
 ghost use Rattle.bus.specs.Line.{line, newBus};
-ghost use Rattle.calls.specs.Call.{result, sized, freshPort, stopAnswer, endAt};
+ghost use Rattle.calls.specs.Start.{Started};
+ghost use Rattle.calls.specs.Call.{result, sized, freshPort, stopAnswer, answerFor, stateFor, endAt};
 
 // What a request hands back besides the lent memory: the answer by its number, the next state, the chip's interface, and
 // the cycles sent.
@@ -50,6 +51,61 @@ pub fn stop_answer(outcome: Outcome) -> usize
         Outcome::Silent => 10,
         Outcome::Cut => 11,
         Outcome::Illegal => 255,
+    }
+}
+
+// The answer of a request whose last operation ended so.
+pub fn answer_for(outcome: Outcome) -> usize
+    ensures { λ r. ⌜ r ≡ answerFor outcome ⌝ }
+{
+    let Outcome::Passed = outcome else {
+        return stop_answer(outcome);
+    };
+    0
+}
+
+// The state that it hands back.
+pub fn state_for(outcome: Outcome, state: State) -> State
+    ensures { λ r. ⌜ r ≡ stateFor outcome state ⌝ }
+{
+    let Outcome::Passed = outcome else {
+        return State::blank(2);
+    };
+    state
+}
+
+// How a request that resets the chip has begun: the answer so far, 0 to go on, and the bus.
+pub struct Begun {
+    pub answer: usize,
+    pub bus: Bus,
+}
+
+// Tests the sizes and resets the chip.
+pub fn start(
+    g: Geometry,
+    interface: Interface,
+    array: &mut [u8],
+    register: &mut [u8],
+    history: &mut [u8],
+    mask: &[u8],
+    fates: &[u32],
+    allowed: u32,
+) -> Begun
+    ensures { λ r. ⌜ Started (setting g (now (mask .entry)) (now (fates .entry))) (device interface (now (array .entry)) (now (register .entry)) (now (history .entry))) allowed (r .answer) (line (r .bus) (now (array .exit)) (now (register .exit)) (now (history .exit))) ⌝ }
+{
+    let from = begin(interface, allowed);
+    if !is_sized(g, array.len(), register.len(), history.len(), mask.len()) {
+        return Begun {
+            answer: 1,
+            bus: from,
+        };
+    }
+    let done = operations::reset(from, g, array, register, history, mask, fates);
+    let bus = done.bus;
+    let outcome = done.outcome;
+    Begun {
+        answer: answer_for(outcome),
+        bus,
     }
 }
 

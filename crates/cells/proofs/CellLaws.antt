@@ -1,15 +1,15 @@
 -- Laws of programs and erases: lengths, bytes by index, a program done again, and that bytes stay bytes.
 use Prim.Native.Nat.{ℕ, zero, suc, _+_, _-_, _/_, _≤_, _<_}
 use mathlib.Core.Path.{_≡_, refl, ap, ap₂, _∙_}
-use mathlib.Core.List.{List, [], _∷_, _++_}
+use mathlib.Core.List.{List, [], _∷_, _++_, append-nil}
 use native.Mathlib.Omega.{arith}
 use native.Mathlib.Nat.{mod-eq-of-lt}
 use lib.Arith.{bin-ind}
-use lib.Bits.{bitAnd, bitOr, and-step, or-step, and-comm, and-shr, or-shr, and-mask, and-le-l, or-lt}
-use lib.ListN.{length, getD, take, drop, replicate}
+use lib.Bits.{bitAnd, bitOr, and-step, or-step, and-comm, and-shr, or-shr, and-mask, or-add-and, or-lt}
+use lib.ListN.{length, getD, take, drop, replicate, drop-of-length-le}
 use lib.Seq.{getD-drop}
 use Rattle.cells.specs.Bytes.{Bytes}
-use Rattle.cells.specs.Cells.{programmed, weakened, raised}
+use Rattle.cells.specs.Cells.{programmed, weakened, raised, over}
 
 pub length-programmed : (xs ds : List ℕ) → length (programmed xs ds) ≡ length xs
 unfolding programmed
@@ -78,7 +78,8 @@ programmed-again [] ds ms = refl
 programmed-again (x ∷ xs) [] ms = rw (and-again x 255 0, programmed-again xs [] [])
 programmed-again (x ∷ xs) (d ∷ ds) ms = rw (and-again x d _, programmed-again xs ds (drop 1 ms))
 
-and-byte : (d : ℕ) → d < 256 → bitAnd 255 d ≡ d
+-- all bits of a byte are kept by FFh
+pub and-byte : (d : ℕ) → d < 256 → bitAnd 255 d ≡ d
 and-byte d h = and-comm 255 d ∙ and-mask d 8 ∙ mod-eq-of-lt h
 
 -- a program of an erased page leaves its data
@@ -86,9 +87,6 @@ pub programmed-erased : (ds : List ℕ) → Bytes ds → programmed (replicate (
 unfolding programmed
 programmed-erased [] b = refl
 programmed-erased (d ∷ ds) b = ap₂ _∷_ (and-byte d (b 0)) (programmed-erased ds (λ i. b (suc i)))
-
-pub bytes-programmed : (xs ds : List ℕ) → Bytes xs → Bytes (programmed xs ds)
-bytes-programmed xs ds b i = rw getD-programmed (omega (arith, b i, and-le-l (getD xs i 0) (getD ds i 255)))
 
 pub bytes-raised : (xs ms : List ℕ) → Bytes xs → Bytes ms → Bytes (raised xs ms)
 unfolding raised
@@ -115,3 +113,21 @@ bytes-take (suc n) (x ∷ xs) b (suc i) = bytes-take n xs (λ j. b (suc j)) i
 
 pub bytes-drop : (n : ℕ) (xs : List ℕ) → Bytes xs → Bytes (drop n xs)
 bytes-drop n xs b i = rw getD-drop (b (n + i))
+
+pub bytes-next : (ms : List ℕ) → Bytes ms → Bytes (drop 1 ms)
+bytes-next [] b i = b i
+bytes-next (m ∷ ms) b i = b (suc i)
+
+-- an erased block stays erased where an erase takes part of its effect
+pub or-full : (m : ℕ) → m < 256 → bitOr 255 m ≡ 255
+or-full m h = omega (arith, or-add-and 255 m, and-byte m h)
+
+pub raised-erased : (n : ℕ) (ms : List ℕ) → Bytes ms → raised (replicate n 255) ms ≡ replicate n 255
+unfolding raised
+raised-erased zero ms b = refl
+raised-erased (suc n) ms b = ap₂ _∷_ (or-full (getD ms 0 0) (b 0)) (raised-erased n (drop 1 ms) (bytes-next ms b))
+
+-- all of one list over another that is as long
+pub over-all : (xs ys : List ℕ) → length ys ≡ length xs → over xs ys ≡ xs
+over-all xs ys e =
+    ap (λ (x : List ℕ). xs ++ x) (drop-of-length-le ys {i = length xs} (omega (arith, e))) ∙ append-nil xs

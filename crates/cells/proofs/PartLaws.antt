@@ -1,13 +1,13 @@
 -- Laws of a part of a list, and of a list with a part of it replaced.
-use Prim.Native.Nat.{ℕ, _+_, _-_, _≤_}
-use mathlib.Core.Path.{_≡_, sym, ap, _∙_}
-use mathlib.Core.List.{List, _++_}
+use Prim.Native.Nat.{ℕ, zero, suc, _+_, _-_, _≤_}
+use mathlib.Core.Path.{_≡_, refl, sym, ap, _∙_}
+use mathlib.Core.List.{List, [], _∷_, _++_}
 use native.Mathlib.Omega.{arith}
 use lib.ListN.{length, take, drop, length-append, length-take, length-drop, take-append-drop}
-use lib.Seq.{length-take-le, take-at, drop-at, take-append-seam, drop-append-seam, take-append-le, drop-append-le, drop-append-add, drop-drop}
+use lib.Seq.{length-take-le, take-take, take-at, drop-at, take-append-seam, drop-append-seam, take-append-le, drop-append-le, drop-append-add, drop-drop}
 use Rattle.cells.specs.Bytes.{Bytes}
 use Rattle.cells.specs.Part.{part, put}
-use Rattle.cells.proofs.CellLaws.{bytes-append, bytes-take, bytes-drop}
+use Rattle.cells.proofs.CellLaws.{bytes-take, bytes-drop}
 
 pub length-part : (at n : ℕ) (xs : List ℕ) → at + n ≤ length xs → length (part at n xs) ≡ n
 length-part at n xs h = simp (length-take, length-drop) (omega arith)
@@ -54,10 +54,6 @@ put-put at zs ys xs e h =
     let l : length (take at xs) ≡ at = length-take-le at xs (omega arith) in
     rw (take-at (take at xs) _ at l, drop-at (take at xs) _ at l, e, drop-append-seam ys _)
 
-pub put-part : (at n : ℕ) (xs : List ℕ) → at + n ≤ length xs → put at (part at n xs) xs ≡ xs
-unfolding put
-put-part at n xs h = rw (length-part at n xs h, take-append-drop n (drop at xs)) (take-append-drop at xs)
-
 -- as a lent part of a slice comes back
 pub put-lent : (at k : ℕ) (ys xs : List ℕ) → length ys ≡ k → take at xs ++ (ys ++ drop k (drop at xs)) ≡ put at ys xs
 unfolding put
@@ -66,7 +62,9 @@ put-lent at k ys xs e = rw (← e)
 pub bytes-part : (at n : ℕ) (xs : List ℕ) → Bytes xs → Bytes (part at n xs)
 bytes-part at n xs b = bytes-take n (drop at xs) (bytes-drop at xs b)
 
-pub bytes-put : (at : ℕ) (ys xs : List ℕ) → Bytes ys → Bytes xs → Bytes (put at ys xs)
-unfolding put
-bytes-put at ys xs c b =
-    bytes-append (take at xs) _ (bytes-take at xs b) (bytes-append ys _ c (bytes-drop (length ys) (drop at xs) (bytes-drop at xs b)))
+-- a part of the first m bytes
+pub part-take : (at n m : ℕ) (xs : List ℕ) → at + n ≤ m → part at n (take m xs) ≡ part at n xs
+part-take zero n m xs h = take-take n m xs (omega (arith, h))
+part-take (suc at) n zero xs h = absurd (omega (arith, h))
+part-take (suc at) n (suc m) [] h = refl
+part-take (suc at) n (suc m) (x ∷ xs) h = part-take at n m xs (omega (arith, h))

@@ -5,7 +5,7 @@ use mathlib.Core.Path.{_≡_}
 use borrow.Author.Tests.{eqb-true, ltb-true}
 use lib.ListN.{length}
 use Rattle.geometry.specs.Sizes.{blockSize, rowCount}
-use Rattle.geometry.proofs.LimitLaws.{both}
+use Rattle.bools.proofs.BoolLaws.{both}
 use Rattle.array.specs.Device.{Device, Setting, Fitting, rowAt}
 use Rattle.chip.specs.Chip.{confirmable}
 use Rattle.array.proofs.DeviceLaws.{fits}

@@ -1,5 +1,5 @@
 -- Laws of the search for a block, and of the count of those that may be filled. Assumes nothing.
-use Prim.Native.Nat.{ℕ, zero, suc, _+_, _-_, _%_, _≤_, _<_}
+use Prim.Native.Nat.{ℕ, zero, suc, _+_, _-_, _/_, _%_, _≤_, _<_}
 use mathlib.Core.Bool.{Bool, true, false}
 use mathlib.Core.List.{List}
 use mathlib.Core.Logic.{_↔_}
@@ -12,6 +12,11 @@ use borrow.Author.Tests.{eqb-true, eqb-false}
 use lib.Dec.{eqb}
 use Rattle.choose.specs.Choose.{permitted, nextBlock, searchAfter, countPermitted}
 use Rattle.choose.specs.declared.Choice.the-variants.{Block, Worn}
+use lib.ListN.{length}
+use Rattle.bools.proofs.BoolLaws.{unless}
+use Rattle.bitmaps.specs.Bitmap.{bitAt, withBit}
+use Rattle.bitmaps.proofs.BitLaws.{bit-set, bit-kept}
+use Rattle.choose.specs.declared.Choice.{Choice}
 
 pub next-below : (blocks b : ℕ) → b < blocks → nextBlock blocks b < blocks
 next-below blocks b h =
@@ -158,3 +163,44 @@ module _ (marked invalid held : List ℕ) where
   pub count-refused : (n : ℕ) → permitted marked invalid held n ≡ false → countPermitted marked invalid held (n + 1) ≡ countPermitted marked invalid held n
   unfolding countPermitted
   count-refused n h = rw (add-one, h) (add-zero (countPermitted marked invalid held n))
+
+-- a choice is a block or none
+pub by-choice : {P : Type 0} (c : Choice) → (c ≡ Worn → P) → ((b : ℕ) → c ≡ Block b → P) → P
+by-choice Worn f g = f refl
+by-choice (Block b) f g = g b refl
+
+pub permitted-parts : (marked invalid held : List ℕ) (b : ℕ) → permitted marked invalid held b ≡ true → (bitAt marked b ≡ false) × (bitAt invalid b ≡ false)
+unfolding permitted
+permitted-parts marked invalid held b t =
+    let x = unless (bitAt marked b) _ t in
+    (x .0, unless (bitAt invalid b) _ (x .1) .0)
+
+-- a block that is made invalid is permitted no more
+module _ (marked invalid held : List ℕ) (b : ℕ) (there : b / 8 < length invalid) where
+  pub permitted-other : (c : ℕ) → (c ≡ b → ⊥) → permitted marked (withBit invalid b) held c ≡ permitted marked invalid held c
+  unfolding permitted
+  permitted-other c x = rw (bit-kept invalid b c x)
+
+  pub permitted-gone : permitted marked (withBit invalid b) held b ≡ false
+  unfolding permitted
+  permitted-gone = cases (bitAt marked b) (λ t. rw t) (λ t. rw (t, bit-set invalid b there))
+
+  pub count-same : (n : ℕ) → n ≤ b → countPermitted marked (withBit invalid b) held n ≡ countPermitted marked invalid held n
+  unfolding countPermitted
+  count-same zero h = refl
+  count-same (suc n) h = rw (permitted-other n (λ e. omega (arith, e, h)), count-same n (omega (arith, h)))
+
+  pub count-less : permitted marked invalid held b ≡ true → (n : ℕ) → b < n → countPermitted marked (withBit invalid b) held n + 1 ≡ countPermitted marked invalid held n
+  unfolding countPermitted
+  count-less t zero h = absurd (omega (arith, h))
+  count-less t (suc n) h =
+      cases (eqb b n)
+      (λ e.
+      let same = eqb-true b n e in
+      let gone : permitted marked (withBit invalid b) held n ≡ false = ap (permitted marked (withBit invalid b) held) (sym same) ∙ permitted-gone in
+      let was : permitted marked invalid held n ≡ true = ap (permitted marked invalid held) (sym same) ∙ t in
+      rw (gone, was, count-same n (omega (arith, same))) (omega arith))
+      (λ e.
+      let x = eqb-false b n e in
+      let less = count-less t n (omega (arith, h, x)) in
+      rw (permitted-other n (λ y. x (sym y))) (omega (arith, less)))

@@ -1,2 +1,3 @@
 pub mod CopyTests
 pub mod PickLaws
+pub mod PlaceLaws

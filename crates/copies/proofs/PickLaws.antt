@@ -1,15 +1,13 @@
 -- What is picked: the block with the greatest number that passes the test, the lower at a tie. Assumes nothing.
 use Prim.Native.Nat.{ℕ, zero, suc, _-_, _<_, _≤_}
-use mathlib.Core.Bool.{Bool, true, false, cond, false≢true}
+use mathlib.Core.Bool.{Bool, true, false, cond}
 use mathlib.Core.Path.{_≡_, refl, sym, ap, subst, _∙_}
 use native.Mathlib.Omega.{arith}
 use borrow.Table.Steps.{cases}
 use borrow.Author.Tests.{eqb-true, eqb-false, ltb-true, ltb-false}
 use lib.Dec.{eqb, ltb}
 use Rattle.copies.specs.Pick.{Pick, nothing, at, better, pick, Best, Picked, someBelow}
-
-clash : {P : Type 0} {b : Bool} → b ≡ true → b ≡ false → P
-clash t f = absurd (false≢true (sym f ∙ t))
+use Rattle.bools.proofs.BoolLaws.{clash}
 
 -- what holds below n and at n holds below n + 1
 pub up-to : (P : ℕ → Type 0) (n k : ℕ) → k < suc n → (k < n → P k) → P n → P k
@@ -159,5 +157,7 @@ some-is test (suc n) k h t =
     (λ u. rw u)
     (λ u. rw u (some-is test n k (up-to (λ (x : ℕ). test x ≡ true → x < n) n k h (λ l p. l) (λ p. clash p u) t) t))
 
-pub some-not : (test : ℕ → Bool) (n : ℕ) → someBelow test n ≡ false → (k : ℕ) → k < n → test k ≡ false
-some-not test n f k h = cases (test k) (λ t. clash (some-is test n k h t) f) (λ t. t)
+pub none-below : (test : ℕ → Bool) (n : ℕ) → ((k : ℕ) → k < n → test k ≡ false) → someBelow test n ≡ false
+unfolding someBelow
+none-below test zero f = refl
+none-below test (suc n) f = rw (f n (omega arith)) (none-below test n (λ k h. f k (omega (arith, h))))

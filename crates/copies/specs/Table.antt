@@ -1,18 +1,14 @@
 -- The table of invalid blocks: its page 0 and its other pages.
-use Prim.Native.Nat.{ℕ, zero, suc, _+_, _-_, _*_, _/_, _≤_}
+use Prim.Native.Nat.{ℕ, zero, suc, _+_, _-_, _*_, _≤_}
 use mathlib.Core.Bool.{Bool, true, false, cond}
 use mathlib.Core.List.{List, _++_}
 use lib.Dec.{eqb}
 use lib.ListN.{take, drop, replicate}
 use Rattle.geometry.specs.declared.Geometry.{Geometry}
 use Rattle.cells.specs.Part.{put}
-use Rattle.bitmaps.specs.Bitmap.{bitAt, countBits, clearFrom}
+use Rattle.bitmaps.specs.Bitmap.{bitAt, countBits, clearFrom, bitmapBytes}
 use Rattle.pages.specs.Layout.{labelOf, bytesOf, numberOf, allOnes}
 use Rattle.copies.specs.Blocks.{pageIn, mainIn}
-
--- bytes of the bitmap: one bit a block
-abbrev pub bitmapBytes : ℕ → ℕ
-bitmapBytes blocks = (blocks + 7) / 8
 
 -- a page has room for header and bitmap
 pub record Roomy (blocks main : ℕ) : Type 0 where

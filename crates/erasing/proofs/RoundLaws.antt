@@ -14,7 +14,8 @@ use Rattle.array.specs.Device.{Setting}
 use Rattle.chip.specs.Chip.{Cycle}
 use Rattle.bus.specs.Line.{Line, line, sendAll}
 use Rattle.bus.specs.declared.Bus.{Bus}
-use Rattle.polling.specs.Polling.{isPassed, outcomeOf}
+use Rattle.polling.specs.Outcomes.{isPassed, isFailed}
+use Rattle.polling.specs.Polling.{outcomeOf}
 use Rattle.polling.specs.declared.Outcome.{Outcome}
 use Rattle.polling.specs.declared.Outcome.the-variants.{Passed}
 use Rattle.sequences.specs.Cycles.{eraseCycles}
@@ -24,12 +25,12 @@ use Rattle.copies.specs.Blocks.{blockIn, aboveTo}
 use Rattle.summary.specs.declared.Summary.{Summary}
 use Rattle.summary.specs.Summary.{summed}
 use Rattle.summary.proofs.BlockLaws.{summed-above}
-use Rattle.scan.specs.Progress.{Progress, progress}
-use Rattle.scan.specs.Scan.{pagesRead}
-use Rattle.scan.proofs.ReadOnLaws.{is-passed, same-progress}
-use Rattle.fill.specs.Steps.{eraseOn, resumed, isFailed}
-use Rattle.fill.proofs.OutcomeLaws.{failed-answered}
-use Rattle.fill.proofs.StepLaws.{passed-answered, erase-called, erase-on-line, erase-on-outcome}
+use Rattle.progress.specs.Progress.{Progress, progress}
+use Rattle.block_scan.specs.Pages.{pagesRead}
+use Rattle.polling.proofs.OutcomeLaws.{is-passed, failed-answered, passed-answered}
+use Rattle.progress.proofs.ReadOnLaws.{same-progress}
+use Rattle.progress.specs.Steps.{eraseOn, resumed}
+use Rattle.progress.proofs.StepLaws.{erase-called, erase-on-line, erase-on-outcome}
 use Rattle.erasing.specs.declared.BlockErased.{BlockErased}
 use Rattle.erasing.specs.Round.{afterErase, blockErased, failedAt, aboveAt, erasedTo, BlockDone, RoundDone}
 

@@ -6,7 +6,7 @@ use mathlib.Core.Path.{_≡_}
 use lib.ListN.{replicate}
 use Rattle.bitmaps.specs.Bitmap.{bitAt, withBit}
 use Rattle.array.specs.Device.{Setting}
-use Rattle.polling.specs.Polling.{isPassed}
+use Rattle.polling.specs.Outcomes.{isPassed, isFailed}
 use Rattle.polling.specs.declared.Outcome.{Outcome}
 use Rattle.polling.specs.declared.Outcome.the-variants.{Passed}
 use Rattle.chip.specs.Chip.{Cycle}
@@ -14,9 +14,9 @@ use Rattle.bus.specs.Line.{Line}
 use Rattle.operations.specs.Ends.{Called}
 use Rattle.operations.specs.Trace.{ArrayOperation}
 use Rattle.copies.specs.Blocks.{blockIn, aboveTo}
-use Rattle.scan.specs.Progress.{Progress, progress}
-use Rattle.scan.specs.Scan.{pagesRead}
-use Rattle.fill.specs.Steps.{eraseOn, resumed, isFailed}
+use Rattle.progress.specs.Progress.{Progress, progress}
+use Rattle.block_scan.specs.Pages.{pagesRead}
+use Rattle.progress.specs.Steps.{eraseOn, resumed}
 
 -- after an erase that failed every page of its block is read whole
 unfoldable pub afterErase : Setting → ℕ → Progress → Progress

@@ -10,7 +10,6 @@ ghost use lib.ListN.{length};
 ghost use Rattle.geometry.specs.Sizes.{pageSize};
 ghost use Rattle.array.specs.Device.{setting};
 ghost use Rattle.bus.specs.Line.{line};
-ghost use Rattle.polling.specs.declared.Outcome.the-variants.{Passed};
 ghost use Rattle.operations.specs.Ends.{Called};
 ghost use Rattle.bitmaps.specs.Bitmap.{withBit};
 ghost use Rattle.erasing.specs.Round.{BlockDone, RoundDone};
@@ -65,7 +64,7 @@ fn erase_block(
         return not_failed(b, outcome);
     };
     let mut bits = [0u8; 512];
-    let scanned = scan::scan_block(
+    let scanned = block_scan::scan_block(
         b,
         g,
         array,

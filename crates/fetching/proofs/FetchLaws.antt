@@ -1,27 +1,23 @@
 -- A read into a buffer of its own that is copied on only if it passed. Assumes nothing.
 use Prim.Native.Nat.{ℕ, zero, suc}
 use mathlib.Core.Bool.{true, false, false≢true}
-use mathlib.Core.List.{List, _∷_, _++_, append-nil}
+use mathlib.Core.List.{List, _∷_, _++_}
 use mathlib.Core.Path.{_≡_, refl, sym, ap, _∙_}
-use native.Mathlib.Omega.{arith}
 use borrow.Table.Steps.{cases}
 use lib.Dec.{eqb}
-use lib.ListN.{length, replicate, drop-of-length-le}
+use lib.ListN.{length, replicate}
 use Rattle.cells.specs.Cells.{over}
 use Rattle.array.specs.Device.{Setting}
 use Rattle.chip.specs.Chip.{Cycle}
 use Rattle.chip.specs.Chip.Cycle.{command, dataOut}
 use Rattle.bus.specs.Line.{Line, send, sendAll, goesOn}
 use Rattle.bus.proofs.LineLaws.{sendAll-append, sendAll-stopped}
-use Rattle.polling.specs.Polling.{isPassed, endedAs, outcomeOf}
+use Rattle.polling.specs.Outcomes.{isPassed}
+use Rattle.polling.specs.Polling.{endedAs, outcomeOf}
 use Rattle.polling.specs.declared.Outcome.{Outcome}
 use Rattle.sequences.specs.Cycles.{pageRead, pageLine, readCycles, readOutcome, outputs, readOutputs}
 use Rattle.fetching.specs.Fetching.{fetched}
-
--- all of one list over another that is as long
-pub over-all : (xs ys : List ℕ) → length ys ≡ length xs → over xs ys ≡ xs
-over-all xs ys e =
-    ap (λ (x : List ℕ). xs ++ x) (drop-of-length-le ys {i = length xs} (omega (arith, e))) ∙ append-nil xs
+use Rattle.cells.proofs.CellLaws.{over-all}
 
 ended-goes : (l : Line) → isPassed (endedAs l) ≡ true → goesOn l ≡ true
 unfolding endedAs goesOn isPassed

@@ -8,16 +8,15 @@ use Rattle.geometry.specs.Sizes.{rowOf}
 use Rattle.array.specs.Device.{Device, Setting}
 use Rattle.bus.specs.Line.{Line, sendAll}
 use Rattle.bus.proofs.LineLaws.{sent-counts}
-use Rattle.polling.specs.Polling.{isPassed}
+use Rattle.polling.specs.Outcomes.{isPassed}
 use Rattle.polling.specs.declared.Outcome.{Outcome}
 use Rattle.polling.specs.declared.Outcome.the-variants.{Passed}
 use Rattle.sequences.specs.Cycles.{readCycles, readOutcome}
-use Rattle.scan.specs.Progress.{progress}
-use Rattle.scan.proofs.ReadOnLaws.{read-line, read-outcome}
+use Rattle.progress.specs.Progress.{progress}
+use Rattle.progress.proofs.ReadOnLaws.{read-line, read-outcome}
 use Rattle.state.specs.State.{blank}
 use Rattle.state.specs.declared.State.{State}
-use Rattle.calls.specs.Call.{Result, callLine, stopAnswer, endAt}
-use Rattle.refusals.specs.Refusals.{answerFor, stateFor}
+use Rattle.calls.specs.Call.{Result, callLine, stopAnswer, endAt, answerFor, stateFor}
 use Rattle.fetching.specs.Fetching.{readResult, fetched, pageProgress, readingBlock}
 
 -- the trace of a page's read ends where the read of its row does

@@ -5,13 +5,12 @@ use mathlib.Core.List.{List, []}
 use Rattle.geometry.specs.Sizes.{rowOf}
 use Rattle.array.specs.Device.{Device, Setting}
 use Rattle.bus.specs.Line.{Line}
-use Rattle.polling.specs.Polling.{isPassed}
+use Rattle.polling.specs.Outcomes.{isPassed}
 use Rattle.polling.specs.declared.Outcome.the-variants.{Passed}
 use Rattle.sequences.specs.Cycles.{readOutcome, readOutputs}
-use Rattle.scan.specs.Progress.{Progress, progress, readOn}
+use Rattle.progress.specs.Progress.{Progress, progress, readOn}
 use Rattle.state.specs.declared.State.{State}
-use Rattle.calls.specs.Call.{Result, callLine, endAt}
-use Rattle.refusals.specs.Refusals.{answerFor, stateFor}
+use Rattle.calls.specs.Call.{Result, callLine, endAt, answerFor, stateFor}
 
 -- what a read hands back, and the caller's buffer as it is left
 pub record ReadResult : Type 0 where

@@ -9,11 +9,13 @@ use Rattle.chip.specs.Chip.{isConfirm, confirmed, confirmable, commanded, dataT
 use Rattle.cells.specs.Cells.{programmed, weakened, raised}
 use Rattle.cells.specs.Part.{put}
 use Rattle.bus.specs.Line.{mayGo, cutAfter, send, byteOut, sendAll, sent, goesOn}
-use Rattle.polling.specs.Polling.{waiting, polls, outcomeOf, isPassed, endedAs}
+use Rattle.polling.specs.Polling.{waiting, polls, outcomeOf, endedAs}
+use Rattle.polling.specs.Outcomes.{isPassed, isFailed, isSilent, isCut}
 use Rattle.sequences.specs.Cycles.{readCycles, readOutcome, outputs, readOutputs}
 use Rattle.operations.specs.Trace.{startedBy}
-use Rattle.scan.specs.Progress.{readOn, resetOn}
-use Rattle.scan.specs.Scan.{pagesRead, blocksRead}
+use Rattle.progress.specs.Progress.{readOn, resetOn}
+use Rattle.block_scan.specs.Pages.{pagesRead}
+use Rattle.scan.specs.Scan.{blocksRead}
 use Rattle.calls.specs.Call.{callLine, sized, stopAnswer}
 use Rattle.bitmaps.specs.Bitmap.{bitAt, withBit, countBits, clearFrom, neverBoth}
 use Rattle.pages.specs.Check.{zeroBits}
@@ -22,11 +24,11 @@ use Rattle.copies.specs.Blocks.{isMarked, aboveTo, agrees, completeTo, isComple
 use Rattle.found.specs.Found.{marksTo}
 use Rattle.marks.specs.Marks.{marksRead}
 use Rattle.erasing.specs.Round.{afterErase, blockErased, failedAt, aboveAt, erasedTo}
-use Rattle.fill.specs.Steps.{eraseOn, programOn, isFailed}
+use Rattle.progress.specs.Steps.{eraseOn, programOn}
 use Rattle.fill.specs.Fill.{mainOf, mainRead, pageFilled, pagesFilled, tableMain}
 use Rattle.choose.specs.Choose.{permitted, searchAfter, countPermitted}
 use Rattle.state.specs.State.{blank, copyBits, emptyFrom, soundFrom, soundEntries, mounted, freeBlocks}
-use Rattle.tables.specs.Tables.{stateAfter, tryBlock, tryTable, endAnswer, endState, tablesFilled}
+use Rattle.tables.specs.Tables.{afterFill, tryBlock, tryTable, tablesFilled}
 use Rattle.format.specs.Format.{firstState, tooFew, tablesRun, roundRun, marksRun, formatting}
 use Rattle.copies.specs.Current.{currentTable, currentCopy, aboveAll, nextNumber, filledLast, sharesNumber, clashesAt, clashes, judgeTable, mountAnswer}
 use Rattle.copies.specs.Pick.{better, pick, someBelow}
@@ -37,40 +39,40 @@ use Rattle.figures.specs.Figures.{figures, given, paper}
 
 -- every starred case is as the paper says
 pub figures-agree : given figures ≡ paper figures
-unfolding given paper ones begun statusMode readMode plainCommand addressFits latched addressed fateWord nextFate started statusByte fitting readStarted programStarted eraseStarted completed isConfirm confirmed confirmable commanded dataTaken dataGiven dataByte finished statusRead exec programmed weakened raised put mayGo cutAfter send byteOut sendAll sent goesOn waiting polls outcomeOf isPassed endedAs readCycles readOutcome outputs readOutputs startedBy readOn resetOn pagesRead blocksRead sized stopAnswer bitAt withBit countBits zeroBits numberWidth bytesOf numberOf labelBytes encoded kindOf labelOf allOnes storedCheck countedCheck whole isMarked aboveTo marksTo marksRead afterErase blockErased failedAt aboveAt erasedTo eraseOn programOn isFailed mainOf mainRead pageFilled pagesFilled tableMain permitted searchAfter countPermitted stateAfter tryBlock tryTable endAnswer endState tablesFilled firstState tooFew tablesRun roundRun marksRun formatting table.tablePage
+unfolding given paper ones begun statusMode readMode plainCommand addressFits latched addressed fateWord nextFate started statusByte fitting readStarted programStarted eraseStarted completed isConfirm confirmed confirmable commanded dataTaken dataGiven dataByte finished statusRead exec programmed weakened raised put mayGo cutAfter send byteOut sendAll sent goesOn waiting polls outcomeOf isPassed endedAs readCycles readOutcome outputs readOutputs startedBy readOn resetOn pagesRead blocksRead sized stopAnswer isSilent isCut bitAt withBit countBits zeroBits numberWidth bytesOf numberOf labelBytes encoded kindOf labelOf allOnes storedCheck countedCheck whole isMarked aboveTo marksTo marksRead afterErase blockErased failedAt aboveAt erasedTo eraseOn programOn isFailed mainOf mainRead pageFilled pagesFilled tableMain permitted searchAfter countPermitted afterFill tryBlock tryTable tablesFilled firstState tooFew tablesRun roundRun marksRun formatting table.tablePage
 figures-agree = refl
 
 -- a formatting, all FFh at the start
 format-sends : bench.bench (bench.formatted []) ≡ 0 ∷ 354 ∷ []
-unfolding ones begun statusMode readMode plainCommand addressFits latched addressed fateWord nextFate started statusByte fitting readStarted programStarted eraseStarted completed isConfirm confirmed confirmable commanded dataTaken dataGiven dataByte finished statusRead exec programmed weakened raised put mayGo cutAfter send byteOut sendAll sent goesOn waiting polls outcomeOf isPassed endedAs readCycles readOutcome outputs readOutputs startedBy readOn resetOn pagesRead blocksRead sized stopAnswer bitAt withBit countBits zeroBits numberWidth bytesOf numberOf labelBytes encoded kindOf labelOf allOnes storedCheck countedCheck whole isMarked aboveTo marksTo marksRead afterErase blockErased failedAt aboveAt erasedTo eraseOn programOn isFailed mainOf mainRead pageFilled pagesFilled tableMain permitted searchAfter countPermitted stateAfter tryBlock tryTable endAnswer endState tablesFilled firstState tooFew tablesRun roundRun marksRun formatting table.tablePage
+unfolding ones begun statusMode readMode plainCommand addressFits latched addressed fateWord nextFate started statusByte fitting readStarted programStarted eraseStarted completed isConfirm confirmed confirmable commanded dataTaken dataGiven dataByte finished statusRead exec programmed weakened raised put mayGo cutAfter send byteOut sendAll sent goesOn waiting polls outcomeOf isPassed endedAs readCycles readOutcome outputs readOutputs startedBy readOn resetOn pagesRead blocksRead sized stopAnswer isSilent isCut bitAt withBit countBits zeroBits numberWidth bytesOf numberOf labelBytes encoded kindOf labelOf allOnes storedCheck countedCheck whole isMarked aboveTo marksTo marksRead afterErase blockErased failedAt aboveAt erasedTo eraseOn programOn isFailed mainOf mainRead pageFilled pagesFilled tableMain permitted searchAfter countPermitted afterFill tryBlock tryTable tablesFilled firstState tooFew tablesRun roundRun marksRun formatting table.tablePage
 format-sends = refl
 
 format-state : bench.formatted [] .state ≡ bench.formattedState
-unfolding ones begun statusMode readMode plainCommand addressFits latched addressed fateWord nextFate started statusByte fitting readStarted programStarted eraseStarted completed isConfirm confirmed confirmable commanded dataTaken dataGiven dataByte finished statusRead exec programmed weakened raised put mayGo cutAfter send byteOut sendAll sent goesOn waiting polls outcomeOf isPassed endedAs readCycles readOutcome outputs readOutputs startedBy readOn resetOn pagesRead blocksRead sized stopAnswer bitAt withBit countBits zeroBits numberWidth bytesOf numberOf labelBytes encoded kindOf labelOf allOnes storedCheck countedCheck whole isMarked aboveTo marksTo marksRead afterErase blockErased failedAt aboveAt erasedTo eraseOn programOn isFailed mainOf mainRead pageFilled pagesFilled tableMain permitted searchAfter countPermitted stateAfter tryBlock tryTable endAnswer endState tablesFilled firstState tooFew tablesRun roundRun marksRun formatting table.tablePage
+unfolding ones begun statusMode readMode plainCommand addressFits latched addressed fateWord nextFate started statusByte fitting readStarted programStarted eraseStarted completed isConfirm confirmed confirmable commanded dataTaken dataGiven dataByte finished statusRead exec programmed weakened raised put mayGo cutAfter send byteOut sendAll sent goesOn waiting polls outcomeOf isPassed endedAs readCycles readOutcome outputs readOutputs startedBy readOn resetOn pagesRead blocksRead sized stopAnswer isSilent isCut bitAt withBit countBits zeroBits numberWidth bytesOf numberOf labelBytes encoded kindOf labelOf allOnes storedCheck countedCheck whole isMarked aboveTo marksTo marksRead afterErase blockErased failedAt aboveAt erasedTo eraseOn programOn isFailed mainOf mainRead pageFilled pagesFilled tableMain permitted searchAfter countPermitted afterFill tryBlock tryTable tablesFilled firstState tooFew tablesRun roundRun marksRun formatting table.tablePage
 format-state = refl
 
 format-table : bench.formatted [] .chip .array ≡ bench.tableArray
-unfolding ones begun statusMode readMode plainCommand addressFits latched addressed fateWord nextFate started statusByte fitting readStarted programStarted eraseStarted completed isConfirm confirmed confirmable commanded dataTaken dataGiven dataByte finished statusRead exec programmed weakened raised put mayGo cutAfter send byteOut sendAll sent goesOn waiting polls outcomeOf isPassed endedAs readCycles readOutcome outputs readOutputs startedBy readOn resetOn pagesRead blocksRead sized stopAnswer bitAt withBit countBits zeroBits numberWidth bytesOf numberOf labelBytes encoded kindOf labelOf allOnes storedCheck countedCheck whole isMarked aboveTo marksTo marksRead afterErase blockErased failedAt aboveAt erasedTo eraseOn programOn isFailed mainOf mainRead pageFilled pagesFilled tableMain permitted searchAfter countPermitted stateAfter tryBlock tryTable endAnswer endState tablesFilled firstState tooFew tablesRun roundRun marksRun formatting table.tablePage
+unfolding ones begun statusMode readMode plainCommand addressFits latched addressed fateWord nextFate started statusByte fitting readStarted programStarted eraseStarted completed isConfirm confirmed confirmable commanded dataTaken dataGiven dataByte finished statusRead exec programmed weakened raised put mayGo cutAfter send byteOut sendAll sent goesOn waiting polls outcomeOf isPassed endedAs readCycles readOutcome outputs readOutputs startedBy readOn resetOn pagesRead blocksRead sized stopAnswer isSilent isCut bitAt withBit countBits zeroBits numberWidth bytesOf numberOf labelBytes encoded kindOf labelOf allOnes storedCheck countedCheck whole isMarked aboveTo marksTo marksRead afterErase blockErased failedAt aboveAt erasedTo eraseOn programOn isFailed mainOf mainRead pageFilled pagesFilled tableMain permitted searchAfter countPermitted afterFill tryBlock tryTable tablesFilled firstState tooFew tablesRun roundRun marksRun formatting table.tablePage
 format-table = refl
 
 -- one cycle fewer allowed
 format-cut : formatting (bench.call []) (bench.chipWith (replicate 768 255)) 353 (blank 0) .answer ≡ 11
-unfolding ones begun statusMode readMode plainCommand addressFits latched addressed fateWord nextFate started statusByte fitting readStarted programStarted eraseStarted completed isConfirm confirmed confirmable commanded dataTaken dataGiven dataByte finished statusRead exec programmed weakened raised put mayGo cutAfter send byteOut sendAll sent goesOn waiting polls outcomeOf isPassed endedAs readCycles readOutcome outputs readOutputs startedBy readOn resetOn pagesRead blocksRead sized stopAnswer bitAt withBit countBits zeroBits numberWidth bytesOf numberOf labelBytes encoded kindOf labelOf allOnes storedCheck countedCheck whole isMarked aboveTo marksTo marksRead afterErase blockErased failedAt aboveAt erasedTo eraseOn programOn isFailed mainOf mainRead pageFilled pagesFilled tableMain permitted searchAfter countPermitted stateAfter tryBlock tryTable endAnswer endState tablesFilled firstState tooFew tablesRun roundRun marksRun formatting table.tablePage
+unfolding ones begun statusMode readMode plainCommand addressFits latched addressed fateWord nextFate started statusByte fitting readStarted programStarted eraseStarted completed isConfirm confirmed confirmable commanded dataTaken dataGiven dataByte finished statusRead exec programmed weakened raised put mayGo cutAfter send byteOut sendAll sent goesOn waiting polls outcomeOf isPassed endedAs readCycles readOutcome outputs readOutputs startedBy readOn resetOn pagesRead blocksRead sized stopAnswer isSilent isCut bitAt withBit countBits zeroBits numberWidth bytesOf numberOf labelBytes encoded kindOf labelOf allOnes storedCheck countedCheck whole isMarked aboveTo marksTo marksRead afterErase blockErased failedAt aboveAt erasedTo eraseOn programOn isFailed mainOf mainRead pageFilled pagesFilled tableMain permitted searchAfter countPermitted afterFill tryBlock tryTable tablesFilled firstState tooFew tablesRun roundRun marksRun formatting table.tablePage
 format-cut = refl
 
 -- one marked block of four
 format-marked : bench.bench (formatting (bench.call []) (bench.chipWith (set (replicate 768 255) 416 0)) 10000 (blank 0)) ≡ 8 ∷ 112 ∷ []
-unfolding ones begun statusMode readMode plainCommand addressFits latched addressed fateWord nextFate started statusByte fitting readStarted programStarted eraseStarted completed isConfirm confirmed confirmable commanded dataTaken dataGiven dataByte finished statusRead exec programmed weakened raised put mayGo cutAfter send byteOut sendAll sent goesOn waiting polls outcomeOf isPassed endedAs readCycles readOutcome outputs readOutputs startedBy readOn resetOn pagesRead blocksRead sized stopAnswer bitAt withBit countBits zeroBits numberWidth bytesOf numberOf labelBytes encoded kindOf labelOf allOnes storedCheck countedCheck whole isMarked aboveTo marksTo marksRead afterErase blockErased failedAt aboveAt erasedTo eraseOn programOn isFailed mainOf mainRead pageFilled pagesFilled tableMain permitted searchAfter countPermitted stateAfter tryBlock tryTable endAnswer endState tablesFilled firstState tooFew tablesRun roundRun marksRun formatting table.tablePage copyBits freeBlocks mounted clearFrom neverBoth emptyFrom soundFrom soundEntries
+unfolding ones begun statusMode readMode plainCommand addressFits latched addressed fateWord nextFate started statusByte fitting readStarted programStarted eraseStarted completed isConfirm confirmed confirmable commanded dataTaken dataGiven dataByte finished statusRead exec programmed weakened raised put mayGo cutAfter send byteOut sendAll sent goesOn waiting polls outcomeOf isPassed endedAs readCycles readOutcome outputs readOutputs startedBy readOn resetOn pagesRead blocksRead sized stopAnswer isSilent isCut bitAt withBit countBits zeroBits numberWidth bytesOf numberOf labelBytes encoded kindOf labelOf allOnes storedCheck countedCheck whole isMarked aboveTo marksTo marksRead afterErase blockErased failedAt aboveAt erasedTo eraseOn programOn isFailed mainOf mainRead pageFilled pagesFilled tableMain permitted searchAfter countPermitted afterFill tryBlock tryTable tablesFilled firstState tooFew tablesRun roundRun marksRun formatting table.tablePage copyBits freeBlocks mounted clearFrom neverBoth emptyFrom soundFrom soundEntries
 format-marked = refl
 
 -- three logical blocks on four blocks
 format-wide : bench.bench (formatting (setting (record { main = 32; spare = 16; pages = 4; blocks = 4; logical = 3 }) (replicate 192 0) []) (bench.chipWith (replicate 768 255)) 10000 (blank 0)) ≡ 1 ∷ 0 ∷ []
-unfolding ones begun statusMode readMode plainCommand addressFits latched addressed fateWord nextFate started statusByte fitting readStarted programStarted eraseStarted completed isConfirm confirmed confirmable commanded dataTaken dataGiven dataByte finished statusRead exec programmed weakened raised put mayGo cutAfter send byteOut sendAll sent goesOn waiting polls outcomeOf isPassed endedAs readCycles readOutcome outputs readOutputs startedBy readOn resetOn pagesRead blocksRead sized stopAnswer bitAt withBit countBits zeroBits numberWidth bytesOf numberOf labelBytes encoded kindOf labelOf allOnes storedCheck countedCheck whole isMarked aboveTo marksTo marksRead afterErase blockErased failedAt aboveAt erasedTo eraseOn programOn isFailed mainOf mainRead pageFilled pagesFilled tableMain permitted searchAfter countPermitted stateAfter tryBlock tryTable endAnswer endState tablesFilled firstState tooFew tablesRun roundRun marksRun formatting table.tablePage copyBits freeBlocks mounted clearFrom neverBoth emptyFrom soundFrom soundEntries
+unfolding ones begun statusMode readMode plainCommand addressFits latched addressed fateWord nextFate started statusByte fitting readStarted programStarted eraseStarted completed isConfirm confirmed confirmable commanded dataTaken dataGiven dataByte finished statusRead exec programmed weakened raised put mayGo cutAfter send byteOut sendAll sent goesOn waiting polls outcomeOf isPassed endedAs readCycles readOutcome outputs readOutputs startedBy readOn resetOn pagesRead blocksRead sized stopAnswer isSilent isCut bitAt withBit countBits zeroBits numberWidth bytesOf numberOf labelBytes encoded kindOf labelOf allOnes storedCheck countedCheck whole isMarked aboveTo marksTo marksRead afterErase blockErased failedAt aboveAt erasedTo eraseOn programOn isFailed mainOf mainRead pageFilled pagesFilled tableMain permitted searchAfter countPermitted afterFill tryBlock tryTable tablesFilled firstState tooFew tablesRun roundRun marksRun formatting table.tablePage copyBits freeBlocks mounted clearFrom neverBoth emptyFrom soundFrom soundEntries
 format-wide = refl
 
 -- a mount of what was formatted: 16 pages of 48 bytes and the reset
 mount-sends : length (mountRun (bench.call []) (callLine (bench.chipWith bench.tableArray) 10000) .cycles) ≡ 931
-unfolding ones begun statusMode readMode plainCommand addressFits latched addressed fateWord nextFate started statusByte fitting readStarted programStarted eraseStarted completed isConfirm confirmed confirmable commanded dataTaken dataGiven dataByte finished statusRead exec programmed weakened raised put mayGo cutAfter send byteOut sendAll sent goesOn waiting polls outcomeOf isPassed endedAs readCycles readOutcome outputs readOutputs startedBy readOn resetOn pagesRead blocksRead sized stopAnswer bitAt withBit countBits zeroBits numberWidth bytesOf numberOf labelBytes encoded kindOf labelOf allOnes storedCheck countedCheck whole isMarked aboveTo marksTo marksRead afterErase blockErased failedAt aboveAt erasedTo eraseOn programOn isFailed mainOf mainRead pageFilled pagesFilled tableMain permitted searchAfter countPermitted stateAfter tryBlock tryTable endAnswer endState tablesFilled firstState tooFew tablesRun roundRun marksRun formatting table.tablePage
+unfolding ones begun statusMode readMode plainCommand addressFits latched addressed fateWord nextFate started statusByte fitting readStarted programStarted eraseStarted completed isConfirm confirmed confirmable commanded dataTaken dataGiven dataByte finished statusRead exec programmed weakened raised put mayGo cutAfter send byteOut sendAll sent goesOn waiting polls outcomeOf isPassed endedAs readCycles readOutcome outputs readOutputs startedBy readOn resetOn pagesRead blocksRead sized stopAnswer isSilent isCut bitAt withBit countBits zeroBits numberWidth bytesOf numberOf labelBytes encoded kindOf labelOf allOnes storedCheck countedCheck whole isMarked aboveTo marksTo marksRead afterErase blockErased failedAt aboveAt erasedTo eraseOn programOn isFailed mainOf mainRead pageFilled pagesFilled tableMain permitted searchAfter countPermitted afterFill tryBlock tryTable tablesFilled firstState tooFew tablesRun roundRun marksRun formatting table.tablePage
 mount-sends = refl
 
 -- mounts answered 0, 4, 5 and 6: the table, an erased chip, the table of another geometry, a copy of a block that is none

@@ -7,12 +7,12 @@ use native.Mathlib.Omega.{arith}
 use borrow.Author.Tests.{eq-eqb, ne-eqb}
 use Rattle.geometry.specs.Limits.{Valid}
 use Rattle.array.specs.Device.{Setting}
-use Rattle.polling.specs.Polling.{isPassed}
-use Rattle.scan.specs.Progress.{Progress}
+use Rattle.polling.specs.Outcomes.{isPassed}
+use Rattle.progress.specs.Progress.{Progress}
 use Rattle.fill.specs.Fill.{Copy, Source, mainRead, pageFilled, pagesFilled, filled, erasedFor, stepsFilled}
-use Rattle.fill.specs.Steps.{eraseOn}
+use Rattle.progress.specs.Steps.{eraseOn}
 use Rattle.fill.proofs.MainLaws.{main-stopped}
-use Rattle.fill.proofs.StepLaws.{program-stopped}
+use Rattle.progress.proofs.StepLaws.{program-stopped}
 
 -- once a page has not passed no further one is filled
 pub page-stopped : (s : Setting) (block : ℕ) (c : Copy) (n : ℕ) (source : Source) (p : Progress) → isPassed (p .outcome) ≡ false → pageFilled s block c n source p ≡ p

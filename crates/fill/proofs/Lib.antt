@@ -1,8 +1,5 @@
-pub mod ComesLaws
-pub mod CountLaws
 pub mod FillLaws
 pub mod FillTests
+pub mod KeepLaws
 pub mod MainLaws
-pub mod OutcomeLaws
 pub mod PageLaws
-pub mod StepLaws

@@ -1,14 +1,14 @@
 -- The main bytes of a page: given, kept from the old copy, or FFh. Assumes nothing.
 use Prim.Native.Nat.{ℕ, _+_, _-_, _*_, _≤_, _<_}
 use mathlib.Core.Bool.{true, false, false≢true}
-use mathlib.Core.List.{List, _++_, append-nil}
+use mathlib.Core.List.{List, _++_}
 use mathlib.Core.Path.{_≡_, refl, sym, ap, ap₂, subst, fun-ext, _∙_}
 use native.Mathlib.Nat.{sub-zero}
 use native.Mathlib.Omega.{arith}
 use borrow.Table.Steps.{cases}
 use borrow.Author.Tests.{eq-eqb, ne-eqb, lt-ltb, le-ltb}
 use lib.Dec.{eqb, ltb}
-use lib.ListN.{length, take, drop, replicate, drop-of-length-le, length-append}
+use lib.ListN.{length, take, drop, replicate, length-append}
 use lib.Seq.{take-at, take-take, length-take-le}
 use Rattle.geometry.specs.declared.Geometry.{Geometry}
 use Rattle.geometry.specs.Sizes.{pageSize, rowOf}
@@ -17,19 +17,20 @@ use Rattle.cells.specs.Cells.{over}
 use Rattle.interface.specs.Interface.{busyOf}
 use Rattle.array.specs.Device.{Setting}
 use Rattle.bus.specs.Line.{Line, sendAll}
-use Rattle.polling.specs.Polling.{isPassed}
+use Rattle.polling.specs.Outcomes.{isPassed, answered}
 use Rattle.polling.specs.declared.Outcome.{Outcome}
 use Rattle.polling.specs.declared.Outcome.the-variants.{Passed}
 use Rattle.sequences.specs.Cycles.{readCycles, readOutcome, readOutputs}
-use Rattle.operations.specs.Ends.{Called, CanRead, End, endOfRead, readEnd, readTotal, wordFor, answered}
+use Rattle.operations.specs.Ends.{Called, CanRead, End, endOfRead, readEnd, readTotal, wordFor}
 use Rattle.operations.proofs.ReadLaws.{read-ends, read-next}
 use Rattle.copies.specs.Table.{tablePage}
-use Rattle.scan.specs.Progress.{Progress, progress}
-use Rattle.scan.proofs.ReadOnLaws.{Read, read-leaves, read-line, read-outcome, read-stopped}
-use Rattle.scan.proofs.ScanLaws.{row-is-page}
+use Rattle.progress.specs.Progress.{Progress, progress}
+use Rattle.progress.proofs.ReadOnLaws.{Read, read-leaves, read-line, read-outcome, read-stopped}
+use Rattle.copies.proofs.PlaceLaws.{row-is-page}
 use Rattle.fill.specs.Fill.{Source, given, kept, mainOf, mainRead, dataSource, tableMain, tableSource}
-use Rattle.fill.specs.Steps.{ComesTo}
-use Rattle.fill.proofs.ComesLaws.{comes-still, comes-as}
+use Rattle.progress.specs.Steps.{ComesTo}
+use Rattle.progress.proofs.ComesLaws.{comes-still, comes-as}
+use Rattle.cells.proofs.CellLaws.{over-all}
 
 -- which of the three a page of a data copy is
 module _ (g : Geometry) (old place : ℕ) (bytes : List ℕ) (n : ℕ) where
@@ -61,10 +62,6 @@ put-first n page ys rest h = take-at ys rest n h
 
 pub lent-long : (n : ℕ) (page : List ℕ) → n ≤ length page → length (take (n - 0) (drop 0 page)) ≡ n
 lent-long n page h = ap (λ (k : ℕ). length (take k page)) (sub-zero n) ∙ length-take-le n page h
-
-over-all : (xs ys : List ℕ) → length ys ≡ length xs → over xs ys ≡ xs
-over-all xs ys e =
-    ap (λ (x : List ℕ). xs ++ x) (drop-of-length-le ys {i = length xs} (omega (arith, e))) ∙ append-nil xs
 
 module _ (n : ℕ) (page : List ℕ) (fits : n ≤ length page) (ys rest : List ℕ) (same : length ys ≡ length (take (n - 0) (drop 0 page))) where
   pub put-read : take n (take 0 page ++ (ys ++ rest)) ≡ ys

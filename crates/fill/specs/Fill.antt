@@ -12,8 +12,8 @@ use Rattle.array.specs.Device.{Setting}
 use Rattle.pages.specs.Layout.{label, encoded, numberWidth, tableKind}
 use Rattle.copies.specs.Blocks.{blockIn, mainIn}
 use Rattle.copies.specs.Table.{tablePage}
-use Rattle.scan.specs.Progress.{Progress, readOn}
-use Rattle.fill.specs.Steps.{eraseOn, programOn}
+use Rattle.progress.specs.Progress.{Progress, readOn}
+use Rattle.progress.specs.Steps.{eraseOn, programOn}
 
 -- what the labels of a copy's pages share
 pub record Copy : Type 0 where

@@ -10,10 +10,11 @@ ghost use lib.ListN.{length, take, getD};
 ghost use Rattle.geometry.specs.Sizes.{pageSize, rowOf};
 ghost use Rattle.array.specs.Device.{setting};
 ghost use Rattle.bus.specs.Line.{line, sendAll};
-ghost use Rattle.polling.specs.Polling.{isPassed, outcomeOf};
+ghost use Rattle.polling.specs.Outcomes.{isPassed};
+ghost use Rattle.polling.specs.Polling.{outcomeOf};
 ghost use Rattle.sequences.specs.Cycles.{programCycles};
 ghost use Rattle.operations.specs.Ends.{Called};
-ghost use Rattle.fill.specs.Steps.{ComesTo};
+ghost use Rattle.progress.specs.Steps.{ComesTo};
 ghost use Rattle.fill.specs.Fill.{copy, pageOf, Fillable, mainOf, mainRead, erasedFor, dataSource};
 
 // What a copy holds beside the bytes of the page that is given: its label, the block of the old copy (none where it is not on

@@ -10,14 +10,15 @@ use Rattle.interface.specs.Interface.{poweredOn, begun, statusMode, readMode, p
 use Rattle.array.specs.Device.{Setting, device, setting, fitting, readStarted, programStarted, eraseStarted, completed}
 use Rattle.chip.specs.Chip.{isConfirm, confirmed, confirmable, commanded, dataTaken, dataGiven, finished, statusRead, exec}
 use Rattle.bus.specs.Line.{mayGo, cutAfter, send, sendAll, uncutLine}
-use Rattle.polling.specs.Polling.{waiting, polls, outcomeOf, isPassed, endedAs}
+use Rattle.polling.specs.Polling.{waiting, polls, outcomeOf, endedAs}
+use Rattle.polling.specs.Outcomes.{isPassed}
 use Rattle.polling.specs.declared.Outcome.the-variants.{Passed}
 use Rattle.sequences.specs.Cycles.{readCycles, readOutcome}
 use Rattle.pages.specs.Check.{zeroBits}
 use Rattle.pages.specs.Layout.{numberWidth, bytesOf, labelBytes, encoded}
-use Rattle.scan.specs.Progress.{Progress, progress, readOn}
+use Rattle.progress.specs.Progress.{Progress, progress, readOn}
 use Rattle.fill.specs.Fill.{copy, mainOf, mainRead, pageFilled, pagesFilled, filled, dataSource}
-use Rattle.fill.specs.Steps.{eraseOn, programOn}
+use Rattle.progress.specs.Steps.{eraseOn, programOn}
 
 abbrev small : Geometry
 small = record { main = 32; spare = 16; pages = 4; blocks = 4; logical = 2 }

@@ -10,18 +10,19 @@ use Rattle.geometry.specs.Sizes.{rowOf}
 use Rattle.array.specs.Device.{Setting}
 use Rattle.chip.specs.Chip.{Cycle}
 use Rattle.bus.specs.Line.{Line, sendAll}
-use Rattle.polling.specs.Polling.{isPassed, outcomeOf}
+use Rattle.polling.specs.Outcomes.{isPassed, answered}
+use Rattle.polling.specs.Polling.{outcomeOf}
 use Rattle.polling.specs.declared.Outcome.{Outcome}
 use Rattle.polling.specs.declared.Outcome.the-variants.{Passed}
 use Rattle.sequences.specs.Cycles.{programCycles}
-use Rattle.operations.specs.Ends.{Called, CanProgram, answered}
+use Rattle.operations.specs.Ends.{Called, CanProgram}
 use Rattle.operations.specs.Trace.{ArrayOperation}
-use Rattle.scan.specs.Progress.{Progress, progress}
-use Rattle.scan.proofs.ReadOnLaws.{is-passed}
+use Rattle.progress.specs.Progress.{Progress, progress}
+use Rattle.polling.proofs.OutcomeLaws.{is-passed, passed-answered}
 use Rattle.fill.specs.Fill.{Copy, Source, Fillable, pageOf, mainOf, mainRead, pageFilled, pagesFilled, filled, erasedFor, stepFilled, stepsFilled}
-use Rattle.fill.specs.Steps.{eraseOn, programOn, ComesTo}
-use Rattle.fill.proofs.ComesLaws.{comes-still, comes-as, comes-on, comes-no-further, program-comes, program-order}
-use Rattle.fill.proofs.StepLaws.{passed-answered, program-stopped}
+use Rattle.progress.specs.Steps.{eraseOn, programOn, ComesTo}
+use Rattle.progress.proofs.ComesLaws.{comes-still, comes-as, comes-on, comes-no-further, program-comes, program-order}
+use Rattle.progress.proofs.StepLaws.{program-stopped}
 use Rattle.fill.proofs.PageLaws.{page-long, main-long}
 use Rattle.fill.proofs.FillLaws.{page-stopped, fill-stopped, steps-are, steps-fill}
 

@@ -11,9 +11,9 @@ ghost use lib.ListN.{length, getD};
 ghost use Rattle.geometry.specs.Sizes.{pageSize};
 ghost use Rattle.array.specs.Device.{setting};
 ghost use Rattle.bus.specs.Line.{line};
-ghost use Rattle.polling.specs.Polling.{isPassed};
+ghost use Rattle.polling.specs.Outcomes.{isPassed};
 ghost use Rattle.operations.specs.Ends.{Called};
-ghost use Rattle.fill.specs.Steps.{ComesTo};
+ghost use Rattle.progress.specs.Steps.{ComesTo};
 ghost use Rattle.fill.specs.Fill.{copy, Fillable, stepFilled, filled, dataSource, tableFilled};
 
 // Fills one page of a copy, the step of every fill: it ends with one page program.

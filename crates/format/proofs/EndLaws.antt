@@ -1,7 +1,7 @@
 -- The ends of a formatting after its first round. Assumes nothing.
 use Prim.Native.Nat.{ℕ, _+_, _≤_, _<_}
 use mathlib.Core.List.{List, []}
-use mathlib.Core.Path.{_≡_, ap, subst}
+use mathlib.Core.Path.{_≡_, refl, ap, subst}
 use native.Mathlib.Omega.{arith}
 use borrow.Author.Tests.{lt-ltb, le-ltb}
 use lib.ListN.{replicate}
@@ -16,9 +16,10 @@ use Rattle.choose.specs.Choose.{countPermitted}
 use Rattle.state.specs.State.{blank}
 use Rattle.state.specs.declared.State.{State}
 use Rattle.calls.specs.Call.{endAt}
-use Rattle.scan.specs.Progress.{progress}
+use Rattle.progress.specs.Progress.{progress}
 use Rattle.tables.specs.Tables.{numbersLeft, TabledAs}
-use Rattle.tables.proofs.CountLaws.{tables-count}
+use Rattle.tables.proofs.KeepLaws.{tables-keep}
+use Rattle.progress.proofs.CountLaws.{allowance-kept}
 use Rattle.format.specs.Format.{firstState, tooFew, tablesOf, endOfRun, tablesRun}
 
 module _ (s : Setting) (n : ℕ) (marked invalid : List ℕ) (above : ℕ) (count : ℕ) (c : count ≡ countPermitted marked invalid (replicate 512 0) (s .geometry .blocks)) where
@@ -38,7 +39,7 @@ module _ (s : Setting) (n : ℕ) (marked invalid : List ℕ) (above : ℕ) (coun
 -- table fills leave no more cycles than they found
 pub tables-left : (s : Setting) (held : List ℕ) (st : State) (l m : Line) (answer : ℕ) (next : State) → TabledAs s held st l m answer next → m .left ≤ l .left
 tables-left s held st l m answer next d =
-    omega (arith, tables-count s held (numbersLeft st) st (progress l Passed [] []), ap (λ (x : Line). x .left) (d .line-is [] []))
+    omega (arith, tables-keep s _ (allowance-kept s _) held (numbersLeft st) st (progress l Passed [] []) refl, ap (λ (x : Line). x .left) (d .line-is [] []))
 
 -- the search starts on the chip
 pub last-small : (g : Geometry) (marked invalid : List ℕ) (above : ℕ) → Valid g → firstState g marked invalid above .last < g .blocks

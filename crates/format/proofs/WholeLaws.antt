@@ -1,65 +1,39 @@
 -- A formatting from its marks on: where it stops, and what the first round hands to the table fills. Assumes nothing.
-use Prim.Native.Nat.{ℕ, zero, suc, _≤_}
-use mathlib.Core.Bool.{true, false}
+use Prim.Native.Nat.{ℕ, _≤_}
+use mathlib.Core.Bool.{true, false, cond}
 use mathlib.Core.List.{List, []}
 use mathlib.Core.Path.{_≡_, refl, sym, ap, _∙_}
+use native.Mathlib.Nat.{add-zero}
 use native.Mathlib.Omega.{arith}
-use borrow.Table.Steps.{cases}
-use Rattle.geometry.specs.Sizes.{rowOf}
-use Rattle.bitmaps.specs.Bitmap.{bitAt}
 use Rattle.array.specs.Device.{Setting}
 use Rattle.chip.specs.Chip.{Cycle}
 use Rattle.bus.specs.Line.{Line}
-use Rattle.polling.specs.Polling.{isPassed}
+use Rattle.polling.specs.Outcomes.{isPassed}
 use Rattle.polling.specs.declared.Outcome.{Outcome}
 use Rattle.polling.specs.declared.Outcome.the-variants.{Passed}
 use Rattle.operations.specs.Trace.{ArrayOperation}
 use Rattle.state.specs.State.{blank}
 use Rattle.state.specs.declared.State.{State}
 use Rattle.calls.specs.Call.{Result, endAt, stopAnswer}
-use Rattle.scan.specs.Progress.{Progress, progress, readOn}
-use Rattle.scan.proofs.CountLaws.{allowance, read-counts, pages-count}
-use Rattle.scan.proofs.ReadOnLaws.{is-passed}
+use Rattle.progress.specs.Progress.{Progress, progress}
+use Rattle.progress.proofs.CountLaws.{allowance-kept}
+use Rattle.polling.proofs.OutcomeLaws.{is-passed}
 use Rattle.found.specs.Found.{marksTo}
-use Rattle.fill.specs.Steps.{eraseOn, isFailed, resumed}
-use Rattle.fill.proofs.CountLaws.{erase-counts}
+use Rattle.calls.proofs.StartLaws.{Stops}
+use Rattle.marks.proofs.MarkLaws.{marks-stopped}
+use Rattle.marks.proofs.KeepLaws.{marks-keep}
+use Rattle.erasing.proofs.KeepLaws.{round-keeps}
 use Rattle.marks.specs.Marks.{marksRead, MarksFound}
-use Rattle.erasing.specs.Round.{afterErase, blockErased, erasedTo, RoundDone}
+use Rattle.erasing.specs.Round.{erasedTo, RoundDone}
 use Rattle.format.specs.Format.{endOfRun, stopped, tablesRun, roundRun, marksRun}
-
--- the cycles of marks and of the first round
-module _ (s : Setting) where
-  pub marks-count : (n : ℕ) (p : Progress) → allowance (marksRead s n p) ≡ allowance p
-  unfolding marksRead
-  marks-count zero p = refl
-  marks-count (suc n) p =
-      read-counts s (rowOf (s .geometry) n 1) (s .geometry .main) 1 (readOn s (rowOf (s .geometry) n 0) (s .geometry .main) 1 (marksRead s n p))
-      ∙ read-counts s (rowOf (s .geometry) n 0) (s .geometry .main) 1 (marksRead s n p)
-      ∙ marks-count n p
-
-  after-count : (b : ℕ) (q : Progress) → allowance (afterErase s b q) ≡ allowance q
-  unfolding afterErase
-  after-count b q = cases (isFailed (q .outcome)) (λ f. rw f (pages-count s b (s .geometry .pages) (resumed q))) (λ f. rw f)
-
-  block-count : (marked : List ℕ) (b : ℕ) (p : Progress) → allowance (blockErased s marked b p) ≡ allowance p
-  unfolding blockErased
-  block-count marked b p =
-      cases (isPassed (p .outcome))
-      (λ t. cases (bitAt marked b) (λ u. rw (t, u)) (λ u. rw (t, u) (after-count b (eraseOn s b p) ∙ erase-counts s b p)))
-      (λ t. rw t)
-
-  pub round-count : (marked : List ℕ) (n : ℕ) (p : Progress) → allowance (erasedTo s marked n p .progress) ≡ allowance p
-  unfolding erasedTo
-  round-count marked zero p = refl
-  round-count marked (suc n) p = block-count marked n (erasedTo s marked n p .progress) ∙ round-count marked n p
 
 pub marks-left : (s : Setting) (l m : Line) (o : Outcome) (marked : List ℕ) → MarksFound s l m o marked → m .left ≤ l .left
 marks-left s l m o marked d =
-    omega (arith, marks-count s (s .geometry .blocks) (progress l Passed [] []), ap (λ (x : Line). x .left) (d .line-is [] []))
+    omega (arith, marks-keep s _ (allowance-kept s _) (s .geometry .blocks) (progress l Passed [] []) refl, ap (λ (x : Line). x .left) (d .line-is [] []))
 
 pub round-left : (s : Setting) (marked : List ℕ) (l m : Line) (o : Outcome) (invalid : List ℕ) (above : ℕ) → RoundDone s marked l m o invalid above → m .left ≤ l .left
 round-left s marked l m o invalid above d =
-    omega (arith, round-count s marked (s .geometry .blocks) (progress l Passed [] []), ap (λ (x : Line). x .left) (d .line-is [] []))
+    omega (arith, round-keeps s _ (allowance-kept s _) marked (s .geometry .blocks) (progress l Passed [] []) refl, ap (λ (x : Line). x .left) (d .line-is [] []))
 
 -- the end after an operation that did not pass
 pub stop-is : (n : ℕ) (p : Progress) (m : Line) (o : Outcome) (a : ℕ) (st : State) → m ≡ p .line → o ≡ p .outcome → a ≡ stopAnswer o → st ≡ blank 2 → endAt n a st m ≡ endOfRun n (stopped p)
@@ -113,3 +87,10 @@ module _ (s : Setting) (n : ℕ) (marked : List ℕ) (l m : Line) (o : Outcome) 
       let all : endOfRun n (tablesRun s marked invalid above (progress m Passed (q .cycles) (q .started))) ≡ endOfRun n (tablesRun s marked (e .invalid) (e .above) q) =
       λ i. endOfRun n (tablesRun s marked (d .invalid-is t cs os i) (d .above-is t cs os i) (same i)) in
       f (q .cycles) (q .started) ∙ all ∙ rw passed
+
+-- a formatting ends at the operation that did not pass
+pub format-stops : (s : Setting) (n : ℕ) → Stops n (λ p. endOfRun n (marksRun s p))
+unfolding marksRun marksRead
+format-stops s n p f =
+    let same : marksRead s (s .geometry .blocks) p ≡ p = sym (ap (λ (x : ℕ). marksRead s x p) (add-zero (s .geometry .blocks))) ∙ marks-stopped s 0 p f (s .geometry .blocks) in
+    ap (λ (q : Progress). endOfRun n (cond (isPassed (q .outcome)) (roundRun s (marksTo (s .geometry) (q .line .chip .array) (s .geometry .blocks)) q) (stopped q))) same ∙ rw f

@@ -6,9 +6,9 @@ use lib.Dec.{eqb, ltb}
 use lib.ListN.{replicate}
 use Rattle.geometry.specs.declared.Geometry.{Geometry}
 use Rattle.array.specs.Device.{Device, Setting}
-use Rattle.polling.specs.Polling.{isPassed}
+use Rattle.polling.specs.Outcomes.{isPassed}
 use Rattle.polling.specs.declared.Outcome.the-variants.{Passed}
-use Rattle.scan.specs.Progress.{Progress, progress, resetOn}
+use Rattle.progress.specs.Progress.{Progress, progress, resetOn}
 use Rattle.found.specs.Found.{marksTo}
 use Rattle.choose.specs.Choose.{countPermitted}
 use Rattle.state.specs.State.{blank}

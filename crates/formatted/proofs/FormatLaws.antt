@@ -17,7 +17,7 @@ use Rattle.geometry.proofs.SizeLaws.{row-below}
 use Rattle.cells.specs.Bytes.{Bytes}
 use Rattle.bitmaps.specs.Bitmap.{bitAt}
 use Rattle.array.specs.Device.{Device, Setting}
-use Rattle.polling.specs.Polling.{isPassed}
+use Rattle.polling.specs.Outcomes.{isPassed, isReadEnd}
 use Rattle.polling.specs.declared.Outcome.{Outcome}
 use Rattle.polling.specs.declared.Outcome.the-variants.{Passed}
 use Rattle.operations.specs.Ends.{Called}
@@ -29,16 +29,15 @@ use Rattle.state.specs.declared.State.{State}
 use Rattle.found.specs.Contents.{mapOf}
 use Rattle.found.specs.Found.{bitsAt, marksTo}
 use Rattle.calls.specs.Call.{sizedFor, callLine, stopAnswer}
-use Rattle.calls.proofs.CallLaws.{sizes}
-use Rattle.scan.specs.Progress.{Progress, progress, readOn, resetOn}
+use Rattle.calls.proofs.CallLaws.{sizes, stop-answer, stop-cut}
+use Rattle.progress.specs.Progress.{Progress, progress, readOn, resetOn}
 use Rattle.mount.specs.Mount.{mountedState, blockOf}
 use Rattle.mount.proofs.MountLaws.{mark-bit}
 use Rattle.marks.specs.Marks.{marksRead}
 use Rattle.erasing.specs.Round.{Round, erasedTo}
 use Rattle.tables.specs.Tables.{Tabled, tabled, numbersLeft}
 use Rattle.format.specs.Format.{firstState, tooFew, stopped, tablesOf, tablesRun, roundRun, marksRun, formatRun}
-use Rattle.runs.specs.Run.{isReadEnd, failedIn, NoneFailed, Sound, Unchanged, Spent, readMost, fillMost, blockOn}
-use Rattle.runs.proofs.OutcomeLaws.{stop-answer, stop-cut}
+use Rattle.runs.specs.Run.{failedIn, NoneFailed, Sound, Unchanged, Spent, readMost, fillMost, blockOn}
 use Rattle.runs.proofs.PlaceLaws.{page-erased}
 use Rattle.runs.proofs.ReadLaws.{read-unchanged, read-spends, read-calm, reset-unchanged, reset-spends}
 use Rattle.runs.proofs.CopyLaws.{erased-unmarked}

@@ -13,47 +13,52 @@ use Rattle.geometry.specs.Sizes.{pageSize}
 use Rattle.geometry.proofs.SizeLaws.{page-size-most}
 use Rattle.cells.specs.Bytes.{Bytes}
 use Rattle.array.specs.Device.{Device, Setting}
-use Rattle.polling.specs.Polling.{isPassed}
+use Rattle.polling.specs.Outcomes.{isPassed}
 use Rattle.polling.specs.declared.Outcome.the-variants.{Passed}
 use Rattle.state.specs.declared.State.{State}
 use Rattle.found.specs.Found.{marksTo}
 use Rattle.calls.specs.Call.{sizedFor, callLine}
 use Rattle.calls.proofs.CallLaws.{sizes, called-sized}
-use Rattle.scan.specs.Progress.{Progress, progress, resetOn}
-use Rattle.scan.proofs.CountLaws.{allowance, reset-counts}
+use Rattle.progress.specs.Progress.{Progress, progress, resetOn}
+use Rattle.progress.specs.Kept.{Kept}
+use Rattle.progress.proofs.CountLaws.{allowance-kept}
 use Rattle.marks.specs.Marks.{marksRead}
 use Rattle.erasing.specs.Round.{erasedTo}
-use Rattle.tables.proofs.CountLaws.{tables-count}
+use Rattle.tables.proofs.KeepLaws.{tables-keep}
 use Rattle.format.specs.Format.{tooFew, tablesRun, roundRun, marksRun, formatRun, endOfRun, formatting}
-use Rattle.format.proofs.WholeLaws.{marks-count, round-count}
+use Rattle.marks.proofs.KeepLaws.{marks-keep}
+use Rattle.erasing.proofs.KeepLaws.{round-keeps}
 use Rattle.runs.specs.Run.{readMost, pageMost, fillMost}
 use Rattle.formatted.specs.Formatting.{blockMost, formatMost, Acknowledged, Formatting}
 use Rattle.formatted.proofs.FormatLaws.{format-leaves}
 
--- the cycles of a run and those left are as many as were allowed
-module _ (s : Setting) where
-  tables-run-count : (marked invalid : List ℕ) (above : ℕ) (p : Progress) → allowance (tablesRun s marked invalid above p .progress) ≡ allowance p
+-- what every operation keeps, a formatting keeps
+module _ (s : Setting) (P : Progress → Type 0) (k : Kept s P) where
+  tables-run-keeps : (marked invalid : List ℕ) (above : ℕ) (p : Progress) → P p → P (tablesRun s marked invalid above p .progress)
   unfolding tablesRun
-  tables-run-count marked invalid above p =
-      cases (tooFew (s .geometry) marked invalid) (λ t. rw t) (λ t. rw t (tables-count s _ _ _ p))
+  tables-run-keeps marked invalid above p h =
+      cases (tooFew (s .geometry) marked invalid) (λ t. rw t h) (λ t. rw t (tables-keep s P k _ _ _ p h))
 
-  round-run-count : (marked : List ℕ) (p : Progress) → allowance (roundRun s marked p .progress) ≡ allowance p
+  round-run-keeps : (marked : List ℕ) (p : Progress) → P p → P (roundRun s marked p .progress)
   unfolding roundRun
-  round-run-count marked p =
+  round-run-keeps marked p h =
       let r = erasedTo s marked (s .geometry .blocks) p in
-      let here = round-count s marked (s .geometry .blocks) p in
-      cases (isPassed (r .progress .outcome)) (λ t. rw t (tables-run-count marked (r .invalid) (r .above) (r .progress) ∙ here)) (λ t. rw t here)
+      let here = round-keeps s P k marked (s .geometry .blocks) p h in
+      cases (isPassed (r .progress .outcome)) (λ t. rw t (tables-run-keeps marked (r .invalid) (r .above) (r .progress) here)) (λ t. rw t here)
 
-  marks-run-count : (p : Progress) → allowance (marksRun s p .progress) ≡ allowance p
+  marks-run-keeps : (p : Progress) → P p → P (marksRun s p .progress)
   unfolding marksRun
-  marks-run-count p =
+  marks-run-keeps p h =
       let q = marksRead s (s .geometry .blocks) p in
-      let here = marks-count s (s .geometry .blocks) p in
-      cases (isPassed (q .outcome)) (λ t. rw t (round-run-count (marksTo (s .geometry) (q .line .chip .array) (s .geometry .blocks)) q ∙ here)) (λ t. rw t here)
+      let here = marks-keep s P k (s .geometry .blocks) p h in
+      cases (isPassed (q .outcome)) (λ t. rw t (round-run-keeps (marksTo (s .geometry) (q .line .chip .array) (s .geometry .blocks)) q here)) (λ t. rw t here)
+
+  pub format-keeps : (d : Device) (n : ℕ) → P (progress (callLine d n) Passed [] []) → P (formatRun s d n .progress)
+  format-keeps d n h = marks-run-keeps (resetOn s (progress (callLine d n) Passed [] [])) (k .reset (progress (callLine d n) Passed [] []) h)
 
 module _ (s : Setting) (d : Device) (n : ℕ) (mask-bytes : Bytes (s .mask)) (t : sizedFor s d ≡ true) where
   counted : length (formatRun s d n .progress .cycles) + formatRun s d n .progress .line .left ≡ n
-  counted = marks-run-count s (resetOn s (progress (callLine d n) Passed [] [])) ∙ reset-counts s (progress (callLine d n) Passed [] []) ∙ omega arith
+  counted = format-keeps s _ (allowance-kept s n) d n (omega arith)
 
   run-ends : Formatting s d n (endOfRun n (formatRun s d n))
   run-ends =

@@ -1,5 +1,4 @@
 pub mod SettledLaws
-pub mod BitmapLaws
 pub mod TablesLaws
 pub mod RoundLaws
 pub mod FormatLaws

@@ -17,42 +17,29 @@ use Rattle.geometry.specs.Limits.{Valid}
 use Rattle.geometry.specs.Sizes.{pageSize, blockSize}
 use Rattle.cells.specs.Bytes.{Bytes}
 use Rattle.cells.specs.Cells.{raised}
-use Rattle.cells.proofs.CellLaws.{getD-raised}
+use Rattle.cells.proofs.CellLaws.{getD-raised, or-full}
 use Rattle.bitmaps.specs.Bitmap.{bitAt, withBit}
 use Rattle.bitmaps.proofs.BitLaws.{bit-set, bit-kept}
 use Rattle.array.specs.Device.{Setting}
-use Rattle.polling.specs.Polling.{isPassed}
-use Rattle.polling.specs.declared.Outcome.{Outcome}
-use Rattle.polling.specs.declared.Outcome.the-variants.{Passed, Failed, Silent, Cut, Illegal}
+use Rattle.polling.specs.Outcomes.{isPassed, isFailed, isIllegal, isCut, isReadEnd}
 use Rattle.operations.specs.Ends.{Called}
 use Rattle.copies.specs.Blocks.{blockIn, markByte, isMarked, aboveTo}
 use Rattle.copies.proofs.PickLaws.{up-to}
-use Rattle.scan.specs.Progress.{Progress}
-use Rattle.scan.specs.Scan.{pagesRead}
-use Rattle.fill.specs.Steps.{eraseOn, resumed, isFailed}
-use Rattle.fill.proofs.StepLaws.{passed-answered, erase-stopped}
-use Rattle.fill.proofs.OutcomeLaws.{failed-answered}
+use Rattle.progress.specs.Progress.{Progress}
+use Rattle.block_scan.specs.Pages.{pagesRead}
+use Rattle.progress.specs.Steps.{eraseOn, resumed}
+use Rattle.polling.proofs.OutcomeLaws.{passed-answered, failed-answered, read-end-unfailed, failed-unpassed, unfailed-end}
+use Rattle.progress.proofs.StepLaws.{erase-stopped}
 use Rattle.erasing.specs.Round.{Round, round, afterErase, blockErased, failedAt, aboveAt, erasedTo}
-use Rattle.runs.specs.Run.{isIllegal, isCut, isReadEnd, failedIn, NoneFailed, Sound, Unchanged, Erased, Spent, readMost, blockOn}
+use Rattle.runs.specs.Run.{failedIn, NoneFailed, Sound, Unchanged, Erased, Spent, readMost, blockOn}
 use Rattle.runs.proofs.PlaceLaws.{block-long, page-within}
 use Rattle.runs.proofs.ReadLaws.{pages-unchanged, pages-spend, pages-calm}
-use Rattle.runs.proofs.TraceLaws.{read-end-unfailed, unfailed-none}
+use Rattle.runs.proofs.TraceLaws.{unfailed-none}
 use Rattle.runs.proofs.EraseLaws.{erase-leaves}
 use Rattle.runs.proofs.CopyLaws.{no-mark}
-use Rattle.formatted.proofs.BitmapLaws.{Bitmap}
+use Rattle.bitmaps.proofs.BitmapLaws.{Bitmap, bits-none, bits-more, bit-more}
 use Rattle.formatted.specs.Formatting.{blockMost}
 use Rattle.state.proofs.MountedLaws.{blank-clear}
-use Rattle.formatted.proofs.TablesLaws.{failed-unpassed}
-use Rattle.formatted.proofs.BitmapLaws.{bits-none, bits-more, bit-more, or-full}
-
--- an outcome that is neither failed nor illegal
-pub unfailed-end : (o : Outcome) → isIllegal o ≡ false → isFailed o ≡ false → isReadEnd o ≡ true
-unfolding isIllegal isFailed isReadEnd
-unfailed-end Passed k f = refl
-unfailed-end Failed k f = absurd (true≢false f)
-unfailed-end Silent k f = refl
-unfailed-end Cut k f = refl
-unfailed-end Illegal k f = absurd (true≢false k)
 
 -- a block without a factory mark has none where bits of it are raised
 module _ (g : Geometry) (v : Valid g) (row ms : List ℕ) (long : length row ≡ blockSize g) (bytes : Bytes ms) where

@@ -1,6 +1,6 @@
 -- On a settled array the table is current, lists what it should, and a mount succeeds. Assumes nothing.
 use Prim.Native.Nat.{ℕ, zero, suc, _+_, _-_, _*_, _/_, _≤_, _<_}
-use mathlib.Core.Bool.{Bool, true, false, cond, false≢true}
+use mathlib.Core.Bool.{true, false, cond, false≢true}
 use mathlib.Core.List.{List}
 use mathlib.Core.Path.{_≡_, refl, sym, ap, subst, _∙_}
 use native.Mathlib.Omega.{arith}
@@ -11,20 +11,20 @@ use lib.ListN.{length, getD, take, replicate, length-append, length-take, length
 use lib.Seq.{getD-append-add, take-at, length-take-le, getD-take, getD-drop, ext-getD}
 use Rattle.geometry.specs.declared.Geometry.{Geometry}
 use Rattle.geometry.specs.Limits.{Valid}
-use Rattle.geometry.proofs.LimitLaws.{both}
+use Rattle.bools.proofs.BoolLaws.{both, unless}
 use Rattle.cells.specs.Bytes.{Bytes}
 use Rattle.cells.specs.Part.{put}
 use Rattle.cells.proofs.PartLaws.{length-put}
 use Rattle.cells.proofs.CellLaws.{bytes-append, bytes-take, bytes-replicate}
-use Rattle.bitmaps.specs.Bitmap.{bitAt, clearFrom, countBits}
+use Rattle.bitmaps.specs.Bitmap.{bitAt, clearFrom, countBits, bitmapBytes}
 use Rattle.pages.specs.Layout.{Label, allOnes, bytesOf, numberWidth, tableKind, dataKind}
-use Rattle.pages.proofs.LayoutLaws.{bytes-bytesOf, length-bytesOf, allOnes-replicate, unless}
+use Rattle.pages.proofs.LayoutLaws.{bytes-bytesOf, length-bytesOf, allOnes-replicate}
 use Rattle.copies.specs.Blocks.{blockIn, pageIn, mainIn, labelIn, wholeIn, isMarked, agrees, isComplete, completeTo, isTable, isData, isCopyOf, aboveTo, above}
 use Rattle.copies.specs.Current as current
 use Rattle.copies.specs.Current.{currentTable, currentCopy, filledLast, nextNumber, aboveAll, numberAt, counts, unlisted, sharesNumber, clashesAt, clashes, judgeTable, mountAnswer, reading}
-use Rattle.copies.specs.Pick.{nothing, at, someBelow}
-use Rattle.copies.specs.Table.{bitmapBytes, bitmapOf, tablePage, header, lists, clearWhere, rightFirst, rightPage, rightTo, rightTable}
-use Rattle.copies.proofs.PickLaws.{picked-is}
+use Rattle.copies.specs.Pick.{nothing, at}
+use Rattle.copies.specs.Table.{bitmapOf, tablePage, header, lists, clearWhere, rightFirst, rightPage, rightTo, rightTable}
+use Rattle.copies.proofs.PickLaws.{picked-is, none-below}
 use Rattle.table.proofs.TableLaws.{table-right, valid-roomy, later-page, first-page}
 use Rattle.found.specs.Contents.{entryOf, tabulate, mapOf}
 use Rattle.found.specs.Found.{bitsAt}
@@ -34,7 +34,7 @@ use Rattle.runs.specs.Run.{Labelled}
 use Rattle.runs.proofs.CopyLaws.{erased-unwhole, erased-above, above-least, copy-label, copy-main, copy-complete, copy-above, copy-unmarked}
 use Rattle.geometry.specs.Sizes.{pageSize, chipSize}
 use Rattle.state.specs.State.{blank}
-use Rattle.formatted.proofs.BitmapLaws.{Bitmap}
+use Rattle.bitmaps.proofs.BitmapLaws.{Bitmap}
 
 -- a table under a number lists the invalid blocks; every other unmarked block is erased, or is listed and has no whole
 -- page with that number or a greater one
@@ -50,11 +50,6 @@ pub record Settled (g : Geometry) (array invalid : List ℕ) (table number : ℕ
       → (i : ℕ) → i < g .pages → pageIn g (blockIn g array b) i ≡ replicate (pageSize g) 255
   pub listed : (b : ℕ) → b < g .blocks → isMarked g (blockIn g array b) ≡ false → bitAt invalid b ≡ true → aboveTo g (blockIn g array b) (g .pages) ≤ number
   pub apart : (b : ℕ) → b < g .blocks → isMarked g (blockIn g array b) ≡ true → bitAt invalid b ≡ false
-
-none-below : (test : ℕ → Bool) (n : ℕ) → ((k : ℕ) → k < n → test k ≡ false) → someBelow test n ≡ false
-unfolding someBelow
-none-below test zero f = refl
-none-below test (suc n) f = rw (f n (omega arith)) (none-below test n (λ k h. f k (omega (arith, h))))
 
 -- main bytes of a table's pages
 pub table-label : (number : ℕ) → number < 4294967296 → Labelled (tableCopy number)

@@ -2,7 +2,7 @@
 use Prim.Native.Nat.{ℕ, zero, suc, _+_, _-_, _*_, _/_, _≤_, _<_}
 use mathlib.Core.Bool.{Bool, true, false, cond, true≢false, false≢true}
 use mathlib.Core.List.{List}
-use mathlib.Core.Logic.{_⊎_, ⊎-elim}
+use mathlib.Core.Logic.{⊎-elim}
 use mathlib.Core.Path.{_≡_, refl, sym, ap, subst, _∙_}
 use native.Mathlib.Nat.{suc-mul}
 use native.Mathlib.Numerals.{add-one}
@@ -18,12 +18,9 @@ use Rattle.cells.specs.Cells.{raised}
 use Rattle.bitmaps.specs.Bitmap.{bitAt, withBit}
 use Rattle.bitmaps.proofs.BitLaws.{bit-set, bit-kept}
 use Rattle.array.specs.Device.{Setting}
-use Rattle.polling.specs.Polling.{isPassed}
-use Rattle.polling.specs.declared.Outcome.{Outcome}
-use Rattle.polling.specs.declared.Outcome.the-variants.{Passed, Failed, Silent, Cut, Illegal}
+use Rattle.polling.specs.Outcomes.{isPassed, isFailed, isIllegal, isCut}
 use Rattle.operations.specs.Ends.{Called}
 use Rattle.pages.specs.Over.{Over}
-use Rattle.pages.proofs.LayoutLaws.{unless}
 use Rattle.copies.specs.Blocks.{pageIn, isMarked, aboveTo}
 use Rattle.choose.specs.Choose.{permitted, chosen, countPermitted}
 use Rattle.state.specs.State.{blank, withNumber, withInvalid, withTable}
@@ -31,30 +28,23 @@ use Rattle.state.specs.declared.State.{State}
 use Rattle.choose.specs.declared.Choice.{Choice}
 use Rattle.choose.specs.declared.Choice.the-variants.{Block, Worn}
 use Rattle.choose.proofs.ChooseLaws as choose
-use Rattle.calls.specs.Call.{stopAnswer}
-use Rattle.scan.specs.Progress.{Progress}
+use Rattle.calls.specs.Call.{stateFor}
+use Rattle.progress.specs.Progress.{Progress}
 use Rattle.fill.specs.Fill.{tableCopy, tableSource, tableMain, tableFilled, pageOf}
-use Rattle.fill.specs.Steps.{resumed, isFailed}
-use Rattle.fill.proofs.StepLaws.{passed-answered}
-use Rattle.fill.proofs.OutcomeLaws.{failed-answered}
-use Rattle.tables.specs.Tables.{Tried, tryBlock, tryTable, stateAfter, Tabled, tabled, endedBy, endAnswer, endState, tablesFilled}
-use Rattle.runs.specs.Run.{isIllegal, isCut, failedIn, Sound, Meant, from-caller, Filled, Spent, fillMost, blockOn, pageOn}
-use Rattle.runs.proofs.TraceLaws.{passed-unfailed, unfailed-none}
+use Rattle.progress.specs.Steps.{resumed}
+use Rattle.calls.proofs.CallLaws.{answer-most, answer-cut, answer-passed, answer-stopped}
+use Rattle.tables.proofs.AfterLaws.{after-passed, after-failed}
+use Rattle.polling.proofs.OutcomeLaws.{unfailed-end, failed-unpassed, passed-answered, failed-answered, passed-unfailed}
+use Rattle.tables.specs.Tables.{Tried, tryBlock, tryTable, afterFill, Tabled, tabled, endedBy, tablesFilled}
+use Rattle.runs.specs.Run.{failedIn, Sound, Meant, from-caller, Filled, Spent, fillMost, blockOn, pageOn}
+use Rattle.runs.proofs.TraceLaws.{unfailed-none}
 use Rattle.runs.proofs.PlaceLaws.{page-erased}
 use Rattle.runs.proofs.FillLaws.{fill-leaves, over-erased}
 use Rattle.runs.proofs.CopyLaws.{copy-long, copy-bytes, copy-unmarked, raised-above, raised-unmarked}
-use Rattle.formatted.proofs.BitmapLaws.{Bitmap}
-use Rattle.formatted.proofs.SettledLaws.{Settled}
-use Rattle.formatted.proofs.SettledLaws.{table-label, table-long, table-bytes}
-use Rattle.formatted.proofs.BitmapLaws.{bits-more, bit-more, raised-erased}
-
-pub failed-unpassed : (o : Outcome) → isFailed o ≡ true → isPassed o ≡ false
-unfolding isFailed isPassed
-failed-unpassed Passed t = absurd (false≢true t)
-failed-unpassed Failed t = refl
-failed-unpassed Silent t = refl
-failed-unpassed Cut t = refl
-failed-unpassed Illegal t = refl
+use Rattle.bitmaps.proofs.BitmapLaws.{Bitmap, bits-more, bit-more}
+use Rattle.cells.proofs.CellLaws.{raised-erased}
+use Rattle.formatted.proofs.SettledLaws.{Settled, table-label, table-long, table-bytes}
+use Rattle.choose.proofs.ChooseLaws.{by-choice, permitted-parts, count-less}
 
 -- before a table fill: every unmarked block is erased, or is invalid and has only lower numbers
 pub record Ready (s : Setting) (p : Progress) (st : State) : Type 0 where
@@ -249,96 +239,6 @@ module _ (s : Setting) (mask-bytes : Bytes (s .mask)) (st : State) (p : Progress
                 ∙ bit-more (st .invalid) b c byte-there;
           }
 
--- a choice is a block or none
-by-choice : {P : Type 0} (c : Choice) → (c ≡ Worn → P) → ((b : ℕ) → c ≡ Block b → P) → P
-by-choice Worn f g = f refl
-by-choice (Block b) f g = g b refl
-
-permitted-parts : (marked invalid held : List ℕ) (b : ℕ) → permitted marked invalid held b ≡ true → (bitAt marked b ≡ false) × (bitAt invalid b ≡ false)
-unfolding permitted
-permitted-parts marked invalid held b t =
-    let x = unless (bitAt marked b) _ t in
-    (x .0, unless (bitAt invalid b) _ (x .1) .0)
-
--- a block that is made invalid is permitted no more
-module _ (marked invalid held : List ℕ) (b : ℕ) (there : b / 8 < length invalid) where
-  permitted-other : (c : ℕ) → (c ≡ b → ⊥) → permitted marked (withBit invalid b) held c ≡ permitted marked invalid held c
-  unfolding permitted
-  permitted-other c x = rw (bit-kept invalid b c x)
-
-  permitted-gone : permitted marked (withBit invalid b) held b ≡ false
-  unfolding permitted
-  permitted-gone = cases (bitAt marked b) (λ t. rw t) (λ t. rw (t, bit-set invalid b there))
-
-  count-same : (n : ℕ) → n ≤ b → countPermitted marked (withBit invalid b) held n ≡ countPermitted marked invalid held n
-  unfolding countPermitted
-  count-same zero h = refl
-  count-same (suc n) h = rw (permitted-other n (λ e. omega (arith, e, h)), count-same n (omega (arith, h)))
-
-  count-less : permitted marked invalid held b ≡ true → (n : ℕ) → b < n → countPermitted marked (withBit invalid b) held n + 1 ≡ countPermitted marked invalid held n
-  unfolding countPermitted
-  count-less t zero h = absurd (omega (arith, h))
-  count-less t (suc n) h =
-      cases (eqb b n)
-      (λ e.
-      let same = eqb-true b n e in
-      let gone : permitted marked (withBit invalid b) held n ≡ false = ap (permitted marked (withBit invalid b) held) (sym same) ∙ permitted-gone in
-      let was : permitted marked invalid held n ≡ true = ap (permitted marked invalid held) (sym same) ∙ t in
-      rw (gone, was, count-same n (omega (arith, same))) (omega arith))
-      (λ e.
-      let x = eqb-false b n e in
-      let less = count-less t n (omega (arith, h, x)) in
-      rw (permitted-other n (λ y. x (sym y))) (omega (arith, less)))
-
--- an answer after a fill that did not fail
-end-most : (o : Outcome) → isIllegal o ≡ false → isFailed o ≡ false → endAnswer o ≤ 11
-unfolding isIllegal isFailed endAnswer isPassed stopAnswer
-end-most Passed k f = omega arith
-end-most Failed k f = absurd (true≢false f)
-end-most Silent k f = omega arith
-end-most Cut k f = omega arith
-end-most Illegal k f = absurd (true≢false k)
-
-after-failed : (b : ℕ) (st : State) (o : Outcome) → isFailed o ≡ true → stateAfter b o st ≡ withInvalid b st
-unfolding isFailed stateAfter
-after-failed b st Passed t = absurd (false≢true t)
-after-failed b st Failed t = refl
-after-failed b st Silent t = absurd (false≢true t)
-after-failed b st Cut t = absurd (false≢true t)
-after-failed b st Illegal t = absurd (false≢true t)
-
-after-passed : (b : ℕ) (st : State) (o : Outcome) → isPassed o ≡ true → stateAfter b o st ≡ withTable b st
-unfolding isPassed stateAfter
-after-passed b st Passed t = refl
-after-passed b st Failed t = absurd (false≢true t)
-after-passed b st Silent t = absurd (false≢true t)
-after-passed b st Cut t = absurd (false≢true t)
-after-passed b st Illegal t = absurd (false≢true t)
-
-end-cut : (o : Outcome) → endAnswer o ≡ 11 → isCut o ≡ true
-unfolding endAnswer isPassed stopAnswer isCut
-end-cut Passed z = absurd (omega (arith, z))
-end-cut Failed z = absurd (omega (arith, z))
-end-cut Silent z = absurd (omega (arith, z))
-end-cut Cut z = refl
-end-cut Illegal z = absurd (omega (arith, z))
-
-end-stopped : (o : Outcome) (st : State) → (endAnswer o ≡ 0 → ⊥) → endState o st ≡ blank 2
-unfolding endAnswer endState isPassed
-end-stopped Passed st x = absurd (x refl)
-end-stopped Failed st x = refl
-end-stopped Silent st x = refl
-end-stopped Cut st x = refl
-end-stopped Illegal st x = refl
-
-end-passed : (o : Outcome) → endAnswer o ≡ 0 → isPassed o ≡ true
-unfolding endAnswer isPassed stopAnswer
-end-passed Passed z = refl
-end-passed Failed z = absurd (omega (arith, z))
-end-passed Silent z = absurd (omega (arith, z))
-end-passed Cut z = absurd (omega (arith, z))
-end-passed Illegal z = absurd (omega (arith, z))
-
 module _ (s : Setting) (mask-bytes : Bytes (s .mask)) (held : List ℕ) where
   -- what one try makes of it
   after-try : ℕ → Tried → Tabled
@@ -405,7 +305,7 @@ module _ (s : Setting) (mask-bytes : Bytes (s .mask)) (held : List ℕ) where
       unfolding after-try tryBlock
       failed-is w = rw w (ap (λ (x : State). tablesFilled s held k x (resumed ended)) (sym (after-failed b taken (ended .outcome) w)))
 
-      ended-is : isFailed (ended .outcome) ≡ false → endedBy ended (stateAfter b (ended .outcome) taken) ≡ after-try k (tryBlock s st p (Block b))
+      ended-is : isFailed (ended .outcome) ≡ false → endedBy ended (afterFill b (ended .outcome) taken) ≡ after-try k (tryBlock s st p (Block b))
       unfolding after-try tryBlock
       ended-is f = rw f
 
@@ -435,18 +335,17 @@ module _ (s : Setting) (mask-bytes : Bytes (s .mask)) (held : List ℕ) where
             spent = omega (arith, x .spent, block-left .spent, one-less, one-fill);
           }
 
-      ends-so : isFailed (ended .outcome) ≡ false → Left s held st p (endedBy ended (stateAfter b (ended .outcome) taken))
-      unfolding endState
+      ends-so : isFailed (ended .outcome) ≡ false → Left s held st p (endedBy ended (afterFill b (ended .outcome) taken))
       ends-so f =
           record {
             sound = block-left .sound;
-            answers = end-most (ended .outcome) (block-left .sound .known) f;
-            used-up = λ z. block-left .sound .used-up (end-cut (ended .outcome) z);
-            stopped = end-stopped (ended .outcome) (stateAfter b (ended .outcome) taken);
+            answers = answer-most (ended .outcome) (unfailed-end (ended .outcome) (block-left .sound .known) f);
+            used-up = λ z. block-left .sound .used-up (answer-cut (ended .outcome) z);
+            stopped = answer-stopped (ended .outcome) (afterFill b (ended .outcome) taken);
             marked-kept = kept-marked;
             done = λ z.
-                let y = end-passed (ended .outcome) z in
-                let state-is : endState (ended .outcome) (stateAfter b (ended .outcome) taken) ≡ withTable b taken = rw y (after-passed b taken (ended .outcome) y) in
+                let y = answer-passed (ended .outcome) z in
+                let state-is : stateFor (ended .outcome) (afterFill b (ended .outcome) taken) ≡ withTable b taken = rw y (after-passed b taken (ended .outcome) y) in
                 subst (Done s st ended) (sym state-is) (done-so s mask-bytes st p r number-fits b below (free .0) (free .1) y);
             spent = omega (arith, block-left .spent, one-less, one-fill);
           }

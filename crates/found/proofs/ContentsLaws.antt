@@ -7,7 +7,7 @@ use native.Mathlib.Numerals.{add-one}
 use borrow.Author.Tests.{eq-eqb, ne-eqb, lt-ltb, le-ltb, eqb-true, ltb-true}
 use lib.Dec.{eqb, leb, ltb}
 use lib.ListN.{getD, set}
-use Rattle.geometry.proofs.LimitLaws.{both}
+use Rattle.bools.proofs.BoolLaws.{both}
 use Rattle.bitmaps.specs.Bitmap.{bitAt}
 use Rattle.copies.specs.Pick.{someBelow}
 use Rattle.found.specs.Contents.{Contents, counted, bears, pastLast, clashing, replaces, isCandidate, entryNoted, mapTo}

@@ -9,7 +9,7 @@ use borrow.Table.Steps.{cases}
 use borrow.Author.Tests.{eq-eqb, ne-eqb, lt-ltb, le-ltb, eqb-true, eqb-false, ltb-true, ltb-false}
 use lib.Dec.{eqb, ltb}
 use Rattle.geometry.specs.declared.Geometry.{Geometry}
-use Rattle.geometry.proofs.LimitLaws.{both}
+use Rattle.bools.proofs.BoolLaws.{both}
 use Rattle.pages.proofs.LayoutLaws.{positive}
 use Rattle.copies.specs.Blocks.{blockIn, isMarked, isComplete, isTable, above}
 use Rattle.copies.specs.Current.{numberAt, aboveAll}

@@ -12,7 +12,7 @@ use lib.Seq.{getD-set-same, getD-set-other, getD-append-add, ext-getD}
 use Rattle.geometry.specs.declared.Geometry.{Geometry}
 use Rattle.geometry.specs.Limits.{Valid}
 use Rattle.geometry.specs.Sizes.{chipSize}
-use Rattle.geometry.proofs.LimitLaws.{both}
+use Rattle.bools.proofs.BoolLaws.{both}
 use Rattle.copies.specs.Blocks.{blockIn, isComplete, isData, isCopyOf, labelIn}
 use Rattle.copies.specs.Current.{numberAt, unlisted, counts, currentCopy}
 use Rattle.copies.specs.Pick.{Pick, nothing, at, better, pick, Picked}

@@ -13,15 +13,15 @@ use lib.Seq.{getD-set-same, getD-set-other, length-take-le}
 use Rattle.geometry.specs.declared.Geometry.{Geometry}
 use Rattle.geometry.specs.Limits.{Valid}
 use Rattle.geometry.specs.Sizes.{pageSize, blockSize, chipSize}
-use Rattle.geometry.proofs.LimitLaws.{both}
+use Rattle.bools.proofs.BoolLaws.{both}
 use Rattle.geometry.proofs.SizeLaws.{block-within}
 use Rattle.cells.proofs.PartLaws.{length-part}
-use Rattle.bitmaps.specs.Bitmap.{bitAt, bitIn, placeOf}
+use Rattle.bitmaps.specs.Bitmap.{bitAt, bitIn, placeOf, bitmapBytes}
 use Rattle.cells.specs.Part.{put}
 use Rattle.copies.specs.Blocks.{blockIn, pageIn, mainIn, isComplete, isData, labelIn}
 use Rattle.copies.specs.Current.{numberAt, unlisted, counts, sharesNumber, clashesAt, clashes}
 use Rattle.copies.specs.Pick.{someBelow}
-use Rattle.copies.specs.Table.{bitmapBytes, bitmapOf, lists}
+use Rattle.copies.specs.Table.{bitmapOf, lists}
 use Rattle.table.proofs.TableLaws.{valid-roomy}
 use Rattle.summary.proofs.BlockLaws.{says-complete, complete-label}
 use Rattle.copies.proofs.PickLaws.{up-to, some-same}

@@ -1,22 +1,13 @@
 -- The test of a geometry's limits and the facts it stands for.
 use Prim.Native.Nat.{ℕ, _≤_}
-use mathlib.Core.Bool.{Bool, true, false, cond, false≢true}
-use mathlib.Core.Path.{_≡_, refl}
+use mathlib.Core.Bool.{true}
+use mathlib.Core.Path.{_≡_}
 use native.Mathlib.Omega.{arith}
 use borrow.Author.Tests.{eqb-true, leb-true, le-leb}
 use lib.Dec.{eqb}
 use Rattle.geometry.specs.declared.Geometry.{Geometry}
 use Rattle.geometry.specs.Limits.{pageCount, valid, Valid}
-
--- a chain of tests, each of which must hold
-pub both : (b x : Bool) → cond b x false ≡ true → (b ≡ true) × (x ≡ true)
-both true x h = (refl, h)
-both false x h = absurd (false≢true h)
-
--- a chain of tests, one of which must hold
-pub either : (b x : Bool) (P : Type 0) → (b ≡ true → P) → (x ≡ true → P) → cond b true x ≡ true → P
-either true x P f g h = f refl
-either false x P f g h = g h
+use Rattle.bools.proofs.BoolLaws.{both, either}
 
 pub page-count-bounds : (n : ℕ) → pageCount n ≡ true → (4 ≤ n) × (n ≤ 64)
 page-count-bounds n =

@@ -19,7 +19,7 @@ use Rattle.bitmaps.specs.Bitmap.{withBit}
 use Rattle.array.specs.Device.{Setting}
 use Rattle.chip.specs.Chip.{Cycle}
 use Rattle.bus.specs.Line.{Line, sendAll}
-use Rattle.polling.specs.Polling.{isPassed}
+use Rattle.polling.specs.Outcomes.{isPassed}
 use Rattle.polling.specs.declared.Outcome.{Outcome}
 use Rattle.polling.specs.declared.Outcome.the-variants.{Passed}
 use Rattle.sequences.specs.Cycles.{readCycles, readOutcome, readOutputs}
@@ -27,9 +27,10 @@ use Rattle.operations.specs.Ends.{Called, CanRead}
 use Rattle.operations.specs.Trace.{ArrayOperation}
 use Rattle.copies.specs.Blocks.{blockIn, markByte, isMarked}
 use Rattle.found.specs.Found.{marksTo}
-use Rattle.scan.specs.Progress.{Progress, progress, readOn}
-use Rattle.scan.proofs.ReadOnLaws.{read-leaves, read-line, read-outcome, read-stopped, is-passed, same-progress}
-use Rattle.scan.proofs.ScanLaws.{row-is-page}
+use Rattle.progress.specs.Progress.{Progress, progress, readOn}
+use Rattle.progress.proofs.ReadOnLaws.{read-leaves, read-line, read-outcome, read-stopped, same-progress}
+use Rattle.polling.proofs.OutcomeLaws.{is-passed}
+use Rattle.copies.proofs.PlaceLaws.{row-is-page}
 use Rattle.marks.specs.Marks.{MarkRead, MarksFound, marksRead}
 
 -- a byte of a part

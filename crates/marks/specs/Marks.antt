@@ -5,7 +5,7 @@ use mathlib.Core.List.{List}
 use mathlib.Core.Path.{_≡_}
 use Rattle.geometry.specs.Sizes.{rowOf}
 use Rattle.array.specs.Device.{Setting}
-use Rattle.polling.specs.Polling.{isPassed}
+use Rattle.polling.specs.Outcomes.{isPassed}
 use Rattle.polling.specs.declared.Outcome.{Outcome}
 use Rattle.polling.specs.declared.Outcome.the-variants.{Passed}
 use Rattle.chip.specs.Chip.{Cycle}
@@ -13,7 +13,7 @@ use Rattle.bus.specs.Line.{Line}
 use Rattle.operations.specs.Ends.{Called}
 use Rattle.operations.specs.Trace.{ArrayOperation}
 use Rattle.copies.specs.Blocks.{blockIn, markByte}
-use Rattle.scan.specs.Progress.{Progress, progress, readOn}
+use Rattle.progress.specs.Progress.{Progress, progress, readOn}
 use Rattle.found.specs.Found.{marksTo}
 
 -- the mark bytes of pages 0 and 1 of the first n blocks, one byte each

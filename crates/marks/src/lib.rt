@@ -8,7 +8,6 @@ ghost use mathlib.Core.Path.{_≡_};
 ghost use Prim.Native.Nat.{_<_};
 ghost use Rattle.array.specs.Device.{setting};
 ghost use Rattle.bus.specs.Line.{line};
-ghost use Rattle.polling.specs.declared.Outcome.the-variants.{Passed};
 ghost use Rattle.operations.specs.Ends.{Called};
 ghost use Rattle.bitmaps.specs.Bitmap.{withBit};
 ghost use Rattle.marks.specs.Marks.{MarkRead, MarksFound};

@@ -2,7 +2,8 @@
 use Prim.Native.Nat.{ℕ, _≤_}
 use mathlib.Core.Bool.{true, false}
 use mathlib.Core.List.{List, []}
-use mathlib.Core.Path.{_≡_, sym, ap, ap₂, _∙_}
+use mathlib.Core.Path.{_≡_, refl, sym, ap, ap₂, _∙_}
+use native.Mathlib.Nat.{add-zero}
 use native.Mathlib.Omega.{arith}
 use borrow.Author.Tests.{eq-eqb, ne-eqb}
 use lib.ListN.{length, replicate, length-replicate}
@@ -11,7 +12,7 @@ use Rattle.geometry.specs.Limits.{Valid}
 use Rattle.geometry.specs.Sizes.{chipSize}
 use Rattle.array.specs.Device.{Setting}
 use Rattle.bus.specs.Line.{Line}
-use Rattle.polling.specs.Polling.{isPassed}
+use Rattle.polling.specs.Outcomes.{isPassed}
 use Rattle.polling.specs.declared.Outcome.{Outcome}
 use Rattle.polling.specs.declared.Outcome.the-variants.{Passed}
 use Rattle.copies.specs.Current.{mountAnswer}
@@ -20,9 +21,12 @@ use Rattle.state.specs.declared.State.{State}
 use Rattle.found.specs.Contents.{Contents, contents, contentsTo}
 use Rattle.found.specs.Found.{foundTo}
 use Rattle.found.specs.declared.Found.{Found}
-use Rattle.scan.specs.Progress.{Progress, progress}
+use Rattle.progress.specs.Progress.{Progress, progress}
 use Rattle.scan.specs.Scan.{blocksRead}
-use Rattle.scan.proofs.CountLaws.{blocks-count}
+use Rattle.scan.proofs.ChipLaws.{blocks-stopped}
+use Rattle.calls.proofs.StartLaws.{Stops}
+use Rattle.scan.proofs.KeepLaws.{blocks-keep}
+use Rattle.progress.proofs.CountLaws.{allowance-kept}
 use Rattle.calls.specs.Call.{endAt, stopAnswer}
 use Rattle.judging.specs.Judging.{judgedBy, stateOf}
 use Rattle.mount.specs.Mount.{mountEnd, stateAfter, mountedState}
@@ -31,7 +35,7 @@ use Rattle.mount.proofs.MountLaws.{judge-is, state-is}
 -- a scan leaves no more cycles than it found
 pub scan-left : (s : Setting) (l m : Line) (n : ℕ) → m ≡ blocksRead s n (progress l Passed [] []) .line → m .left ≤ l .left
 scan-left s l m n e =
-    let count = blocks-count s n (progress l Passed [] []) in
+    let count = blocks-keep s _ (allowance-kept s _) n (progress l Passed [] []) refl in
     omega (arith, count, ap (λ (x : Line). x .left) e)
 
 -- a request that has come to line m with outcome o
@@ -88,3 +92,10 @@ module _ (g : Geometry) (v : Valid g) (array after : List ℕ) (long : length ar
 -- the buffers for what is found
 pub room : (n : ℕ) → n ≤ 4096 → n ≤ length (replicate {A = ℕ} 4096 0)
 room n h = omega (arith, h, length-replicate {A = ℕ} 4096 0)
+
+-- a mount ends at the operation that did not pass
+pub mount-stops : (s : Setting) (n : ℕ) → Stops n (λ p. mountEnd s n (blocksRead s (s .geometry .blocks) p))
+unfolding mountEnd blocksRead
+mount-stops s n p f =
+    let same : blocksRead s (s .geometry .blocks) p ≡ p = sym (ap (λ (x : ℕ). blocksRead s x p) (add-zero (s .geometry .blocks))) ∙ blocks-stopped s 0 p f (s .geometry .blocks) in
+    ap (mountEnd s n) same ∙ rw f

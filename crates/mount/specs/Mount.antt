@@ -6,7 +6,7 @@ use lib.Dec.{eqb}
 use Rattle.geometry.specs.declared.Geometry.{Geometry}
 use Rattle.array.specs.Device.{Device, Setting}
 use Rattle.bus.specs.Line.{Line}
-use Rattle.polling.specs.Polling.{isPassed}
+use Rattle.polling.specs.Outcomes.{isPassed}
 use Rattle.polling.specs.declared.Outcome.the-variants.{Passed}
 use Rattle.copies.specs.Current.{currentTable, filledLast, nextNumber, mountAnswer}
 use Rattle.copies.specs.Pick.{Pick, nothing, at}
@@ -14,7 +14,7 @@ use Rattle.state.specs.State.{blank}
 use Rattle.state.specs.declared.State.{State}
 use Rattle.found.specs.Contents.{mapOf}
 use Rattle.found.specs.Found.{bitsAt, marksTo}
-use Rattle.scan.specs.Progress.{Progress, progress, resetOn}
+use Rattle.progress.specs.Progress.{Progress, progress, resetOn}
 use Rattle.scan.specs.Scan.{blocksRead}
 use Rattle.calls.specs.Call.{Result, result, sizedFor, callLine, stopAnswer, endAt}
 

@@ -2,8 +2,8 @@
 use Prim.Native.Nat.{ℕ, _+_, _≤_}
 use mathlib.Core.Bool.{Bool, true, false, cond}
 use mathlib.Core.List.{List, []}
-use mathlib.Core.Logic.{_⊎_, ⊎-elim}
-use mathlib.Core.Path.{_≡_, refl, ap, subst, _∙_}
+use mathlib.Core.Logic.{⊎-elim}
+use mathlib.Core.Path.{_≡_, refl, ap, subst}
 use native.Mathlib.Nat.{mul-le-mul}
 use native.Mathlib.Omega.{arith}
 use borrow.Table.Steps.{cases}
@@ -13,7 +13,7 @@ use Rattle.geometry.specs.Limits.{Valid}
 use Rattle.geometry.specs.Sizes.{pageSize}
 use Rattle.geometry.proofs.SizeLaws.{page-size-most}
 use Rattle.array.specs.Device.{Device, Setting}
-use Rattle.polling.specs.Polling.{isPassed}
+use Rattle.polling.specs.Outcomes.{isPassed}
 use Rattle.polling.specs.declared.Outcome.the-variants.{Passed}
 use Rattle.copies.specs.Blocks.{blockIn, isMarked}
 use Rattle.copies.specs.Current.{currentTable, judgeTable, mountAnswer, clashes}
@@ -22,13 +22,15 @@ use Rattle.copies.specs.Table.{lists, rightTable}
 use Rattle.state.specs.State.{blank}
 use Rattle.state.specs.declared.State.{State}
 use Rattle.calls.specs.Call.{sizedFor, callLine, stopAnswer, endAt}
-use Rattle.calls.proofs.CallLaws.{sizes, called-sized}
-use Rattle.scan.specs.Progress.{Progress, progress, resetOn}
-use Rattle.scan.proofs.CountLaws.{allowance, blocks-count, reset-counts}
-use Rattle.fill.proofs.StepLaws.{passed-answered}
+use Rattle.calls.proofs.CallLaws.{sizes, called-sized, stop-answer, stop-cut}
+use Rattle.progress.specs.Progress.{Progress, progress, resetOn}
+use Rattle.bus.specs.Line.{Line}
+use Rattle.progress.specs.Kept.{Kept}
+use Rattle.progress.proofs.CountLaws.{allowance-kept}
+use Rattle.scan.proofs.KeepLaws.{blocks-keep}
+use Rattle.polling.proofs.OutcomeLaws.{passed-answered}
 use Rattle.mount.specs.Mount.{stateAfter, mountRun, mountEnd, mounting}
 use Rattle.runs.specs.Run.{Unchanged, readMost}
-use Rattle.runs.proofs.OutcomeLaws.{stop-answer, stop-cut}
 use Rattle.runs.proofs.ReadLaws.{blocks-unchanged, blocks-spend, reset-unchanged, reset-spends}
 use Rattle.mounted.specs.Mounting.{mountMost, Mounting}
 
@@ -49,6 +51,10 @@ pub answer-most : (g : Geometry) (array : List ℕ) → mountAnswer g array ≤ 
 unfolding mountAnswer
 answer-most g array = judge-most g array (currentTable g array)
 
+-- what every operation keeps, a mount keeps
+pub mount-keeps : (s : Setting) (P : Progress → Type 0) → Kept s P → (l : Line) → P (progress l Passed [] []) → P (mountRun s l)
+mount-keeps s P k l h = blocks-keep s P k (s .geometry .blocks) (resetOn s (progress l Passed [] [])) (k .reset (progress l Passed [] []) h)
+
 module _ (s : Setting) (d : Device) (n : ℕ) (t : sizedFor s d ≡ true) where
   abbrev g : Geometry
   g = s .geometry
@@ -66,7 +72,7 @@ module _ (s : Setting) (d : Device) (n : ℕ) (t : sizedFor s d ≡ true) where
   few = omega (arith, reset-spends s d n t, blocks-spend s (d .array) (d .history) v (g .blocks) (omega arith) _ (reset-unchanged s d n t))
 
   counted : length (run .cycles) + run .line .left ≡ n
-  counted = blocks-count s (g .blocks) (resetOn s (progress (callLine d n) Passed [] [])) ∙ reset-counts s (progress (callLine d n) Passed [] []) ∙ omega arith
+  counted = mount-keeps s _ (allowance-kept s n) (callLine d n) (omega arith)
 
   run-sized : isPassed (run .outcome) ≡ true → sizedFor s (run .line .chip) ≡ true
   run-sized y = called-sized s (run .line) (same .sound .called (passed-answered (run .outcome) y))

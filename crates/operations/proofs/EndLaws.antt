@@ -16,7 +16,8 @@ use Rattle.chip.specs.Chip.{Cycle}
 use Rattle.bus.specs.Line.{Line, run, sendAll, uncutLine, Quiet}
 use Rattle.polling.specs.Polling.{outcomeOf}
 use Rattle.sequences.specs.Cycles.{confirmedCycles}
-use Rattle.operations.specs.Ends.{Called, End, endOf, confirmedEnd, endsAs, answered, wordFor, totalFor}
+use Rattle.operations.specs.Ends.{Called, End, endOf, confirmedEnd, endsAs, wordFor, totalFor}
+use Rattle.polling.specs.Outcomes.{answered}
 use Rattle.operations.proofs.ConfirmLaws.{Confirmed, through, silent, early-cut, late-cut}
 
 pub same-end : {x y : End} → x .outcome ≡ y .outcome → x .array ≡ y .array → x .history ≡ y .history → x .left ≡ y .left → x .fate ≡ y .fate → x ≡ y

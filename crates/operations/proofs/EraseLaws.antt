@@ -24,7 +24,8 @@ use Rattle.bus.proofs.QuietLaws.{quiet-run, still-take, still-address}
 use Rattle.bus.proofs.StepLaws.{busyWith, begin-erase, three-bytes, confirm-erase}
 use Rattle.sequences.specs.Cycles.{eraseAddress, rowCycles, eraseCycles}
 use Rattle.operations.specs.Trace.{eraseStarts}
-use Rattle.operations.specs.Ends.{Called, CanErase, endOf, endsAs, answered, confirmedEnd, eraseEnd, wordFor}
+use Rattle.operations.specs.Ends.{Called, CanErase, endOf, endsAs, confirmedEnd, eraseEnd, wordFor}
+use Rattle.polling.specs.Outcomes.{answered}
 use Rattle.operations.proofs.CallLaws.{uncut-is, fitting-holds, row-is, address-holds, arms, part-arms}
 use Rattle.operations.proofs.TraceLaws.{effect-starts}
 use Rattle.operations.proofs.ConfirmLaws.{confirmed-legal}

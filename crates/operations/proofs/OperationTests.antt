@@ -11,7 +11,8 @@ use Rattle.array.specs.Device.{Setting, device, setting, fitting, readStarted, 
 use Rattle.chip.specs.Chip.{isConfirm, confirmed, confirmable, commanded, dataTaken, dataGiven, dataByte, finished, statusRead, exec}
 use Rattle.chip.specs.Chip.Cycle.{command, address, status}
 use Rattle.bus.specs.Line.{Line, mayGo, cutAfter, send, sendAll, sent, goesOn, byteOut, uncutLine}
-use Rattle.polling.specs.Polling.{waiting, polls, outcomeOf, isPassed}
+use Rattle.polling.specs.Polling.{waiting, polls, outcomeOf}
+use Rattle.polling.specs.Outcomes.{isPassed}
 use Rattle.sequences.specs.Cycles.{readCycles, readOutputs, outputs, programCycles, eraseCycles}
 use Rattle.operations.specs.Trace.{eraseSends, programSends, readSends}
 use Rattle.polling.specs.declared.Outcome.the-variants.{Passed, Silent, Cut, Illegal}

@@ -24,7 +24,8 @@ use Rattle.bus.proofs.QuietLaws.{quiet-run, still-take, still-append, still-add
 use Rattle.bus.proofs.StepLaws.{atColumn, busyWith, begin-program, five-bytes, data-taken, confirm-program}
 use Rattle.sequences.specs.Cycles.{programData, addressCycles, programCycles}
 use Rattle.operations.specs.Trace.{programStarts}
-use Rattle.operations.specs.Ends.{Called, CanProgram, endOf, endsAs, answered, confirmedEnd, programEnd, wordFor}
+use Rattle.operations.specs.Ends.{Called, CanProgram, endOf, endsAs, confirmedEnd, programEnd, wordFor}
+use Rattle.polling.specs.Outcomes.{answered}
 use Rattle.operations.proofs.CallLaws.{uncut-is, fitting-holds, column-is, row-is, address-holds, arms, part-arms}
 use Rattle.operations.proofs.EndLaws.{Effect, effect-ends, effect-next}
 use Rattle.operations.proofs.TraceLaws.{effect-starts}

@@ -25,7 +25,8 @@ use Rattle.bus.proofs.LineLaws.{sendAll-append, run-uncut, run-cut, send-one, s
 use Rattle.bus.proofs.LegalLaws.{legal-run, legal-take}
 use Rattle.bus.proofs.QuietLaws.{quiet-run, still-take, still-address, still-out}
 use Rattle.bus.proofs.StepLaws.{atColumn, busyWith, begin-read, resume-output, five-bytes, confirm-read, one-out, data-given}
-use Rattle.polling.specs.Polling.{isPassed, outcomeOf, endedAs}
+use Rattle.polling.specs.Outcomes.{isPassed}
+use Rattle.polling.specs.Polling.{outcomeOf, endedAs}
 use Rattle.sequences.specs.Cycles.{readAddress, addressCycles, rowCycles, pageRead, pageLine, readCycles, readOutcome, readOutputs, outputs}
 use Rattle.operations.specs.Trace.{readStarts}
 use Rattle.operations.specs.Ends.{Called, CanRead, End, endOf, endsAs, passes, confirmedEnd, readEnd, endOfRead, readTotal, totalFor, wordFor}

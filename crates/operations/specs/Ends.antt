@@ -1,6 +1,6 @@
 -- How each operation ends, told without its cycles: the outcome, the array and the history that it leaves, and the cycles it sends.
 use Prim.Native.Nat.{ℕ, _+_, _-_, _*_, _≤_, _<_}
-use mathlib.Core.Bool.{Bool, true, false, cond}
+use mathlib.Core.Bool.{Bool, false, cond}
 use mathlib.Core.List.{List}
 use mathlib.Core.Path.{_≡_}
 use lib.Dec.{eqb, leb, ltb}
@@ -15,7 +15,7 @@ use Rattle.bus.specs.Line.{Line, sendAll}
 use Rattle.polling.specs.Polling.{outcomeOf, endedAs}
 use Rattle.sequences.specs.Cycles.{resetCycles, readCycles, readOutcome}
 use Rattle.polling.specs.declared.Outcome.{Outcome}
-use Rattle.polling.specs.declared.Outcome.the-variants.{Passed, Failed, Silent, Cut, Illegal}
+use Rattle.polling.specs.declared.Outcome.the-variants.{Passed, Failed, Silent, Cut}
 
 -- the chip as the store calls it: all lengths fit, no command under way, nothing refused or cut
 pub record Called (s : Setting) (l : Line) : Type 0 where
@@ -69,14 +69,6 @@ endsAs s l op m =
     (cond (ltb (busyOf (wordFor s (l .chip))) 256)
     (cond (eqb (failedFor op (wordFor s (l .chip))) 0) Passed Failed)
     Silent)
-
--- ready was reported: the chip takes the next command
-unfoldable pub answered : Outcome → Bool
-answered Passed = true
-answered Failed = true
-answered Silent = false
-answered Cut = false
-answered Illegal = false
 
 -- cut before the confirm cycle nothing changes; from then on a₁ and h₁ hold, and a₂ and h₂ if it passes
 unfoldable pub confirmedEnd : Setting → Line → ℕ → ℕ → List ℕ → List ℕ → List ℕ → List ℕ → End

@@ -12,7 +12,7 @@ use lib.ListN.{length, getD, take, drop, replicate, length-append, length-replic
 use lib.Seq.{take-at, drop-at, take-append-seam, drop-append-seam, getD-drop, drop-drop}
 use Rattle.cells.specs.Bytes.{Bytes}
 use Rattle.cells.proofs.CellLaws.{bytes-append, bytes-replicate}
-use Rattle.geometry.proofs.LimitLaws.{both}
+use Rattle.bools.proofs.BoolLaws.{both, unless}
 use Rattle.pages.specs.Check.{zeroBits}
 use Rattle.pages.specs.Layout.{Label, label, Fits, numberWidth, checkAt, restAt, bytesOf, numberOf, labelBytes, encoded, spareOf, kindOf, widthOf, labelOf, allOnes, storedCheck, countedCheck, whole}
 use Rattle.pages.specs.Over.{Over, none, more}
@@ -136,11 +136,6 @@ pub record Parts (main : ℕ) (p : List ℕ) : Type 0 where
 pub positive : (n : ℕ) → eqb n 0 ≡ false → 0 < n
 positive zero h = absurd (true≢false h)
 positive (suc n) h = omega arith
-
--- a test that must fail
-pub unless : (b x : Bool) → cond b false x ≡ true → (b ≡ false) × (x ≡ true)
-unless true x h = absurd (true≢false (sym h))
-unless false x h = (refl, h)
 
 pub whole-parts : (main : ℕ) (p : List ℕ) → whole main p ≡ true → Parts main p
 unfolding whole
@@ -272,20 +267,7 @@ whole-width main p h = width-four (kindOf main p) (whole-parts main p h .width)
 pub whole-over-any : (main : ℕ) {e p : List ℕ} → Over e p → whole main e ≡ true → whole main p ≡ true → p ≡ e
 whole-over-any main {e} {p} o a b = whole-over main o a b (whole-width main p b ∙ sym (whole-width main e a))
 
--- what is left of an encoded page is whole only if no bit of it was raised
-pub raised-whole : (spare : ℕ) (l : Label) (main p : List ℕ)
-    → Fits l
-    → restAt (numberWidth (l .kind)) ≤ spare
-    → 8 * (length main + 5 + numberWidth (l .kind)) < 65536
-    → Bytes main
-    → Over (encoded spare l main) p
-    → whole (length main) p ≡ true
-    → widthOf (length main) p ≡ numberWidth (l .kind)
-    → p ≡ encoded spare l main
-raised-whole spare l main p f r h b o a e =
-    whole-over (length main) o (encoded-whole spare l main f r h) a (e ∙ sym (encoded-width spare l main))
-
--- and so whatever kind it says it is
+-- what is left of an encoded page is whole only if no bit of it was raised, whatever kind it says it is
 pub raised-whole-any : (spare : ℕ) (l : Label) (main p : List ℕ)
     → Fits l
     → restAt (numberWidth (l .kind)) ≤ spare

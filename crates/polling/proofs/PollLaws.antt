@@ -1,12 +1,10 @@
 -- Laws of status reads: what the status byte tells of the line, and which cycles a poll sends. Assumes nothing.
 use Prim.Native.Nat.{ℕ, zero, suc, _+_, _-_, _*_, _/_, _%_, _<_, _≤_}
 use mathlib.Core.Bool.{Bool, true, false, cond, not, true≢false, false≢true}
-use mathlib.Core.List.{List, [], _∷_}
+use mathlib.Core.List.{List, []}
 use mathlib.Core.Logic.{_⊎_, inl, inr, ⊎-elim}
 use mathlib.Core.Path.{_≡_, refl, sym, ap, _∙_, subst}
 use native.Mathlib.Omega.{arith}
-use denote.Enum.Declared.{tagOf}
-use types.Run.{OneOf}
 use borrow.Author.Tests.{eq-eqb, ne-eqb, eqb-true, eqb-false}
 use borrow.Table.Steps.{cases}
 use lib.Dec.{eqb}
@@ -18,27 +16,8 @@ use Rattle.chip.specs.Chip.{Cycle, exec, finished, statusRead, statusShown}
 use Rattle.chip.specs.Chip.Cycle.{status}
 use Rattle.bus.specs.Line.{Line, admits, send, sendAll, statusOut, goesOn, Going}
 use Rattle.bus.proofs.LineLaws.{going, send-on, send-off, blocked-stops, sendAll-stopped}
-use Rattle.polling.specs.Polling.{outcomeOf, isPassed, endedAs, ready, judged, waiting, polls, polled}
-use Rattle.polling.specs.declared.Outcome.{Outcome}
-use Rattle.polling.specs.declared.Outcome.the-variants.{Passed, Failed, Silent, Cut, Illegal}
-use Rattle.polling.proofs.Outcome.{the-type}
-
--- the outcome's variant, by its number
-pub passed-by-tag : (o : Outcome) → tagOf the-type o ≡ 0 → isPassed o ≡ true
-unfolding isPassed
-passed-by-tag Passed h = refl
-passed-by-tag Failed h = absurd (omega (arith, h))
-passed-by-tag Silent h = absurd (omega (arith, h))
-passed-by-tag Cut h = absurd (omega (arith, h))
-passed-by-tag Illegal h = absurd (omega (arith, h))
-
-pub other-by-tag : (o : Outcome) → OneOf (1 ∷ 2 ∷ 3 ∷ 4 ∷ []) (tagOf the-type o) → isPassed o ≡ false
-unfolding isPassed
-other-by-tag Passed h = absurd (⊎-elim (λ e. omega (arith, e)) (⊎-elim (λ e. omega (arith, e)) (⊎-elim (λ e. omega (arith, e)) (λ e. omega (arith, e)))) h)
-other-by-tag Failed h = refl
-other-by-tag Silent h = refl
-other-by-tag Cut h = refl
-other-by-tag Illegal h = refl
+use Rattle.polling.specs.Polling.{outcomeOf, endedAs, ready, judged, waiting, polls, polled}
+use Rattle.polling.specs.declared.Outcome.the-variants.{Passed, Failed, Silent}
 
 -- a chip that reports ready is in the status phase, and its fail bit is as it was
 pub record Settled (k : ℕ) (d : Device) : Type 0 where

@@ -1,6 +1,6 @@
 -- Status reads until the chip is ready, and how an operation ended.
 use Prim.Native.Nat.{ℕ, zero, suc, _/_, _%_}
-use mathlib.Core.Bool.{Bool, true, false, cond}
+use mathlib.Core.Bool.{Bool, false, cond}
 use mathlib.Core.List.{List}
 use lib.Dec.{eqb}
 use lib.ListN.{replicate}
@@ -31,13 +31,6 @@ outcomeOf l =
     (cond (eqb (l .chip .port .phase) 8) Silent (cond (eqb (l .chip .port .failed) 0) Passed Failed))
     Illegal)
     Cut
-
-unfoldable pub isPassed : Outcome → Bool
-isPassed Passed = true
-isPassed Failed = false
-isPassed Silent = false
-isPassed Cut = false
-isPassed Illegal = false
 
 -- how a run of cycles ended that asks for no status
 unfoldable pub endedAs : Line → Outcome

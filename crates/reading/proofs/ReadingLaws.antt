@@ -16,7 +16,7 @@ use Rattle.geometry.specs.Sizes.{pageSize, rowOf}
 use Rattle.geometry.proofs.SizeLaws.{row-below}
 use Rattle.array.specs.Device.{Device, Setting}
 use Rattle.bus.specs.Line.{Line}
-use Rattle.polling.specs.Polling.{isPassed}
+use Rattle.polling.specs.Outcomes.{isPassed, isSilent, isCut}
 use Rattle.polling.specs.declared.Outcome.{Outcome}
 use Rattle.polling.specs.declared.Outcome.the-variants.{Passed}
 use Rattle.sequences.specs.Cycles.{readOutcome, readOutputs}
@@ -29,12 +29,12 @@ use Rattle.copies.specs.Pick.{Pick, nothing, at, Picked}
 use Rattle.copies.proofs.PickLaws.{pick-is}
 use Rattle.found.specs.Contents.{entryOf, mapOf}
 use Rattle.found.proofs.MapLaws.{getD-tabulate}
-use Rattle.scan.proofs.ScanLaws.{row-is-page}
+use Rattle.copies.proofs.PlaceLaws.{row-is-page}
 use Rattle.state.specs.State.{none}
 use Rattle.state.specs.declared.State.{State}
-use Rattle.calls.specs.Call.{result, sized, sizedFor, callLine, stopAnswer}
+use Rattle.calls.specs.Call.{result, sized, sizedFor, callLine, stopAnswer, answerFor, stateFor}
 use Rattle.calls.proofs.CallLaws.{sizes}
-use Rattle.refusals.specs.Refusals.{refusalOf, answerFor, stateFor}
+use Rattle.refusals.specs.Refusals.{refusalOf}
 use Rattle.fetching.specs.Fetching.{ReadResult, readResult, fetched, pageProgress, readingBlock}
 use Rattle.reading.specs.Reading.{readingCopy, readingPage}
 use Rattle.fetching.proofs.PageLaws.{page-line, page-outcome}
@@ -195,7 +195,7 @@ module _ (s : Setting) (d : Device) (n : ℕ) (state : State) (logical page : �
     -- no cycle is answered illegal, so the answer is 0, 10 or 11
     pub read-legal : (entry ≡ none → ⊥)
         → (readingPage s d n state logical page buffer .returned .answer ≡ 0) ⊎ ((readingPage s d n state logical page buffer .returned .answer ≡ 10) ⊎ (readingPage s d n state logical page buffer .returned .answer ≡ 11))
-    unfolding readEnd isPassed stopAnswer
+    unfolding readEnd isPassed isSilent isCut stopAnswer
     read-legal x =
         let e = read-ends x .answer-is in
         cases (ltb n (readTotal s (start .chip) (s .geometry .main)))

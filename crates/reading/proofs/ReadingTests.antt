@@ -8,9 +8,10 @@ use Rattle.interface.specs.Interface.{poweredOn, begun, statusMode, readMode, p
 use Rattle.array.specs.Device.{Device, device, setting, fitting, readStarted, completed}
 use Rattle.chip.specs.Chip.{isConfirm, confirmed, confirmable, commanded, dataGiven, dataByte, finished, statusRead, exec}
 use Rattle.bus.specs.Line.{mayGo, cutAfter, send, sendAll, goesOn, byteOut}
-use Rattle.polling.specs.Polling.{waiting, polls, outcomeOf, isPassed, endedAs}
+use Rattle.polling.specs.Polling.{waiting, polls, outcomeOf, endedAs}
+use Rattle.polling.specs.Outcomes.{isPassed, isSilent, isCut}
 use Rattle.sequences.specs.Cycles.{readCycles, readOutcome, readOutputs, outputs}
-use Rattle.scan.specs.Progress.{readOn}
+use Rattle.progress.specs.Progress.{readOn}
 use Rattle.state.specs.State.{blank}
 use Rattle.calls.specs.Call.{stopAnswer}
 use Rattle.fetching.specs.Fetching.{ReadResult, fetched, readingBlock}
@@ -28,11 +29,11 @@ page-read fates n = readingBlock (setting small (replicate 192 0) fates) chip n 
 
 -- 42 cycles, and the buffer has the bytes of the page
 done-answer : page-read [] 42 .returned .answer ≡ 0
-unfolding sendAll send mayGo cutAfter exec commanded isConfirm plainCommand readMode begun statusMode addressed latched addressFits confirmable fitting confirmed readStarted started fateWord nextFate statusRead finished completed polls waiting readCycles readOutcome isPassed outcomeOf endedAs dataGiven readOn readingBlock stopAnswer
+unfolding sendAll send mayGo cutAfter exec commanded isConfirm plainCommand readMode begun statusMode addressed latched addressFits confirmable fitting confirmed readStarted started fateWord nextFate statusRead finished completed polls waiting readCycles readOutcome isPassed outcomeOf endedAs dataGiven readOn readingBlock stopAnswer isSilent isCut
 done-answer = refl
 
 done-sent : page-read [] 1000 .returned .sent ≡ 42
-unfolding sendAll send mayGo cutAfter exec commanded isConfirm plainCommand readMode begun statusMode addressed latched addressFits confirmable fitting confirmed readStarted started fateWord nextFate statusRead finished completed polls waiting readCycles readOutcome isPassed outcomeOf endedAs dataGiven readOn readingBlock stopAnswer
+unfolding sendAll send mayGo cutAfter exec commanded isConfirm plainCommand readMode begun statusMode addressed latched addressFits confirmable fitting confirmed readStarted started fateWord nextFate statusRead finished completed polls waiting readCycles readOutcome isPassed outcomeOf endedAs dataGiven readOn readingBlock stopAnswer isSilent isCut
 done-sent = refl
 
 done-bytes : page-read [] 42 .buffer ≡ replicate 32 165
@@ -41,7 +42,7 @@ done-bytes = refl
 
 -- one cycle fewer: cut, and the buffer is as it was
 cut-answer : page-read [] 41 .returned .answer ≡ 11
-unfolding sendAll send mayGo cutAfter exec commanded isConfirm plainCommand readMode begun statusMode addressed latched addressFits confirmable fitting confirmed readStarted started fateWord nextFate statusRead finished completed polls waiting readCycles readOutcome isPassed outcomeOf endedAs dataGiven readOn readingBlock stopAnswer
+unfolding sendAll send mayGo cutAfter exec commanded isConfirm plainCommand readMode begun statusMode addressed latched addressFits confirmable fitting confirmed readStarted started fateWord nextFate statusRead finished completed polls waiting readCycles readOutcome isPassed outcomeOf endedAs dataGiven readOn readingBlock stopAnswer isSilent isCut
 cut-answer = refl
 
 cut-bytes : page-read [] 41 .buffer ≡ replicate 32 0
@@ -50,5 +51,5 @@ cut-bytes = refl
 
 -- 256 busy reads: silent, after 6 + 2 + 256 cycles
 silent-answer : page-read (256 ∷ []) 264 .returned .answer ≡ 10
-unfolding sendAll send mayGo cutAfter exec commanded isConfirm plainCommand readMode begun statusMode addressed latched addressFits confirmable fitting confirmed readStarted started fateWord nextFate statusRead finished completed polls waiting readCycles readOutcome isPassed outcomeOf endedAs dataGiven readOn readingBlock stopAnswer
+unfolding sendAll send mayGo cutAfter exec commanded isConfirm plainCommand readMode begun statusMode addressed latched addressFits confirmable fitting confirmed readStarted started fateWord nextFate statusRead finished completed polls waiting readCycles readOutcome isPassed outcomeOf endedAs dataGiven readOn readingBlock stopAnswer isSilent isCut
 silent-answer = refl

@@ -9,12 +9,13 @@ use borrow.Author.Tests.{ne-eqb}
 use lib.Dec.{eqb}
 use lib.ListN.{length, getD}
 use Rattle.array.specs.Device.{Device, Setting}
-use Rattle.polling.specs.Polling.{isPassed}
+use Rattle.polling.specs.Outcomes.{isPassed}
 use Rattle.state.specs.State.{none, mounted}
 use Rattle.state.specs.declared.State.{State}
 use Rattle.calls.specs.Call.{result, sizedFor}
 use Rattle.refusals.specs.Refusals.{refusalOf}
-use Rattle.refusals.proofs.RefusalLaws.{refused-geometry, refused-unmounted, refused-logical, refused-page, refused-length, stop-most}
+use Rattle.refusals.proofs.RefusalLaws.{refused-geometry, refused-unmounted, refused-logical, refused-page, refused-length}
+use Rattle.calls.proofs.CallLaws.{stop-least}
 use Rattle.fetching.specs.Fetching.{readResult, pageProgress, readingBlock}
 use Rattle.reading.specs.Reading.{readingCopy, readingPage}
 
@@ -57,5 +58,5 @@ module _ (s : Setting) (d : Device) (n : ℕ) (state : State) (logical page : �
       (λ z. absurd (omega (arith, rw (t, z) at h)))
       (λ z. cases (isPassed (pageProgress s d n (getD (state .map) logical 0) page .outcome))
       (λ p. absurd (omega (arith, rw (t, z, p) at h)))
-      (λ p. absurd (omega (arith, rw (t, z, p) at k, stop-most (pageProgress s d n (getD (state .map) logical 0) page .outcome))))))
+      (λ p. absurd (omega (arith, rw (t, z, p) at k, stop-least (pageProgress s d n (getD (state .map) logical 0) page .outcome))))))
       (λ t. rw t)

@@ -1,7 +1,7 @@
 -- The cycles that a read sends, counted. Assumes nothing.
 use Prim.Native.Nat.{ℕ, zero, suc, _+_, _≤_}
 use mathlib.Core.List.{List, [], _∷_, _++_}
-use mathlib.Core.Path.{_≡_, ap, _∙_}
+use mathlib.Core.Path.{_≡_, refl, ap, _∙_}
 use native.Mathlib.Omega.{arith}
 use borrow.Table.Steps.{cases}
 use lib.Dec.{eqb}
@@ -12,11 +12,12 @@ use Rattle.chip.specs.Chip.{Cycle, exec}
 use Rattle.chip.specs.Chip.Cycle.{command, dataOut, status}
 use Rattle.bus.specs.Line.{Line, admits, send, sendAll, sent}
 use Rattle.bus.proofs.LineLaws.{sent-counts}
-use Rattle.polling.specs.Polling.{isPassed, outcomeOf, waiting, polls}
+use Rattle.polling.specs.Outcomes.{isPassed}
+use Rattle.polling.specs.Polling.{outcomeOf, waiting, polls}
 use Rattle.polling.specs.declared.Outcome.the-variants.{Passed}
 use Rattle.sequences.specs.Cycles.{readAddress, confirmCycles, pageLine, readCycles}
-use Rattle.scan.specs.Progress.{progress}
-use Rattle.scan.proofs.CountLaws.{read-counts}
+use Rattle.progress.specs.Progress.{progress}
+use Rattle.progress.proofs.CountLaws.{allowance-kept}
 use Rattle.state.specs.State.{none}
 use Rattle.state.specs.declared.State.{State}
 use Rattle.calls.specs.Call.{sizedFor, callLine}
@@ -56,7 +57,7 @@ module _ (s : Setting) (d : Device) (n : ℕ) (state : State) where
   block-sent : (block page : ℕ) (buffer : List ℕ) → readingBlock s d n state block page buffer .returned .sent ≡ length (pageProgress s d n block page .cycles)
   unfolding readingBlock
   block-sent block page buffer =
-      omega (arith, read-counts s (rowOf (s .geometry) block page) 0 (s .geometry .main) (progress (callLine d n) Passed [] []))
+      omega (arith, allowance-kept s _ .read (rowOf (s .geometry) block page) 0 (s .geometry .main) (progress (callLine d n) Passed [] []) refl)
 
   block-most : (block page : ℕ) (buffer : List ℕ) → readingBlock s d n state block page buffer .returned .sent ≤ 6 + 2 + 256 + 1 + s .geometry .main
   unfolding readingBlock

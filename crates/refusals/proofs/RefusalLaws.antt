@@ -8,11 +8,8 @@ use borrow.Table.Steps.{cases}
 use borrow.Author.Tests.{eq-eqb, ne-eqb, eqb-true, eqb-false, lt-ltb, le-ltb, ltb-true, ltb-false}
 use lib.Dec.{eqb, ltb}
 use Rattle.geometry.specs.declared.Geometry.{Geometry}
-use Rattle.polling.specs.declared.Outcome.{Outcome}
-use Rattle.polling.specs.declared.Outcome.the-variants.{Passed, Failed, Silent, Cut, Illegal}
 use Rattle.state.specs.State.{mounted}
 use Rattle.state.specs.declared.State.{State}
-use Rattle.calls.specs.Call.{stopAnswer}
 use Rattle.refusals.specs.Refusals.{refusal}
 
 -- a request that is not refused
@@ -139,12 +136,3 @@ module _ (g : Geometry) (fits : Bool) (state : State) (logical page long : ℕ) 
       (λ t m l h e. absurd (omega (arith, e)))
       (λ t m l p x e. (t, m, l, p, x))
       (λ all e. absurd (omega (arith, e)))
-
--- an operation that did not pass is answered by 10 or more
-pub stop-most : (o : Outcome) → 10 ≤ stopAnswer o
-unfolding stopAnswer
-stop-most Passed = omega arith
-stop-most Failed = omega arith
-stop-most Silent = omega arith
-stop-most Cut = omega arith
-stop-most Illegal = omega arith

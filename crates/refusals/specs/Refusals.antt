@@ -1,4 +1,4 @@
--- The refusals of a request on a mounted state, in the order of the paper's table, and the answer of its operation.
+-- The refusals of a request on a mounted state, in the order of the paper's table.
 use Prim.Native.Nat.{ℕ}
 use mathlib.Core.Bool.{Bool, cond}
 use mathlib.Core.List.{List}
@@ -6,11 +6,9 @@ use lib.Dec.{eqb, ltb}
 use lib.ListN.{length}
 use Rattle.geometry.specs.declared.Geometry.{Geometry}
 use Rattle.array.specs.Device.{Device, Setting}
-use Rattle.polling.specs.Polling.{isPassed}
-use Rattle.polling.specs.declared.Outcome.{Outcome}
-use Rattle.state.specs.State.{blank, mounted}
+use Rattle.state.specs.State.{mounted}
 use Rattle.state.specs.declared.State.{State}
-use Rattle.calls.specs.Call.{sizedFor, stopAnswer}
+use Rattle.calls.specs.Call.{sizedFor}
 
 -- the refusal of a request for one page, tested in this order, 0 where there is none: 1 geometry, 7 mount first, 2
 -- address, 3 length
@@ -26,10 +24,3 @@ refusal g fits state logical page long =
 abbrev pub refusalOf : Setting → Device → State → ℕ → ℕ → List ℕ → ℕ
 refusalOf s d state logical page buffer =
     refusal (s .geometry) (sizedFor s d) state logical page (length buffer)
-
--- the answer and the state where the operation ended so
-abbrev pub answerFor : Outcome → ℕ
-answerFor o = cond (isPassed o) 0 (stopAnswer o)
-
-abbrev pub stateFor : Outcome → State → State
-stateFor o state = cond (isPassed o) state (blank 2)

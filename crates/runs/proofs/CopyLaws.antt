@@ -15,7 +15,7 @@ use Rattle.geometry.specs.declared.Geometry.{Geometry}
 use Rattle.geometry.specs.Limits.{Valid}
 use Rattle.geometry.specs.Sizes.{pageSize}
 use Rattle.cells.specs.Bytes.{Bytes}
-use Rattle.pages.specs.Layout.{Label, label, labelOf, encoded, whole, numberWidth, Fits}
+use Rattle.pages.specs.Layout.{Label, label, labelOf, whole, numberWidth, Fits}
 use Rattle.pages.specs.Over.{Over}
 use Rattle.pages.proofs.LayoutLaws.{encoded-whole, encoded-label, encoded-first, encoded-main, bytes-encoded, raised-whole-any, erased-not-whole}
 use Rattle.pages.proofs.OverLaws.{over-getD, over-bytes-to}

@@ -16,17 +16,18 @@ use Rattle.cells.proofs.CellLaws.{length-raised}
 use Rattle.interface.specs.Interface.{busyOf, failedFor}
 use Rattle.array.specs.Device.{Setting}
 use Rattle.bus.specs.Line.{Line, sendAll}
-use Rattle.polling.specs.Polling.{isPassed, outcomeOf}
+use Rattle.polling.specs.Outcomes.{isPassed, answered, isFailed, isIllegal, isCut}
+use Rattle.polling.specs.Polling.{outcomeOf}
 use Rattle.polling.specs.declared.Outcome.{Outcome}
 use Rattle.sequences.specs.Cycles.{eraseCycles}
-use Rattle.operations.specs.Ends.{Called, CanErase, End, endOf, eraseEnd, confirmedEnd, answered, passes, endsAs, totalFor, wordFor, pollsFor, withBlockBytes}
+use Rattle.operations.specs.Ends.{Called, CanErase, End, endOf, eraseEnd, confirmedEnd, passes, endsAs, totalFor, wordFor, pollsFor, withBlockBytes}
 use Rattle.operations.proofs.EraseLaws.{erase-ends, erase-legal, erase-next, erase-starts}
 use Rattle.operations.specs.Trace.{ArrayOperation, eraseStarts}
 use Rattle.copies.specs.Blocks.{blockIn}
-use Rattle.scan.specs.Progress.{Progress}
-use Rattle.fill.specs.Steps.{eraseOn, isFailed}
-use Rattle.fill.proofs.StepLaws.{erase-on-line, erase-on-outcome, whole-effect}
-use Rattle.runs.specs.Run.{isIllegal, isCut, failedIn, FailedMore, Sound, Erased, OthersSame, blockOn}
+use Rattle.progress.specs.Progress.{Progress}
+use Rattle.progress.specs.Steps.{eraseOn}
+use Rattle.progress.proofs.StepLaws.{erase-on-line, erase-on-outcome, whole-effect}
+use Rattle.runs.specs.Run.{failedIn, FailedMore, Sound, Erased, OthersSame, blockOn}
 use Rattle.runs.proofs.TraceLaws.{failed-append, failed-one, cut-unfailed}
 use Rattle.runs.proofs.PlaceLaws.{block-there, block-elsewhere, block-long}
 

@@ -2,7 +2,7 @@
 use Prim.Native.Nat.{ℕ, zero, suc, _+_, _*_, _≤_, _<_}
 use mathlib.Core.Bool.{Bool, true, false, cond, false≢true}
 use mathlib.Core.List.{List, [], _∷_}
-use mathlib.Core.Logic.{_⊎_, inl, inr, ⊎-elim}
+use mathlib.Core.Logic.{inl, inr, ⊎-elim}
 use mathlib.Core.Path.{_≡_, refl, sym, ap, subst, _∙_}
 use native.Mathlib.Nat.{mod-eq-of-lt, suc-mul}
 use native.Mathlib.Numerals.{add-one}
@@ -18,19 +18,19 @@ use Rattle.cells.specs.Bytes.{Bytes}
 use Rattle.cells.specs.Cells.{programmed, weakened}
 use Rattle.cells.proofs.CellLaws.{programmed-erased}
 use Rattle.array.specs.Device.{Setting}
-use Rattle.polling.specs.Polling.{isPassed}
+use Rattle.polling.specs.Outcomes.{isPassed, isFailed}
 use Rattle.operations.specs.Ends.{Called}
 use Rattle.pages.specs.Over.{Over, none, more}
 use Rattle.pages.proofs.OverLaws.{over-refl, programmed-over}
 use Rattle.copies.specs.Blocks.{blockIn, pageIn, mainIn}
-use Rattle.scan.specs.Progress.{Progress, readOn}
-use Rattle.fill.specs.Fill.{Copy, Source, kept, pageOf, mainOf, mainRead, pageFilled, pagesFilled, filled}
-use Rattle.fill.specs.Steps.{eraseOn, programOn, isFailed}
-use Rattle.fill.proofs.StepLaws.{passed-answered, program-stopped}
+use Rattle.progress.specs.Progress.{Progress, readOn}
+use Rattle.fill.specs.Fill.{Copy, Source, pageOf, mainOf, mainRead, pageFilled, pagesFilled, filled}
+use Rattle.progress.specs.Steps.{eraseOn, programOn}
+use Rattle.polling.proofs.OutcomeLaws.{passed-answered, passed-unfailed, read-end-unfailed, passed-read-end}
+use Rattle.progress.proofs.StepLaws.{program-stopped}
 use Rattle.fill.proofs.FillLaws.{fill-stopped}
 use Rattle.runs.specs.Run.{NoneFailed, Unchanged, OthersSame, Programmed, Provides, from-caller, from-copy, Meant, Filled, pageOn, Spent, readMost, programMost, pageMost, eraseMost, fillMost}
-use Rattle.runs.proofs.TraceLaws.{passed-unfailed, read-end-unfailed, unfailed-none, none-unfailed}
-use Rattle.runs.proofs.OutcomeLaws.{passed-read-end}
+use Rattle.runs.proofs.TraceLaws.{unfailed-none, none-unfailed}
 use Rattle.runs.proofs.PlaceLaws.{page-erased}
 use Rattle.runs.proofs.ReadLaws.{read-unchanged, read-spends, read-calm}
 use Rattle.runs.proofs.EraseLaws.{erase-leaves}

@@ -1,5 +1,4 @@
 pub mod PlaceLaws
-pub mod OutcomeLaws
 pub mod TraceLaws
 pub mod ReadLaws
 pub mod EraseLaws

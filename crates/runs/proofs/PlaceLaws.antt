@@ -17,7 +17,7 @@ use Rattle.geometry.proofs.SizeLaws.{block-within, row-within, row-below, row-p
 use Rattle.cells.specs.Part.{part, put}
 use Rattle.cells.proofs.PartLaws.{length-part, part-put, part-put-before, part-put-after}
 use Rattle.copies.specs.Blocks.{blockIn, pageIn}
-use Rattle.scan.proofs.ScanLaws.{row-is-page}
+use Rattle.copies.proofs.PlaceLaws.{row-is-page}
 
 -- two pieces of one size in different places
 pub apart : (n b c : ℕ) → (b ≡ c → ⊥) → (b * n + n ≤ c * n) ⊎ (c * n + n ≤ b * n)

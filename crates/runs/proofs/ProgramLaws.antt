@@ -14,17 +14,18 @@ use Rattle.cells.specs.Cells.{programmed, weakened}
 use Rattle.cells.proofs.CellLaws.{length-programmed}
 use Rattle.array.specs.Device.{Setting}
 use Rattle.bus.specs.Line.{Line, sendAll}
-use Rattle.polling.specs.Polling.{isPassed, outcomeOf}
+use Rattle.polling.specs.Outcomes.{isPassed, answered, isFailed, isIllegal, isCut}
+use Rattle.polling.specs.Polling.{outcomeOf}
 use Rattle.polling.specs.declared.Outcome.{Outcome}
 use Rattle.sequences.specs.Cycles.{programCycles}
-use Rattle.operations.specs.Ends.{Called, CanProgram, End, endOf, programEnd, confirmedEnd, answered, totalFor, withRow, rowBytesOf}
+use Rattle.operations.specs.Ends.{Called, CanProgram, End, endOf, programEnd, confirmedEnd, totalFor, withRow, rowBytesOf}
 use Rattle.operations.proofs.ProgramLaws.{program-ends, program-legal, program-next, program-starts}
 use Rattle.operations.specs.Trace.{ArrayOperation, programStarts}
 use Rattle.copies.specs.Blocks.{blockIn, pageIn}
-use Rattle.scan.specs.Progress.{Progress}
-use Rattle.fill.specs.Steps.{programOn, isFailed}
-use Rattle.fill.proofs.StepLaws.{program-on-line, program-on-outcome, whole-effect}
-use Rattle.runs.specs.Run.{isIllegal, isCut, failedIn, FailedMore, Sound, Programmed, OthersSame, pageOn}
+use Rattle.progress.specs.Progress.{Progress}
+use Rattle.progress.specs.Steps.{programOn}
+use Rattle.progress.proofs.StepLaws.{program-on-line, program-on-outcome, whole-effect}
+use Rattle.runs.specs.Run.{failedIn, FailedMore, Sound, Programmed, OthersSame, pageOn}
 use Rattle.runs.proofs.TraceLaws.{failed-append, failed-one, cut-unfailed}
 use Rattle.runs.proofs.PlaceLaws.{page-place, page-there, page-elsewhere, page-other-block, page-long}
 use Rattle.runs.proofs.EraseLaws.{part-effect, ends-known, ends-used-up, total-most}

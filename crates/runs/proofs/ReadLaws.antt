@@ -14,21 +14,23 @@ use Rattle.geometry.proofs.SizeLaws.{row-below}
 use Rattle.array.specs.Device.{Device, Setting}
 use Rattle.bus.specs.Line.{Line, sendAll}
 use Rattle.interface.specs.Interface.{busyOf}
-use Rattle.polling.specs.Polling.{isPassed}
+use Rattle.polling.specs.Outcomes.{isPassed, answered, isReadEnd, isCut}
 use Rattle.polling.specs.declared.Outcome.the-variants.{Passed}
 use Rattle.sequences.specs.Cycles.{resetCycles}
-use Rattle.operations.specs.Ends.{Called, CanRead, End, endOfRead, readEnd, endOfReset, resetEnd, answered, readTotal, wordFor}
+use Rattle.operations.specs.Ends.{Called, CanRead, End, endOfRead, readEnd, endOfReset, resetEnd, readTotal, wordFor}
 use Rattle.operations.proofs.ReadLaws.{read-ends, read-legal, read-next, read-starts}
 use Rattle.operations.proofs.ResetLaws.{reset-ends, reset-legal}
 use Rattle.operations.specs.Trace.{ArrayOperation, readStarts}
-use Rattle.scan.specs.Progress.{Progress, progress, readOn, resetOn}
-use Rattle.scan.specs.Scan.{pagesRead, blocksRead}
-use Rattle.scan.proofs.ReadOnLaws.{read-line, read-outcome, read-stopped, is-passed}
+use Rattle.progress.specs.Progress.{Progress, progress, readOn, resetOn}
+use Rattle.block_scan.specs.Pages.{pagesRead}
+use Rattle.scan.specs.Scan.{blocksRead}
+use Rattle.progress.proofs.ReadOnLaws.{read-line, read-outcome, read-stopped}
+use Rattle.polling.proofs.OutcomeLaws.{is-passed, read-passed, read-known}
 use Rattle.calls.specs.Call.{sizedFor, callLine}
 use Rattle.calls.proofs.ResetLaws.{reset-called}
-use Rattle.runs.specs.Run.{isReadEnd, isCut, failedIn, NoneFailed, Unchanged, Spent, readMost}
-use Rattle.runs.proofs.TraceLaws.{failed-append, failed-one, read-unfailed, and-none, or-none}
-use Rattle.runs.proofs.OutcomeLaws.{read-passed, read-known}
+use Rattle.runs.specs.Run.{failedIn, NoneFailed, Unchanged, Spent, readMost}
+use Rattle.runs.proofs.TraceLaws.{failed-append, failed-one, read-unfailed}
+use Rattle.bools.proofs.BoolLaws.{and-none, or-none}
 
 -- how a read ends, by its fate word and the allowance
 ends-as-read : (s : Setting) (l : Line) (n : ℕ) → isReadEnd (readEnd s l n .outcome) ≡ true

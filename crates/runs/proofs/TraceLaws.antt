@@ -1,6 +1,6 @@
 -- The failures in a request's trace, operation by operation. Assumes nothing.
-use Prim.Native.Nat.{ℕ, _+_}
-use mathlib.Core.Bool.{Bool, true, false, cond, false≢true}
+use Prim.Native.Nat.{ℕ}
+use mathlib.Core.Bool.{Bool, true, false, cond}
 use mathlib.Core.List.{List, [], _∷_, _++_}
 use mathlib.Core.Path.{_≡_, refl, sym, ap, _∙_}
 use native.Mathlib.Omega.{arith}
@@ -10,14 +10,12 @@ use borrow.Author.Tests.{leb-true, lt-ltb}
 use Rattle.interface.specs.Interface.{busyOf}
 use Rattle.array.specs.Device.{Setting}
 use Rattle.bus.specs.Line.{Line}
-use Rattle.polling.specs.Polling.{isPassed}
-use Rattle.polling.specs.declared.Outcome.{Outcome}
-use Rattle.polling.specs.declared.Outcome.the-variants.{Passed, Failed, Silent, Cut, Illegal}
+use Rattle.polling.specs.Outcomes.{isFailed}
 use Rattle.operations.specs.Ends.{endsAs, totalFor, wordFor}
 use Rattle.operations.specs.Trace.{ArrayOperation}
-use Rattle.scan.specs.Progress.{Progress}
-use Rattle.fill.specs.Steps.{isFailed}
-use Rattle.runs.specs.Run.{isReadEnd, failedIn, FailedMore, NoneFailed}
+use Rattle.progress.specs.Progress.{Progress}
+use Rattle.runs.specs.Run.{failedIn, FailedMore, NoneFailed}
+use Rattle.bools.proofs.BoolLaws.{or-none, and-none}
 
 or-assoc : (a b c : Bool) → cond (cond a true b) true c ≡ cond a true (cond b true c)
 or-assoc true b c = refl
@@ -28,14 +26,6 @@ pub failed-append : (b : ℕ) (os ps : List ArrayOperation) → failedIn b (os +
 unfolding failedIn
 failed-append b [] ps = refl
 failed-append b (o ∷ os) ps = rw (failed-append b os ps) (sym (or-assoc (cond (eqb (o .block) b) (isFailed (o .answer)) false) (failedIn b os) (failedIn b ps)))
-
-pub or-none : (a : Bool) → cond a true false ≡ a
-or-none true = refl
-or-none false = refl
-
-pub and-none : (a : Bool) → cond a false false ≡ false
-and-none true = refl
-and-none false = refl
 
 -- an operation that is cut before its confirm cycle did not fail
 pub cut-unfailed : (s : Setting) (l : Line) (op m : ℕ) → leb (l .left) m ≡ true → isFailed (endsAs s l op m) ≡ false
@@ -55,22 +45,6 @@ read-unfailed s l m =
     cases (ltb (l .left) (totalFor s (l .chip) m))
     (λ t. rw t)
     (λ t. cases (ltb (busyOf (wordFor s (l .chip))) 256) (λ u. rw (t, u)) (λ u. rw (t, u)))
-
-pub passed-unfailed : (o : Outcome) → isPassed o ≡ true → isFailed o ≡ false
-unfolding isPassed isFailed
-passed-unfailed Passed t = refl
-passed-unfailed Failed t = absurd (false≢true t)
-passed-unfailed Silent t = refl
-passed-unfailed Cut t = refl
-passed-unfailed Illegal t = refl
-
-pub read-end-unfailed : (o : Outcome) → isReadEnd o ≡ true → isFailed o ≡ false
-unfolding isReadEnd isFailed
-read-end-unfailed Passed r = refl
-read-end-unfailed Failed r = absurd (false≢true r)
-read-end-unfailed Silent r = refl
-read-end-unfailed Cut r = refl
-read-end-unfailed Illegal r = refl
 
 -- what did not fail adds nothing
 pub unfailed-none : (p q : Progress) (block : ℕ) → isFailed (q .outcome) ≡ false → FailedMore p q block → NoneFailed p q

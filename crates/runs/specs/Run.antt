@@ -11,39 +11,14 @@ use Rattle.geometry.specs.Sizes.{pageSize, blockSize}
 use Rattle.cells.specs.Bytes.{Bytes}
 use Rattle.cells.specs.Cells.{programmed, weakened, raised}
 use Rattle.array.specs.Device.{Setting}
-use Rattle.polling.specs.Polling.{isPassed}
-use Rattle.polling.specs.declared.Outcome.{Outcome}
-use Rattle.polling.specs.declared.Outcome.the-variants.{Passed, Failed, Silent, Cut, Illegal}
-use Rattle.operations.specs.Ends.{Called, answered}
+use Rattle.polling.specs.Outcomes.{isPassed, answered, isFailed, isIllegal, isCut, isReadEnd}
+use Rattle.operations.specs.Ends.{Called}
 use Rattle.operations.specs.Trace.{ArrayOperation}
 use Rattle.pages.specs.Layout.{numberWidth}
 use Rattle.pages.specs.Over.{Over}
 use Rattle.copies.specs.Blocks.{blockIn, pageIn, mainIn}
-use Rattle.scan.specs.Progress.{Progress}
-use Rattle.fill.specs.Steps.{isFailed}
+use Rattle.progress.specs.Progress.{Progress}
 use Rattle.fill.specs.Fill.{Copy, Source, given, kept, pageOf}
-
--- how a reset or a read can end: passed, silent or cut
-unfoldable pub isReadEnd : Outcome → Bool
-isReadEnd Passed = true
-isReadEnd Failed = false
-isReadEnd Silent = true
-isReadEnd Cut = true
-isReadEnd Illegal = false
-
-unfoldable pub isIllegal : Outcome → Bool
-isIllegal Passed = false
-isIllegal Failed = false
-isIllegal Silent = false
-isIllegal Cut = false
-isIllegal Illegal = true
-
-unfoldable pub isCut : Outcome → Bool
-isCut Passed = false
-isCut Failed = false
-isCut Silent = false
-isCut Cut = true
-isCut Illegal = false
 
 -- an erase or a program of block b failed
 unfoldable pub failedIn : ℕ → List ArrayOperation → Bool

@@ -9,7 +9,7 @@ use native.Mathlib.Omega.{arith}
 use Rattle.array.specs.Device.{Setting}
 use Rattle.chip.specs.Chip.{Cycle}
 use Rattle.bus.specs.Line.{Line}
-use Rattle.polling.specs.Polling.{isPassed}
+use Rattle.polling.specs.Outcomes.{isPassed}
 use Rattle.polling.specs.declared.Outcome.{Outcome}
 use Rattle.polling.specs.declared.Outcome.the-variants.{Passed}
 use Rattle.operations.specs.Ends.{Called}
@@ -18,10 +18,11 @@ use Rattle.summary.specs.declared.Summary.{Summary}
 use Rattle.found.specs.Contents.{Contents, copyNoted, contentsTo}
 use Rattle.found.specs.Found.{blankFound, noted, foundTo, summaryAt, rightAt, bitsAt}
 use Rattle.found.specs.declared.Found.{Found}
-use Rattle.scan.specs.Progress.{Progress, progress}
-use Rattle.scan.specs.Scan.{pagesRead, blocksRead}
-use Rattle.scan.proofs.ScanLaws.{pages-stopped}
-use Rattle.scan.proofs.ReadOnLaws.{same-progress}
+use Rattle.progress.specs.Progress.{Progress, progress}
+use Rattle.block_scan.specs.Pages.{pagesRead}
+use Rattle.scan.specs.Scan.{blocksRead}
+use Rattle.block_scan.proofs.ScanLaws.{pages-stopped}
+use Rattle.progress.proofs.ReadOnLaws.{same-progress}
 
 -- once a block's scan has not passed no further one is scanned
 pub blocks-stopped : (s : Setting) (n : ℕ) (p : Progress) → isPassed (blocksRead s n p .outcome) ≡ false → (k : ℕ) → blocksRead s (k + n) p ≡ blocksRead s n p

@@ -1,4 +1,2 @@
 pub mod ChipLaws
-pub mod CountLaws
-pub mod ReadOnLaws
-pub mod ScanLaws
+pub mod KeepLaws

@@ -1,14 +1,8 @@
--- The scan of a block and of the chip: pages read whole, one after the other.
+-- The scan of the chip: all pages of its blocks, one block after the other.
 use Prim.Native.Nat.{ℕ, zero, suc}
-use Rattle.geometry.specs.Sizes.{pageSize, rowOf}
 use Rattle.array.specs.Device.{Setting}
-use Rattle.scan.specs.Progress.{Progress, readOn}
-
--- the first n pages of a block
-unfoldable pub pagesRead : Setting → ℕ → ℕ → Progress → Progress
-pagesRead s block zero p = p
-pagesRead s block (suc n) p =
-    readOn s (rowOf (s .geometry) block n) 0 (pageSize (s .geometry)) (pagesRead s block n p)
+use Rattle.progress.specs.Progress.{Progress}
+use Rattle.block_scan.specs.Pages.{pagesRead}
 
 -- all pages of the first n blocks
 unfoldable pub blocksRead : Setting → ℕ → Progress → Progress

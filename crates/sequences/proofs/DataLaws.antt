@@ -14,7 +14,8 @@ use Rattle.chip.specs.Chip.{Cycle}
 use Rattle.chip.specs.Chip.Cycle.{command, dataIn, dataOut}
 use Rattle.bus.specs.Line.{Line, send, sendAll, goesOn, byteOut}
 use Rattle.bus.proofs.LineLaws.{sendAll-append, sendAll-stopped}
-use Rattle.polling.specs.Polling.{statusReads, polled, outcomeOf, isPassed, endedAs}
+use Rattle.polling.specs.Polling.{statusReads, polled, outcomeOf, endedAs}
+use Rattle.polling.specs.Outcomes.{isPassed}
 use Rattle.polling.proofs.PollLaws.{polled-all}
 use Rattle.sequences.specs.Cycles.{outputs, confirmCycles, confirmedCycles, pageRead, pageLine, readCycles, readOutcome, readOutputs}
 

@@ -9,7 +9,8 @@ use Rattle.chip.specs.Chip.{Cycle}
 use Rattle.chip.specs.Chip.Cycle.{command, address, dataIn, dataOut, status}
 use Rattle.bus.specs.Line.{Line, send, sendAll, goesOn, byteOut}
 use Rattle.polling.specs.declared.Outcome.{Outcome}
-use Rattle.polling.specs.Polling.{statusReads, outcomeOf, isPassed, endedAs}
+use Rattle.polling.specs.Polling.{statusReads, outcomeOf, endedAs}
+use Rattle.polling.specs.Outcomes.{isPassed}
 
 -- two column bytes and three row bytes
 abbrev pub addressCycles : ℕ → ℕ → List Cycle

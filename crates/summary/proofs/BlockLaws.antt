@@ -9,7 +9,8 @@ use borrow.Author.Tests.{eq-eqb, ne-eqb, le-ltb}
 use lib.Dec.{eqb}
 use Rattle.geometry.specs.declared.Geometry.{Geometry}
 use Rattle.pages.specs.Layout.{Label, label, labelOf, kindOf, numberWidth}
-use Rattle.pages.proofs.LayoutLaws.{unless, whole-width}
+use Rattle.bools.proofs.BoolLaws.{unless}
+use Rattle.pages.proofs.LayoutLaws.{whole-width}
 use Rattle.copies.specs.Blocks.{pageIn, agrees, wholeIn, labelIn, completeTo, aboveTo, isMarked, isComplete, above, markByte}
 use Rattle.summary.specs.Summary.{blankSummary, broken, summed, stepped, wholeStep, markedBy, saysComplete, saysAbove}
 use Rattle.summary.specs.declared.Summary.{Summary}

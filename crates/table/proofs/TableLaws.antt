@@ -1,24 +1,24 @@
 -- Laws of the table's page 0. Assumes nothing.
 use Prim.Native.Nat.{ℕ, zero, suc, _+_, _-_, _*_, _/_, _≤_, _<_}
 use mathlib.Core.Bool.{Bool, true, false, cond}
-use mathlib.Core.List.{List, [], _∷_, _++_, append-nil, append-assoc}
+use mathlib.Core.List.{List, _++_, append-nil, append-assoc}
 use mathlib.Core.Path.{_≡_, refl, sym, ap, ap₂, _∙_}
 use native.Mathlib.Nat.{zero-add}
 use native.Mathlib.Omega.{arith}
 use borrow.Author.Tests.{eq-eqb, ne-eqb}
 use lib.ListN.{length, getD, take, drop, replicate, length-append, length-take, length-drop, drop-of-length-le}
-use lib.Seq.{length-take-le, take-take, getD-take, take-at, drop-at, drop-drop}
+use lib.Seq.{length-take-le, getD-take, take-at, drop-at, drop-drop}
 use Rattle.geometry.specs.declared.Geometry.{Geometry}
 use Rattle.geometry.specs.Limits.{Valid}
 use Rattle.geometry.specs.Sizes.{pageSize}
-use Rattle.bitmaps.specs.Bitmap.{bitAt, countBits, clearFrom, neverBoth}
+use Rattle.bitmaps.specs.Bitmap.{bitAt, countBits, clearFrom, bitmapBytes}
 use Rattle.pages.specs.Layout.{labelOf, allOnes, bytesOf}
 use Rattle.pages.proofs.ByteLaws.{take-rest, put-next, take-put}
 use Rattle.pages.proofs.LayoutLaws.{length-bytesOf, numberOf-bytesOf, allOnes-replicate}
 use Rattle.cells.specs.Cells.{over}
-use Rattle.cells.specs.Part.{part, put}
-use Rattle.cells.proofs.PartLaws.{put-lent, length-part}
-use Rattle.copies.specs.Table.{Roomy, bitmapBytes, fieldOf, bitmapOf, rightFirst, rightPage, bitsWith, tablePage, clearWhere}
+use Rattle.cells.specs.Part.{put}
+use Rattle.cells.proofs.PartLaws.{put-lent, length-part, part-take}
+use Rattle.copies.specs.Table.{Roomy, fieldOf, bitmapOf, rightFirst, rightPage, bitsWith, tablePage}
 
 module _ (blocks logical : ℕ) (main : List ℕ) where
   pub wrong-blocks : (fieldOf main 0 ≡ blocks → ⊥) → false ≡ rightFirst blocks logical main
@@ -44,13 +44,6 @@ module _ (blocks logical : ℕ) (main : List ℕ) where
   pub right-rest : fieldOf main 0 ≡ blocks → fieldOf main 2 ≡ logical → fieldOf main 4 ≡ countBits (bitmapOf blocks main) blocks → fieldOf main 6 ≡ 8 → clearFrom (bitmapOf blocks main) blocks (8 * bitmapBytes blocks - blocks) ≡ true → allOnes (drop (8 + bitmapBytes blocks) main) ≡ rightFirst blocks logical main
   unfolding rightFirst
   right-rest b l n o c = rw (eq-eqb _ _ b, eq-eqb _ _ l, eq-eqb _ _ n, eq-eqb _ _ o, c)
-
--- a part of the first m bytes
-pub part-take : (at n m : ℕ) (xs : List ℕ) → at + n ≤ m → part at n (take m xs) ≡ part at n xs
-part-take zero n m xs h = take-take n m xs (omega (arith, h))
-part-take (suc at) n zero xs h = absurd (omega (arith, h))
-part-take (suc at) n (suc m) [] h = refl
-part-take (suc at) n (suc m) (x ∷ xs) h = part-take at n m xs (omega (arith, h))
 
 -- the first n bytes as they are lent
 pub from-start : (n : ℕ) (page : List ℕ) → take (n - 0) (drop 0 page) ≡ take n page
@@ -184,12 +177,6 @@ module _ (main blocks logical : ℕ) (bits : List ℕ) where
       (ap (λ (x : List ℕ). clearFrom x blocks (8 * k - blocks)) map ∙ clear))
       ∙ ap allOnes rest
       ∙ allOnes-replicate (main - (8 + k))
-
--- no marked block is listed, where the marks are a bitmap
-pub clear-where : (marked bits : List ℕ) (n : ℕ) → clearWhere (bitAt marked) bits n ≡ neverBoth marked bits n
-unfolding clearWhere neverBoth
-clear-where marked bits zero = refl
-clear-where marked bits (suc n) = rw (clear-where marked bits n)
 
 -- the bitmap of page 0 as it is copied to the start of a buffer
 module _ (g : Geometry) (p : ℕ) (page bits : List ℕ) where

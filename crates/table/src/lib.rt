@@ -4,10 +4,10 @@ use geometry::Geometry;
 ghost use mathlib.Core.Path.{_≡_};
 ghost use Prim.Native.Nat.{_*_, _≤_};
 ghost use lib.ListN.{length};
-ghost use Rattle.copies.specs.Table.{bitmapBytes, bitmapOf, bitsWith, clearWhere, rightFirst, rightPage, rightWith, tablePage, Roomy};
+ghost use Rattle.bitmaps.specs.Bitmap.{bitmapBytes};
+ghost use Rattle.copies.specs.Table.{bitsWith, rightFirst, rightPage, rightWith, tablePage, Roomy};
 ghost use Rattle.geometry.specs.Limits.{Valid};
 ghost use Rattle.geometry.specs.Sizes.{pageSize};
-ghost use Rattle.bitmaps.specs.Bitmap.{bitAt};
 
 // Bytes of the bitmap.
 pub fn bitmap_bytes(blocks: usize) -> usize
@@ -87,17 +87,6 @@ pub fn copy_bitmap(page: &[u8], g: Geometry, place: usize, bits: &mut [u8])
     let size = bitmap_bytes(g.blocks);
     let end = 8 + size;
     cells::copy(&page[8..end], &mut bits[0..size]);
-}
-
-// Whether page 0 lists no block that has a factory mark.
-pub fn lists_no_marked(main: &[u8], marked: &[u8], blocks: usize) -> bool
-    requires { ⌜ Roomy blocks (length (now main)) ⌝ }
-    requires { ⌜ blocks ≤ 8 * length (now marked) ⌝ }
-    ensures { λ r. ⌜ r ≡ clearWhere (bitAt (now (marked .entry))) (bitmapOf blocks (now (main .entry))) blocks ⌝ }
-{
-    let size = bitmap_bytes(blocks);
-    let end = 8 + size;
-    bitmaps::is_never_both(marked, &main[8..end], blocks)
 }
 
 // Writes the main bytes of page 0 for these invalid blocks.

@@ -1,4 +1,4 @@
-pub mod CountLaws
-pub mod OutcomeLaws
+pub mod AfterLaws
+pub mod KeepLaws
 pub mod TablesLaws
 pub mod TryLaws

@@ -1,6 +1,6 @@
 -- Table fills on their way: one tried after the other, until one ends them. Assumes nothing.
 use Prim.Native.Nat.{ℕ, suc, _+_, _-_, _≤_, _<_}
-use mathlib.Core.Bool.{true, false, cond, false≢true}
+use mathlib.Core.Bool.{true, false, cond}
 use mathlib.Core.List.{List, []}
 use mathlib.Core.Path.{_≡_, refl, sym, ap, subst, _∙_}
 use native.Mathlib.Omega.{arith}
@@ -10,7 +10,7 @@ use Rattle.array.specs.Device.{Setting}
 use Rattle.chip.specs.Chip.{Cycle}
 use Rattle.bus.specs.Line.{Line}
 use Rattle.polling.specs.declared.Outcome.{Outcome}
-use Rattle.polling.specs.declared.Outcome.the-variants.{Passed, Failed, Silent, Cut, Illegal}
+use Rattle.polling.specs.declared.Outcome.the-variants.{Passed}
 use Rattle.operations.specs.Ends.{Called}
 use Rattle.operations.specs.Trace.{ArrayOperation}
 use Rattle.choose.specs.Choose.{chosen}
@@ -18,20 +18,19 @@ use Rattle.state.specs.State.{blank, withNumber}
 use Rattle.state.specs.declared.State.{State}
 use Rattle.choose.specs.declared.Choice.{Choice}
 use Rattle.choose.specs.declared.Choice.the-variants.{Block, Worn}
-use Rattle.scan.specs.Progress.{Progress, progress}
+use Rattle.progress.specs.Progress.{Progress, progress}
 use Rattle.fill.specs.Fill.{tableFilled}
-use Rattle.fill.specs.Steps.{resumed, isFailed}
-use Rattle.tables.specs.Tables.{tryBlock, tryTable, TriedAs, stateAfter, Tabled, tabled, endAnswer, endState, endedBy, tablesFilled, numbersLeft, TabledAs}
-use Rattle.fill.proofs.OutcomeLaws.{failed-answered}
+use Rattle.progress.specs.Steps.{resumed}
+use Rattle.polling.specs.Outcomes.{isFailed}
+use Rattle.calls.specs.Call.{answerFor, stateFor}
+use Rattle.tables.proofs.AfterLaws.{after-failed}
+use Rattle.tables.specs.Tables.{tryBlock, tryTable, TriedAs, afterFill, Tabled, tabled, endedBy, tablesFilled, numbersLeft, TabledAs}
+use Rattle.polling.proofs.OutcomeLaws.{failed-answered}
 
 -- a failed fill keeps the block filled last, and has taken a number
-after-failure : (b : ℕ) (o : Outcome) (st : State) → isFailed o ≡ true → (stateAfter b o st .number ≡ st .number) × (stateAfter b o st .last ≡ st .last)
-unfolding stateAfter isFailed
-after-failure b Passed st t = absurd (false≢true t)
-after-failure b Failed st t = (refl, refl)
-after-failure b Silent st t = absurd (false≢true t)
-after-failure b Cut st t = absurd (false≢true t)
-after-failure b Illegal st t = absurd (false≢true t)
+after-failure : (b : ℕ) (o : Outcome) (st : State) → isFailed o ≡ true → (afterFill b o st .number ≡ st .number) × (afterFill b o st .last ≡ st .last)
+after-failure b o st t =
+    (ap (λ (x : State). x .number) (after-failed b st o t), ap (λ (x : State). x .last) (after-failed b st o t))
 
 failed-block : (s : Setting) (st : State) (p : Progress) (c : Choice) → tryBlock s st p c .worn ≡ 0 → isFailed (tryBlock s st p c .progress .outcome) ≡ true
     → (tryBlock s st p c .state .number ≡ st .number + 1) × (tryBlock s st p c .state .last ≡ st .last)
@@ -95,7 +94,7 @@ module _ (s : Setting) (held : List ℕ) (first : State) (l : Line) (st : State)
     zero-worn cs os = eq-eqb (tryTable s held st (here cs os) .worn) 0 (sym (d .worn-is _ _) ∙ w)
 
     -- the fill passed, was silent or cut
-    pub tables-ended : isFailed o ≡ false → (answer : ℕ) (last : State) → answer ≡ endAnswer o → last ≡ endState o next → TabledAs s held first l m' answer last
+    pub tables-ended : isFailed o ≡ false → (answer : ℕ) (last : State) → answer ≡ answerFor o → last ≡ stateFor o next → TabledAs s held first l m' answer last
     unfolding here
     tables-ended f answer last g k =
         let end : (cs : List Cycle) (os : List ArrayOperation) → endedBy (tryTable s held st (here cs os) .progress) next ≡ tablesFilled s held (numbersLeft first) first (progress l Passed cs os) =
@@ -104,8 +103,8 @@ module _ (s : Setting) (held : List ℕ) (first : State) (l : Line) (st : State)
         ap (endedBy (tryTable s held st (here cs os) .progress)) (d .state-is (r .cycles cs os) (r .started cs os)) ∙ sym (next-fill s held st (here cs os) h ∙ rw (zero-worn cs os, no)) ∙ r .going cs os in
         record {
           line-is = λ cs os. d .line-is _ _ ∙ ap (λ (x : Tabled). x .progress .line) (end cs os);
-          answer-is = λ cs os. g ∙ ap endAnswer (d .outcome-is _ _) ∙ ap (λ (x : Tabled). x .answer) (end cs os);
-          state-is = λ cs os. k ∙ ap (λ (x : Outcome). endState x next) (d .outcome-is _ _) ∙ ap (λ (x : Tabled). x .state) (end cs os);
+          answer-is = λ cs os. g ∙ ap answerFor (d .outcome-is _ _) ∙ ap (λ (x : Tabled). x .answer) (end cs os);
+          state-is = λ cs os. k ∙ ap (λ (x : Outcome). stateFor x next) (d .outcome-is _ _) ∙ ap (λ (x : Tabled). x .state) (end cs os);
         }
 
     failed-yes : isFailed o ≡ true → (cs : List Cycle) (os : List ArrayOperation) → isFailed (tryTable s held st (here cs os) .progress .outcome) ≡ true

@@ -16,10 +16,10 @@ use Rattle.choose.specs.declared.Choice.{Choice}
 use Rattle.choose.specs.declared.Choice.the-variants.{Block, Worn}
 use Rattle.choose.proofs.Choice.{the-type}
 use Rattle.choose.proofs.ChooseLaws.{found, after-below}
-use Rattle.scan.specs.Progress.{progress}
+use Rattle.progress.specs.Progress.{progress}
 use Rattle.fill.specs.Fill.{tableFilled}
-use Rattle.fill.specs.Steps.{ComesTo}
-use Rattle.tables.specs.Tables.{stateAfter, tryBlock, tryTable, TriedAs}
+use Rattle.progress.specs.Steps.{ComesTo}
+use Rattle.tables.specs.Tables.{afterFill, tryBlock, tryTable, TriedAs}
 
 pub worn-by-tag : (x : Choice) → tagOf the-type x ≡ 1 → x ≡ Worn
 worn-by-tag (Block b) h = absurd (omega (arith, h))
@@ -47,14 +47,14 @@ module _ (s : Setting) (held : List ℕ) (st : State) (l : Line) where
       }
 
   pub block-tried : (b : ℕ) → choice ≡ Block b → (m : Line) (o : Outcome) (next : State)
-      → ComesTo s (tableFilled s b (st .number) (st .invalid)) l m o → next ≡ stateAfter b o (withNumber (st .number + 1) st) → TriedAs s held st l m o next 0
+      → ComesTo s (tableFilled s b (st .number) (st .invalid)) l m o → next ≡ afterFill b o (withNumber (st .number + 1) st) → TriedAs s held st l m o next 0
   unfolding tryTable tryBlock
   block-tried b e m o next r g =
       record {
         line-is = λ cs os. r .line-is cs os ∙ ap (λ (x : Choice). tryBlock s st (progress l Passed cs os) x .progress .line) (sym e);
         outcome-is = λ cs os. r .outcome-is cs os ∙ ap (λ (x : Choice). tryBlock s st (progress l Passed cs os) x .progress .outcome) (sym e);
         state-is = λ cs os.
-            g ∙ ap (λ (x : Outcome). stateAfter b x (withNumber (st .number + 1) st)) (r .outcome-is cs os) ∙ ap (λ (x : Choice). tryBlock s st (progress l Passed cs os) x .state) (sym e);
+            g ∙ ap (λ (x : Outcome). afterFill b x (withNumber (st .number + 1) st)) (r .outcome-is cs os) ∙ ap (λ (x : Choice). tryBlock s st (progress l Passed cs os) x .state) (sym e);
         worn-is = λ cs os. ap (λ (x : Choice). tryBlock s st (progress l Passed cs os) x .worn) (sym e);
         next-called = r .next-called;
       }

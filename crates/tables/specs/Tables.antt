@@ -7,20 +7,20 @@ use lib.Dec.{eqb}
 use Rattle.array.specs.Device.{Setting}
 use Rattle.chip.specs.Chip.{Cycle}
 use Rattle.bus.specs.Line.{Line}
-use Rattle.operations.specs.Ends.{Called, answered}
+use Rattle.operations.specs.Ends.{Called}
+use Rattle.polling.specs.Outcomes.{answered, isPassed, isFailed}
 use Rattle.operations.specs.Trace.{ArrayOperation}
-use Rattle.polling.specs.Polling.{isPassed}
 use Rattle.polling.specs.declared.Outcome.{Outcome}
-use Rattle.polling.specs.declared.Outcome.the-variants.{Passed, Failed, Silent, Cut, Illegal}
+use Rattle.polling.specs.declared.Outcome.the-variants.{Passed}
 use Rattle.choose.specs.Choose.{chosen}
 use Rattle.state.specs.State.{blank, withNumber, withInvalid, withTable}
 use Rattle.state.specs.declared.State.{State}
 use Rattle.choose.specs.declared.Choice.{Choice}
 use Rattle.choose.specs.declared.Choice.the-variants.{Block, Worn}
-use Rattle.calls.specs.Call.{stopAnswer}
-use Rattle.scan.specs.Progress.{Progress, progress}
+use Rattle.calls.specs.Call.{answerFor, stateFor}
+use Rattle.progress.specs.Progress.{Progress, progress}
 use Rattle.fill.specs.Fill.{tableFilled}
-use Rattle.fill.specs.Steps.{resumed, isFailed}
+use Rattle.progress.specs.Steps.{resumed}
 
 -- one fill tried; worn is 1 where no block was left for it
 pub record Tried : Type 0 where
@@ -32,18 +32,14 @@ abbrev pub tried : Progress → State → ℕ → Tried
 tried p s w = record { progress = p; state = s; worn = w }
 
 -- the state by how the fill of a block ended
-unfoldable pub stateAfter : ℕ → Outcome → State → State
-stateAfter b Passed s = withTable b s
-stateAfter b Failed s = withInvalid b s
-stateAfter b Silent s = s
-stateAfter b Cut s = s
-stateAfter b Illegal s = s
+unfoldable pub afterFill : ℕ → Outcome → State → State
+afterFill b o s = cond (isPassed o) (withTable b s) (cond (isFailed o) (withInvalid b s) s)
 
 unfoldable pub tryBlock : Setting → State → Progress → Choice → Tried
 tryBlock s st p Worn = tried p st 1
 tryBlock s st p (Block b) =
     tried (tableFilled s b (st .number) (st .invalid) p)
-    (stateAfter b (tableFilled s b (st .number) (st .invalid) p .outcome) (withNumber (st .number + 1) st)) 0
+    (afterFill b (tableFilled s b (st .number) (st .invalid) p .outcome) (withNumber (st .number + 1) st)) 0
 
 -- held has a bit for each block that holds something current
 unfoldable pub tryTable : Setting → List ℕ → State → Progress → Tried
@@ -67,14 +63,8 @@ abbrev pub tabled : Progress → ℕ → State → Tabled
 tabled p a s = record { progress = p; answer = a; state = s }
 
 -- a fill that passed, or one that was silent or cut
-unfoldable pub endAnswer : Outcome → ℕ
-endAnswer o = cond (isPassed o) 0 (stopAnswer o)
-
-unfoldable pub endState : Outcome → State → State
-endState o st = cond (isPassed o) st (blank 2)
-
 abbrev pub endedBy : Progress → State → Tabled
-endedBy p st = tabled p (endAnswer (p .outcome)) (endState (p .outcome) st)
+endedBy p st = tabled p (answerFor (p .outcome)) (stateFor (p .outcome) st)
 
 -- k numbers are left
 unfoldable pub tablesFilled : Setting → List ℕ → ℕ → State → Progress → Tabled

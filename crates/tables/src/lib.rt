@@ -10,9 +10,8 @@ ghost use lib.ListN.{length};
 ghost use Rattle.geometry.specs.Sizes.{pageSize};
 ghost use Rattle.array.specs.Device.{setting};
 ghost use Rattle.bus.specs.Line.{line};
-ghost use Rattle.polling.specs.declared.Outcome.the-variants.{Passed};
 ghost use Rattle.operations.specs.Ends.{Called};
-ghost use Rattle.tables.specs.Tables.{stateAfter, TriedAs, endAnswer, endState, TabledAs};
+ghost use Rattle.tables.specs.Tables.{afterFill, TriedAs, TabledAs};
 
 // One table fill tried: the bus, how it ended, the next state, and 1 where no block was left for it.
 pub struct Tried {
@@ -25,7 +24,7 @@ pub struct Tried {
 // The state by how the fill of a block ended.
 fn state_after(state: State, block: usize, outcome: Outcome) -> State
     requires { ⌜ block < 4096 ⌝ }
-    ensures { λ r. ⌜ r ≡ stateAfter block outcome state ⌝ }
+    ensures { λ r. ⌜ r ≡ afterFill block outcome state ⌝ }
 {
     match outcome {
         Outcome::Passed => state.record_table(block),
@@ -98,26 +97,6 @@ pub struct Tabled {
     pub state: State,
 }
 
-// The answer after a fill that passed, or one that was silent or cut.
-fn end_answer(outcome: Outcome) -> usize
-    ensures { λ r. ⌜ r ≡ endAnswer outcome ⌝ }
-{
-    let Outcome::Passed = outcome else {
-        return calls::stop_answer(outcome);
-    };
-    0
-}
-
-// The state handed back after it.
-fn end_state(outcome: Outcome, state: State) -> State
-    ensures { λ r. ⌜ r ≡ endState outcome state ⌝ }
-{
-    let Outcome::Passed = outcome else {
-        return State::blank(2);
-    };
-    state
-}
-
 // Fills tables until one passes, no number or no block is left, or an operation is silent or cut.
 pub fn fill_tables(
     from: Bus,
@@ -154,8 +133,8 @@ pub fn fill_tables(
         let Outcome::Failed = outcome else {
             return Tabled {
                 bus: b,
-                answer: end_answer(outcome),
-                state: end_state(outcome, st),
+                answer: calls::answer_for(outcome),
+                state: calls::state_for(outcome, st),
             };
         };
     }

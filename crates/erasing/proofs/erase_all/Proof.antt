@@ -7,7 +7,7 @@ use denote.Ref.{now}
 use lib.ListN.{length}
 use Rattle.array.specs.Device.{setting}
 use Rattle.bus.specs.Line.{line}
-use Rattle.polling.proofs.PollLaws.{passed-by-tag, other-by-tag}
+use Rattle.polling.proofs.OutcomeLaws.{passed-by-tag, other-by-tag}
 use Rattle.erasing.proofs.RoundLaws.{Rounding, round-begins, round-stops, round-goes, round-ends}
 use Rattle.erasing.proofs.erase_all.Statement.{statement}
 use Rattle.erasing.proofs.erase_all.Tie as tie

@@ -4,7 +4,7 @@ use native.Mathlib.Omega.{arith}
 use denote.Ref.{now}
 use Rattle.array.specs.Device.{setting}
 use Rattle.bus.specs.Line.{line}
-use Rattle.fill.proofs.OutcomeLaws.{failed-by-tag, unfailed-by-tag}
+use Rattle.polling.proofs.OutcomeLaws.{failed-by-tag, unfailed-by-tag}
 use Rattle.erasing.proofs.RoundLaws.{block-told, block-marked, block-unfailed, failed-called, block-failed}
 use borrow.Author.Needs.{needs}
 use Rattle.erasing.proofs.erase_block.Statement.{statement}

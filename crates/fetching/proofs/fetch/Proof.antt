@@ -2,7 +2,7 @@
 use denote.Ref.{now}
 use Rattle.array.specs.Device.{setting}
 use Rattle.bus.specs.Line.{line}
-use Rattle.polling.proofs.PollLaws.{passed-by-tag, other-by-tag}
+use Rattle.polling.proofs.OutcomeLaws.{passed-by-tag, other-by-tag}
 use Rattle.fetching.proofs.FetchLaws.{fetch-line, fetch-outcome, fetch-stopped, fetch-passed}
 use borrow.Author.Needs.{needs}
 use Rattle.fetching.proofs.fetch.Statement.{statement}

@@ -4,7 +4,7 @@ use denote.Ref.{now}
 use Rattle.array.specs.Device.{device, setting}
 use Rattle.bus.specs.Line.{line}
 use Rattle.bus.specs.declared.Bus.{Bus}
-use Rattle.polling.proofs.PollLaws.{passed-by-tag, other-by-tag}
+use Rattle.polling.proofs.OutcomeLaws.{passed-by-tag, other-by-tag}
 use Rattle.fetching.proofs.PageLaws.{left-most, ends-passed, ends-stopped}
 use borrow.Author.Needs.{needs}
 use Rattle.fetching.proofs.read_block.Statement.{statement}

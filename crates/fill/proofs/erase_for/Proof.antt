@@ -7,7 +7,7 @@ use Rattle.array.specs.Device.{setting}
 use Rattle.bus.specs.Line.{line, sendAll}
 use Rattle.sequences.specs.Cycles.{eraseCycles}
 use Rattle.operations.specs.Ends.{CanErase}
-use Rattle.fill.proofs.ComesLaws.{comes-still, comes-as, erase-comes, erase-order}
+use Rattle.progress.proofs.ComesLaws.{comes-still, comes-as, erase-comes, erase-order}
 use Rattle.fill.proofs.FillLaws.{first-erased, others-not}
 use borrow.Author.Needs.{needs}
 use Rattle.fill.proofs.erase_for.Statement.{statement}

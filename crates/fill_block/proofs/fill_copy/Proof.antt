@@ -7,7 +7,7 @@ use denote.Ref.{now}
 use lib.ListN.{length}
 use Rattle.array.specs.Device.{setting}
 use Rattle.bus.specs.Line.{line}
-use Rattle.polling.proofs.PollLaws.{passed-by-tag, other-by-tag}
+use Rattle.polling.proofs.OutcomeLaws.{passed-by-tag, other-by-tag}
 use Rattle.fill.specs.Fill.{copy, dataSource}
 use Rattle.fill_block.proofs.FillingLaws.{Filling, fill-begins, fill-goes, fill-stops, fill-ends}
 use Rattle.fill_block.proofs.fill_copy.Statement.{statement}

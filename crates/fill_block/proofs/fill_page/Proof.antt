@@ -7,10 +7,9 @@ use Prim.Native.Nat.{ℕ, _≤_}
 use mathlib.Core.List.{List}
 use Rattle.array.specs.Device.{setting}
 use Rattle.bus.specs.Line.{line}
-use Rattle.polling.proofs.PollLaws.{passed-by-tag, other-by-tag}
+use Rattle.polling.proofs.OutcomeLaws.{passed-by-tag, other-by-tag, passed-answered}
 use Rattle.fill.specs.Fill.{copy, Fillable, dataSource}
 use Rattle.fill_block.proofs.FillingLaws.{page-stops, page-programmed, page-order, step-fills, step-stops}
-use Rattle.fill.proofs.StepLaws.{passed-answered}
 use borrow.Author.Needs.{needs}
 use Rattle.fill_block.proofs.fill_page.Statement.{statement}
 use Rattle.fill_block.proofs.fill_page.Tie as tie

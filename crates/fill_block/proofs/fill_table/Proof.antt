@@ -8,7 +8,7 @@ use Rattle.array.specs.Device.{setting}
 use Rattle.pages.specs.Layout.{numberWidth}
 use Rattle.copies.specs.Table.{tablePage}
 use Rattle.fill.specs.Fill.{Source, filled, tableCopy}
-use Rattle.fill.proofs.ComesLaws.{comes-as}
+use Rattle.progress.proofs.ComesLaws.{comes-as}
 use Rattle.fill.proofs.MainLaws.{lent-long, put-fits, put-lent, table-source}
 use Rattle.fill.proofs.PageLaws.{first-room}
 use borrow.Author.Needs.{needs}

@@ -5,7 +5,7 @@ use denote.Ref.{now}
 use Rattle.geometry.proofs.SizeLaws.{page-size-most}
 use Rattle.array.specs.Device.{setting}
 use Rattle.bus.specs.Line.{line}
-use Rattle.polling.proofs.PollLaws.{passed-by-tag, other-by-tag}
+use Rattle.polling.proofs.OutcomeLaws.{passed-by-tag, other-by-tag}
 use Rattle.calls.proofs.CallLaws.{lent-page}
 use Rattle.format.proofs.WholeLaws.{round-left, round-stop, round-goes-on}
 use borrow.Author.Needs.{needs}

@@ -4,7 +4,7 @@ use native.Mathlib.Omega.{arith}
 use denote.Ref.{now}
 use Rattle.array.specs.Device.{setting}
 use Rattle.bus.specs.Line.{line}
-use Rattle.polling.proofs.PollLaws.{passed-by-tag, other-by-tag}
+use Rattle.polling.proofs.OutcomeLaws.{passed-by-tag, other-by-tag}
 use Rattle.format.proofs.WholeLaws.{marks-left, marks-stop, marks-goes}
 use borrow.Author.Needs.{needs}
 use Rattle.format.proofs.mark_and_erase.Statement.{statement}

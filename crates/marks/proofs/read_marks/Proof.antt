@@ -7,7 +7,7 @@ use denote.Ref.{now}
 use lib.ListN.{length}
 use Rattle.array.specs.Device.{setting}
 use Rattle.bus.specs.Line.{line}
-use Rattle.polling.proofs.PollLaws.{passed-by-tag, other-by-tag}
+use Rattle.polling.proofs.OutcomeLaws.{passed-by-tag, other-by-tag}
 use Rattle.marks.proofs.MarkLaws.{Marking, marks-begin, first-stops, second-stops, marks-go, marks-end}
 use Rattle.marks.proofs.read_marks.Statement.{statement}
 use Rattle.marks.proofs.read_marks.Tie as tie

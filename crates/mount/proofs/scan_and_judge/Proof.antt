@@ -9,8 +9,8 @@ use denote.Ref.{now}
 use Rattle.array.specs.Device.{setting}
 use Rattle.bus.specs.Line.{line}
 use Rattle.polling.specs.declared.Outcome.the-variants.{Passed}
-use Rattle.polling.proofs.PollLaws.{passed-by-tag, other-by-tag}
-use Rattle.scan.specs.Progress.{progress}
+use Rattle.polling.proofs.OutcomeLaws.{passed-by-tag, other-by-tag}
+use Rattle.progress.specs.Progress.{progress}
 use Rattle.scan.specs.Scan.{blocksRead}
 use Rattle.found.proofs.FoundLaws.{table-small}
 use Rattle.mount.proofs.EndLaws.{scan-left, stopped-end, refused-end, mounted-end, answer-found, state-found, room}

@@ -9,7 +9,7 @@ use denote.Ref.{now}
 use lib.ListN.{length}
 use Rattle.array.specs.Device.{setting}
 use Rattle.bus.specs.Line.{line}
-use Rattle.fill.proofs.OutcomeLaws.{failed-by-tag, unfailed-by-tag}
+use Rattle.polling.proofs.OutcomeLaws.{failed-by-tag, unfailed-by-tag}
 use Rattle.tables.proofs.TablesLaws.{Tabling, tables-begin, tables-spent, tables-worn, tables-ended, tables-go, number-taken}
 use Rattle.tables.proofs.fill_tables.Statement.{statement}
 use Rattle.tables.proofs.fill_tables.Tie as tie
@@ -81,11 +81,11 @@ loop-again c =
       tables-go (setting (s .args .g) (now (s .args .mask)) (now (s .args .fates))) (now (s .args .held)) (s .args .state) (line (s .args .from) (now (s .args .array)) (now (s .args .register)) (now (s .args .history))) (lp .st) (line (lp .b) (lp .array) (lp .register) (lp .history)) (lp .inv .4) (small (c .before .before .before .before .before .before .before .before .before .before .before .before .before .before .before .before .before .before .before) (c .before .before .before .before .before .before .before .before .before .before .before .before .before .before .before .before .before .before .if1 .taken)) _ (c .before .before .before .before .before .before .before .before .before .before .before .before .before .try-table .result .outcome) (c .before .before .before .before .before .before .before .before .before .before .before .before .before .try-table .result .state) (c .before .before .before .before .before .before .before .before .before .before .before .before .before .try-table .result .worn) (c .before .before .before .before .before .before .before .before .before .before .before .before .before .try-table .ensures) (c .before .before .if2 .left) (failed-by-tag _ (c .before .match .keys1)),
     )
 
-end-answer-requires : tie.Need-end-answer-requires Inv-loop μ-loop
-end-answer-requires c κs = search needs
+answer-for-requires : tie.Need-answer-for-requires Inv-loop μ-loop
+answer-for-requires c κs = search needs
 
-end-state-requires : tie.Need-end-state-requires Inv-loop μ-loop
-end-state-requires c κs = search needs
+state-for-requires : tie.Need-state-for-requires Inv-loop μ-loop
+state-for-requires c κs = search needs
 
 same-length-5 : tie.Need-same-length-5 Inv-loop μ-loop
 same-length-5 c = c .before .before .before .before .before .before .before .before .before .before .before .before .before .array .given ∙ c .before .before .before .before .before .before .before .before .before .before .before .before .before .before .before .before .before .before .before .before .before .loop .inv .0
@@ -103,7 +103,7 @@ returns-2 : tie.Need-returns-2 Inv-loop μ-loop
 returns-2 c =
     let s = c .before .before .before .before .before .before .before .before .before .before .before .before .before .before .before .before .before .before .before .before .before .before .before .before .before .before .before .before in
     let lp = c .before .before .before .before .before .before .before .before .before .before .before .before .before .before .before .before .before .before .before .before .before .loop in
-    tables-ended (setting (s .args .g) (now (s .args .mask)) (now (s .args .fates))) (now (s .args .held)) (s .args .state) (line (s .args .from) (now (s .args .array)) (now (s .args .register)) (now (s .args .history))) (lp .st) (line (lp .b) (lp .array) (lp .register) (lp .history)) (lp .inv .4) (small (c .before .before .before .before .before .before .before .before .before .before .before .before .before .before .before .before .before .before .before .before) (c .before .before .before .before .before .before .before .before .before .before .before .before .before .before .before .before .before .before .before .if1 .taken)) _ (c .before .before .before .before .before .before .before .before .before .before .before .before .before .before .try-table .result .outcome) (c .before .before .before .before .before .before .before .before .before .before .before .before .before .before .try-table .result .state) (c .before .before .before .before .before .before .before .before .before .before .before .before .before .before .try-table .result .worn) (c .before .before .before .before .before .before .before .before .before .before .before .before .before .before .try-table .ensures) (c .before .before .before .if2 .left) (unfailed-by-tag _ (c .before .before .match .keys2)) _ _ (c .before .end-answer .ensures) (c .end-state .ensures)
+    tables-ended (setting (s .args .g) (now (s .args .mask)) (now (s .args .fates))) (now (s .args .held)) (s .args .state) (line (s .args .from) (now (s .args .array)) (now (s .args .register)) (now (s .args .history))) (lp .st) (line (lp .b) (lp .array) (lp .register) (lp .history)) (lp .inv .4) (small (c .before .before .before .before .before .before .before .before .before .before .before .before .before .before .before .before .before .before .before .before) (c .before .before .before .before .before .before .before .before .before .before .before .before .before .before .before .before .before .before .before .if1 .taken)) _ (c .before .before .before .before .before .before .before .before .before .before .before .before .before .before .try-table .result .outcome) (c .before .before .before .before .before .before .before .before .before .before .before .before .before .before .try-table .result .state) (c .before .before .before .before .before .before .before .before .before .before .before .before .before .before .try-table .result .worn) (c .before .before .before .before .before .before .before .before .before .before .before .before .before .before .try-table .ensures) (c .before .before .before .if2 .left) (unfailed-by-tag _ (c .before .before .match .keys2)) _ _ (c .before .answer-for .ensures) (c .state-for .ensures)
 
 blank-requires-2 : tie.Need-blank-requires-2 Inv-loop μ-loop
 blank-requires-2 c κs = search needs
@@ -144,8 +144,8 @@ fill-tables-spec =
     enum-told
     loop-less
     loop-again
-    end-answer-requires
-    end-state-requires
+    answer-for-requires
+    state-for-requires
     same-length-5
     same-length-6
     same-length-7

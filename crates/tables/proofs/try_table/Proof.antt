@@ -4,7 +4,7 @@ use native.Mathlib.Omega.{arith}
 use denote.Ref.{now}
 use Rattle.array.specs.Device.{setting}
 use Rattle.bus.specs.Line.{line}
-use Rattle.tables.specs.Tables.{stateAfter}
+use Rattle.tables.specs.Tables.{afterFill}
 use Rattle.tables.proofs.TryLaws.{worn-by-tag, chosen-below, worn-tried, block-tried}
 use borrow.Author.Needs.{needs}
 use Rattle.tables.proofs.try_table.Statement.{statement}
@@ -59,7 +59,7 @@ returns-2 c =
     let set = setting (s .args .g) (now (s .args .mask)) (now (s .args .fates)) in
     let l = line (s .args .from) (now (s .args .array)) (now (s .args .register)) (now (s .args .history)) in
     let e = sym (c .before .before .before .before .before .before .before .before .before .before .before .before .before .before .before .before .before .before .before .before .choose-block .ensures) ∙ c .before .before .before .before .before .before .before .before .before .before .before .before .before .before .before .before .before .before .choice .given .1 in
-    block-tried set (now (s .args .held)) (s .args .state) l (c .before .before .before .before .before .before .before .before .before .before .before .before .before .before .before .before .before .before .choice .given .0 .0) e _ (c .before .before .before .before .before .before .before .before .before .before .before .fill-table .result .outcome) _ (c .before .before .before .before .before .before .before .before .before .before .before .fill-table .ensures) (c .state-after .ensures ∙ ap (stateAfter (c .before .before .before .before .before .before .before .before .before .before .before .before .before .before .before .before .before .before .choice .given .0 .0) (c .before .before .before .before .before .before .before .before .before .before .before .fill-table .result .outcome)) (c .before .take-number .ensures))
+    block-tried set (now (s .args .held)) (s .args .state) l (c .before .before .before .before .before .before .before .before .before .before .before .before .before .before .before .before .before .before .choice .given .0 .0) e _ (c .before .before .before .before .before .before .before .before .before .before .before .fill-table .result .outcome) _ (c .before .before .before .before .before .before .before .before .before .before .before .fill-table .ensures) (c .state-after .ensures ∙ ap (afterFill (c .before .before .before .before .before .before .before .before .before .before .before .before .before .before .before .before .before .before .choice .given .0 .0) (c .before .before .before .before .before .before .before .before .before .before .before .fill-table .result .outcome)) (c .before .take-number .ensures))
 
 pub try-table-spec : {M : Type 1} → statement M
 try-table-spec =

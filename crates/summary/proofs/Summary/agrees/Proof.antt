@@ -5,7 +5,6 @@ use lib.Dec.{eqb}
 use denote.Ref.{now}
 use mathlib.Core.Path.{sym, ap, _∙_}
 use Prim.Native.Nat.{ℕ}
-use Rattle.pages.specs.Layout.{labelOf}
 use mathlib.Core.Path.{sym, _∙_}
 use borrow.Author.Needs.{needs}
 use Rattle.summary.proofs.Summary.agrees.Statement.{statement}

@@ -1,0 +1,1 @@
+// Laws of tests on truth values, which every layer uses. No code.

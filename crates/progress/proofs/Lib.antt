@@ -1,0 +1,4 @@
+pub mod ComesLaws
+pub mod CountLaws
+pub mod ReadOnLaws
+pub mod StepLaws

@@ -1,0 +1,44 @@
+-- A request on its way: the line it has reached, how its last operation ended, and its trace.
+use Prim.Native.Nat.{ℕ}
+use mathlib.Core.Bool.{cond}
+use mathlib.Core.List.{List, _++_}
+use Rattle.array.specs.Device.{Setting}
+use Rattle.chip.specs.Chip.{Cycle}
+use Rattle.bus.specs.Line.{Line, sendAll, sent}
+use Rattle.polling.specs.Outcomes.{isPassed}
+use Rattle.polling.specs.Polling.{endedAs}
+use Rattle.sequences.specs.Cycles.{resetCycles, readCycles, readOutcome}
+use Rattle.polling.specs.declared.Outcome.{Outcome}
+use Rattle.operations.specs.Trace.{ArrayOperation, readSends, readStarts}
+
+-- cycles: those sent. started: the array operations
+pub record Progress : Type 0 where
+  pub line : Line
+  pub outcome : Outcome
+  pub cycles : List Cycle
+  pub started : List ArrayOperation
+
+abbrev pub progress : Line → Outcome → List Cycle → List ArrayOperation → Progress
+progress l o cs os = record { line = l; outcome = o; cycles = cs; started = os }
+
+-- n bytes of a row are read from a column on, if all before it passed
+unfoldable pub readOn : Setting → ℕ → ℕ → ℕ → Progress → Progress
+readOn s row column n p =
+    cond (isPassed (p .outcome))
+    (progress
+    (sendAll s (p .line) (readCycles s (p .line) row column n))
+    (readOutcome s (p .line) row column n)
+    (p .cycles ++ readSends s (p .line) row column n)
+    (p .started ++ readStarts s (p .line) row column))
+    p
+
+-- the chip is reset
+unfoldable pub resetOn : Setting → Progress → Progress
+resetOn s p =
+    cond (isPassed (p .outcome))
+    (progress
+    (sendAll s (p .line) resetCycles)
+    (endedAs (sendAll s (p .line) resetCycles))
+    (p .cycles ++ sent s (p .line) resetCycles)
+    (p .started))
+    p

@@ -1,0 +1,1 @@
+// A request on its way: its operations as steps, and laws of each. No code.
