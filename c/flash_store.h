@@ -2,10 +2,14 @@
  * The flash store of the telemetry box, for C on x86-64 Linux. Link target/staticlib/liblibrary.a, which
  * `rt staticlib library` proves and builds.
  *
- * Every buffer is lent as a pointer and the number of its elements, in this order. Any numbers, lengths and contents get
- * an answer. The caller sees to what no call can test: each pointer points to as many elements as its length says,
- * aligned for their type, not NULL (not even with length 0), and no buffer that a call writes overlaps another buffer of
- * the same call. The library keeps nothing between calls.
+ * The chip is the model that the caller lends: its cells, page register, program history and command interface are
+ * buffers in memory. No call touches hardware. Array, page register, history, interface words and state are all handed to
+ * the next call as the last call left them.
+ *
+ * Start with struct flash_store, struct flash_store_call and the functions flash_store_do_..., at the end of this file.
+ *
+ * Stack that a call takes, measured as docs/BENCHMARKS.md says: format under 90,000 bytes, mount under 125,000, read under
+ * 45,000. No call takes memory from a heap, and the library keeps nothing between calls.
  */
 #ifndef FLASH_STORE_H
 #define FLASH_STORE_H
@@ -15,24 +19,27 @@
 
 #ifdef __cplusplus
 extern "C" {
+static_assert(sizeof(size_t) == 8, "the library is built for a size_t of 8 bytes");
+#else
+_Static_assert(sizeof(size_t) == 8, "the library is built for a size_t of 8 bytes");
 #endif
 
 /* The answers, in the order in which they are tested; SILENT and CUT come as they happen, CUT first. */
 enum flash_store_answer {
     FLASH_STORE_DONE = 0,
-    FLASH_STORE_LENT_WRONGLY = 100, /* state, words or sent has the wrong length: no cycle, nothing changed */
-    FLASH_STORE_GEOMETRY = 1,       /* a limit broken, or the chip or the mask has the wrong length: no cycle, nothing changed */
-    FLASH_STORE_MOUNT_FIRST = 7,    /* state not mounted, or stopped by 8 to 11: no cycle, nothing changed */
-    FLASH_STORE_ADDRESS = 2,        /* no such logical block or page: no cycle, nothing changed */
-    FLASH_STORE_LENGTH = 3,         /* page buffer not main bytes long: no cycle, nothing changed */
-    FLASH_STORE_NO_TABLE = 4,       /* no complete table: not mounted, chip unchanged */
-    FLASH_STORE_WRONG_TABLE = 5,    /* the current table is wrong: not mounted, chip unchanged */
-    FLASH_STORE_CLASH = 6,          /* two blocks with one number, or a copy of a logical block >= N: not mounted, chip unchanged */
-    FLASH_STORE_SPENT = 9,          /* no sequence number left: stopped */
-    FLASH_STORE_WORN = 8,           /* no block left: stopped */
-    FLASH_STORE_SILENT = 10,        /* 256 status reads of one operation all busy: stopped */
-    FLASH_STORE_CUT = 11,           /* the allowed cycles are used and another is due: stopped */
-    FLASH_STORE_ILLEGAL = 255       /* a read was handed the words of a chip that is not ready: stopped (docs/DECISIONS.md) */
+    FLASH_STORE_BAD_BUFFER = 100, /* state, words or sent has the wrong length: no cycle, nothing changed */
+    FLASH_STORE_GEOMETRY = 1,     /* a limit broken, or the chip or the mask has the wrong length: no cycle, nothing changed */
+    FLASH_STORE_MOUNT_FIRST = 7,  /* state not mounted, or stopped by 8 to 11: no cycle, nothing changed */
+    FLASH_STORE_ADDRESS = 2,      /* no such logical block or page: no cycle, nothing changed */
+    FLASH_STORE_LENGTH = 3,       /* page buffer not main bytes long: no cycle, nothing changed */
+    FLASH_STORE_NO_TABLE = 4,     /* no complete table: not mounted, chip unchanged */
+    FLASH_STORE_WRONG_TABLE = 5,  /* the current table is wrong: not mounted, chip unchanged */
+    FLASH_STORE_CLASH = 6,        /* two blocks with one number, or a copy of a logical block >= N: not mounted, chip unchanged */
+    FLASH_STORE_SPENT = 9,        /* no sequence number left: stopped */
+    FLASH_STORE_WORN = 8,         /* no block left: stopped */
+    FLASH_STORE_SILENT = 10,      /* 256 status reads of one operation all busy: stopped */
+    FLASH_STORE_CUT = 11,         /* the allowed cycles are used and another is due: stopped */
+    FLASH_STORE_ILLEGAL = 255     /* a read was handed the words of a chip that is not ready: stopped (docs/DECISIONS.md) */
 };
 
 enum {
@@ -44,20 +51,27 @@ enum {
 #define FLASH_STORE_UNCUT UINT32_MAX
 
 /*
- * What all three calls take:
+ * The plain calls. Every buffer is lent as a pointer and the number of its elements, in this order. Any numbers, lengths
+ * and contents get an answer. The caller sees to what no call can test: each pointer points to as many elements as its
+ * length says, aligned for their type, not NULL (not even with length 0), and no buffer that a call writes overlaps
+ * another buffer of the same call.
+ *
+ * What all of them take:
  *   main, spare         bytes of a page: 32 to 4,096 and 16 to 256
  *   pages               pages of a block: 4, 8, 16, 32 or 64
  *   blocks              blocks of the chip: 4 to 4,096, at most 8 x (main - 8)
  *   logical             logical blocks, N: 1 to blocks - 2
  *   state               FLASH_STORE_STATE_BYTES; any bytes before the first mount or formatting, then as the last call left them
  *   words               FLASH_STORE_WORDS; as the last call left them
- *   array               (main + spare) x pages x blocks bytes: the cells of the chip
- *   page_register       main + spare bytes: the chip's page register
- *   history             one byte a block: the lowest page that may be programmed, 255 after an erase that did not pass; 0 for a new chip
+ *   array               (main + spare) x pages x blocks bytes: the cells of the chip; as the last call left them
+ *   page_register       main + spare bytes: the chip's page register; as the last call left it
+ *   history             one byte a block: the lowest page that may be programmed, 255 after an erase that did not pass; 0 for a
+ *                       new chip, then as the last call left it
  *   mask                (main + spare) x pages bytes: which bits an operation takes that does not pass
- *   fates               a word for each read, program and erase, in order: bits 0 to 15 the busy status reads, bit 16 failed
+ *   fates               a word for each read, program and erase, in order: bits 0 to 15 the busy status reads, bit 16 failed;
+ *                       after the last word all pass
  *   allowed             cycles before a cut
- *   sent                1: set to the cycles sent, with every answer but LENT_WRONGLY
+ *   sent                1: set to the cycles sent, with every answer but BAD_BUFFER
  * state, words, array, page_register, history and sent are written; mask and fates are not. The answer is returned.
  */
 
@@ -82,6 +96,65 @@ size_t flash_store_read(size_t main, size_t spare, size_t pages, size_t blocks, 
                         const uint8_t *mask, size_t mask_len, const uint32_t *fates, size_t fates_len,
                         uint32_t allowed, size_t *sent, size_t sent_len, size_t block, size_t page, uint8_t *buffer,
                         size_t buffer_len);
+
+/* What stays from call to call. Set to 0 and filled in once; after that only calls change what it holds and points to. */
+struct flash_store {
+    size_t main, spare, pages, blocks, logical; /* the geometry */
+    uint8_t state[FLASH_STORE_STATE_BYTES];
+    size_t words[FLASH_STORE_WORDS]; /* all 0 at power on */
+    uint8_t *array;                  /* (main + spare) x pages x blocks */
+    size_t array_len;
+    uint8_t *page_register; /* main + spare */
+    size_t page_register_len;
+    uint8_t *history; /* blocks; all 0 for a new chip */
+    size_t history_len;
+};
+
+/* What a call brings, and the cycles that it took away. */
+struct flash_store_call {
+    const uint8_t *mask; /* (main + spare) x pages */
+    size_t mask_len;
+    const uint32_t *fates; /* may be NULL: no fate words, every operation passes */
+    size_t fates_len;
+    uint32_t allowed; /* FLASH_STORE_UNCUT: no cut */
+    size_t sent;      /* set by the call */
+};
+
+/* The fate words of a call as the plain calls take them: never NULL. */
+static inline const uint32_t *flash_store_fates(const struct flash_store_call *call) {
+    static const uint32_t none = 0;
+    return call->fates ? call->fates : &none;
+}
+
+static inline size_t flash_store_fates_len(const struct flash_store_call *call) {
+    return call->fates ? call->fates_len : 0;
+}
+
+/* The two structs as the plain calls take them. */
+#define FLASH_STORE_LENT(store, call)                                                                               \
+    (store)->main, (store)->spare, (store)->pages, (store)->blocks, (store)->logical, (store)->state,               \
+        FLASH_STORE_STATE_BYTES, (store)->words, FLASH_STORE_WORDS, (store)->array, (store)->array_len,             \
+        (store)->page_register, (store)->page_register_len, (store)->history, (store)->history_len, (call)->mask,   \
+        (call)->mask_len, flash_store_fates(call), flash_store_fates_len(call), (call)->allowed, &(call)->sent, 1
+
+/* Formats. */
+static inline enum flash_store_answer flash_store_do_format(struct flash_store *store, struct flash_store_call *call) {
+    return (enum flash_store_answer)flash_store_format(FLASH_STORE_LENT(store, call));
+}
+
+/* Mounts. */
+static inline enum flash_store_answer flash_store_do_mount(struct flash_store *store, struct flash_store_call *call) {
+    return (enum flash_store_answer)flash_store_mount(FLASH_STORE_LENT(store, call));
+}
+
+/* Reads a logical page into buffer, main bytes long. */
+static inline enum flash_store_answer flash_store_do_read(struct flash_store *store, struct flash_store_call *call,
+                                                          size_t block, size_t page, uint8_t *buffer,
+                                                          size_t buffer_len) {
+    return (enum flash_store_answer)flash_store_read(FLASH_STORE_LENT(store, call), block, page, buffer, buffer_len);
+}
+
+#undef FLASH_STORE_LENT
 
 #ifdef __cplusplus
 }

@@ -1,1 +1,2 @@
 pub mod DeviceLaws
+pub mod IllegalLaws

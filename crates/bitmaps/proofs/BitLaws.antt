@@ -69,7 +69,7 @@ power-bit p q h =
     rw e (power-above q (p - q - 1)))
 
 -- a bit that was set is set, and the others are as they were
-or-bit : (x y q : ℕ) → bitIn (bitOr x y) q ≡ bitOr (bitIn x q) (bitIn y q)
+pub or-bit : (x y q : ℕ) → bitIn (bitOr x y) q ≡ bitOr (bitIn x q) (bitIn y q)
 or-bit x y q = rw (or-shr x y q) (or-mod (x / 2 ^ q) (y / 2 ^ q) 1)
 
 own-bit : (p : ℕ) → bitIn (2 ^ p) p ≡ 1
@@ -152,9 +152,3 @@ never-first xs ys n h s = first-next xs ys (n - 1) s ∙ ap (neverBoth xs ys) (o
 
 pub never-second : (xs ys : List ℕ) (n : ℕ) → 0 < n → bitAt ys (n - 1) ≡ false → neverBoth xs ys (n - 1) ≡ neverBoth xs ys n
 never-second xs ys n h t = second-next xs ys (n - 1) t ∙ ap (neverBoth xs ys) (one-back n h)
-
-pub never-over : (xs ys : List ℕ) (n : ℕ) → n ≤ 0 → true ≡ neverBoth xs ys n
-unfolding neverBoth
-never-over xs ys n h =
-    let e : n ≡ 0 = omega arith in
-    rw e

@@ -1,5 +1,5 @@
 -- Bitmaps with no bit past the last block. Assumes nothing.
-use mathlib.Core.Bool.{Bool, true, false, cond}
+use mathlib.Core.Bool.{true, false, cond}
 use Prim.Native.Nat.{ℕ, zero, suc, _≤_, _<_, _^_}
 use mathlib.Core.List.{List}
 use mathlib.Core.Path.{_≡_, refl, sym, ap, subst, _∙_}
@@ -14,7 +14,7 @@ use lib.Seq.{getD-set-same, getD-set-other}
 use Rattle.cells.specs.Bytes.{Bytes}
 use Rattle.bitmaps.specs.Bitmap.{bitAt, withBit, byteOf, placeOf, bitmapBytes}
 use Rattle.bitmaps.proofs.BitLaws.{bit-set, bit-kept, power-small}
-use Rattle.bools.proofs.BoolLaws.{or-none}
+use Rattle.bools.proofs.BoolLaws.{or-none, one-true}
 
 -- a bitmap that has no bit past the last block
 pub record Bitmap (blocks : ℕ) (bits : List ℕ) : Type 0 where
@@ -65,7 +65,3 @@ bit-more bits n b h =
     cases (eqb n b)
     (λ e. rw e (one-true (bitAt bits b)) ∙ sym (ap (bitAt (withBit bits n)) (sym (eqb-true n b e)) ∙ bit-set bits n h))
     (λ e. rw e (or-none (bitAt bits b)) ∙ sym (bit-kept bits n b (λ x. eqb-false n b e (sym x))))
-  where
-    one-true : (x : Bool) → cond x true true ≡ true
-    one-true true = refl
-    one-true false = refl

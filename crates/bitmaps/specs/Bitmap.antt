@@ -1,7 +1,7 @@
 -- Bitmaps: one bit a block, low bit first.
 use Prim.Native.Nat.{ℕ, zero, suc, _+_, _/_, _%_, _^_}
 use mathlib.Core.Bool.{Bool, true, false, cond}
-use mathlib.Core.List.{List}
+use mathlib.Core.List.{List, [], _∷_, _++_}
 use lib.Dec.{eqb}
 use lib.ListN.{getD, set}
 use lib.Bits.{bitOr}
@@ -43,3 +43,16 @@ clearFrom bits n (suc k) = let more = clearFrom bits (n + 1) k in cond (bitAt bi
 unfoldable pub neverBoth : List ℕ → List ℕ → ℕ → Bool
 neverBoth xs ys zero = true
 neverBoth xs ys (suc n) = let less = neverBoth xs ys n in cond (bitAt xs n) (cond (bitAt ys n) false less) less
+
+-- a byte for each of the first n blocks: 1 where its bit is set in one of two bitmaps, 0 elsewhere
+abbrev pub flagOf : List ℕ → List ℕ → ℕ → ℕ
+flagOf xs ys b = cond (bitAt xs b) 1 (cond (bitAt ys b) 1 0)
+
+unfoldable pub flagsOf : List ℕ → List ℕ → ℕ → List ℕ
+flagsOf xs ys zero = []
+flagsOf xs ys (suc n) = flagsOf xs ys n ++ (flagOf xs ys n ∷ [])
+
+-- the first n bits of a byte written to n bytes from a place on
+unfoldable pub spreadBits : ℕ → ℕ → ℕ → List ℕ → List ℕ
+spreadBits x at zero bytes = bytes
+spreadBits x at (suc n) bytes = set (spreadBits x at n bytes) (at + n) (bitIn x n)

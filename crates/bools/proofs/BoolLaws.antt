@@ -28,3 +28,7 @@ or-none false = refl
 pub and-none : (a : Bool) → cond a false false ≡ false
 and-none true = refl
 and-none false = refl
+
+pub one-true : (a : Bool) → cond a true true ≡ true
+one-true true = refl
+one-true false = refl

@@ -1,120 +1,129 @@
--- An illegal answer is never forgotten, so a run that ends without one had none.
+-- A cycle answered illegal changes nothing but the flag. The flag is never cleared, so a run that ends without it had no such cycle.
 use Prim.Native.Nat.{ℕ, zero, suc}
 use mathlib.Core.Bool.{Bool, true, false, cond}
 use mathlib.Core.List.{List, [], _∷_, _++_}
 use mathlib.Core.Logic.{_⊎_, inl, inr, ⊎-elim}
-use mathlib.Core.Path.{_≡_, refl}
+use mathlib.Core.Path.{_≡_, refl, sym, ap, _∙_}
 use native.Mathlib.Omega.{arith}
 use lib.Dec.{eqb, ltb}
 use lib.ListN.{take}
 use Rattle.geometry.specs.Sizes.{rowCount}
 use Rattle.geometry.specs.declared.Geometry.{Geometry}
 use Rattle.interface.specs.declared.Interface.{Interface}
-use Rattle.interface.specs.Interface.{beginning, begun, statusMode, readMode, plainCommand, latched, addressed, started}
-use Rattle.array.specs.Device.{Device, Setting, device, readStarted, programStarted, eraseStarted, lengthsFit, rowAt, completed}
+use Rattle.interface.specs.Interface.{refused, begun, statusMode, readMode, plainCommand, latched, addressed, started}
+use Rattle.array.specs.Device.{Device, Setting, withPort, illegalCycle, readStarted, programStarted, eraseStarted, lengthsFit, rowAt, completed}
 use Rattle.chip.specs.Chip.{Cycle, isConfirm, confirmable, confirmed, commanded, dataTaken, dataGiven, finished, statusRead, exec}
 use Rattle.chip.specs.Chip.Cycle.{command, address, dataIn, dataOut, status}
 use Rattle.bus.specs.Line.{Legal, run}
 
--- the flag is as it was, or set
-record Kept (k : ℕ) (i : Interface) : Type 0 where
-  kept : (i .illegal ≡ k) ⊎ (i .illegal ≡ 1)
+-- a cycle leaves the flag, or it leaves all but the flag
+record Answered (i j : Interface) : Type 0 where
+  answered : (j .illegal ≡ i .illegal) ⊎ (j ≡ refused i)
 
-record KeptOf (k : ℕ) (d : Device) : Type 0 where
-  kept : (d .port .illegal ≡ k) ⊎ (d .port .illegal ≡ 1)
+record AnsweredOf (d e : Device) : Type 0 where
+  answered : (e .port .illegal ≡ d .port .illegal) ⊎ (e ≡ illegalCycle d)
 
-same : {k : ℕ} {i : Interface} → i .illegal ≡ k → Kept k i
-same h = record { kept = inl h }
+same : {i j : Interface} → j .illegal ≡ i .illegal → Answered i j
+same h = record { answered = inl h }
 
-set : {k : ℕ} {i : Interface} → i .illegal ≡ 1 → Kept k i
-set h = record { kept = inr h }
+flagged : {i j : Interface} → j ≡ refused i → Answered i j
+flagged h = record { answered = inr h }
 
-same-of : {k : ℕ} {d : Device} → d .port .illegal ≡ k → KeptOf k d
-same-of h = record { kept = inl h }
+same-of : {d e : Device} → e .port .illegal ≡ d .port .illegal → AnsweredOf d e
+same-of h = record { answered = inl h }
 
-set-of : {k : ℕ} {d : Device} → d .port .illegal ≡ 1 → KeptOf k d
-set-of h = record { kept = inr h }
+flagged-of : {d e : Device} → e ≡ illegalCycle d → AnsweredOf d e
+flagged-of h = record { answered = inr h }
 
-port-of : {k : ℕ} {i : Interface} (a r h : List ℕ) → Kept k i → KeptOf k (device i a r h)
-port-of a r h p = record { kept = p .kept }
+port-of : (d : Device) {i : Interface} → Answered (d .port) i → AnsweredOf d (withPort i d)
+port-of d p = record { answered = ⊎-elim inl (λ e. inr (ap (λ (j : Interface). withPort j d) e)) (p .answered) }
 
 -- it holds of both arms of a test
-arms : (k : ℕ) (b : Bool) (x y : Interface) → Kept k x → Kept k y → Kept k (cond b x y)
-arms k true x y p q = p
-arms k false x y p q = q
+arms : (i : Interface) (b : Bool) (x y : Interface) → Answered i x → Answered i y → Answered i (cond b x y)
+arms i true x y p q = p
+arms i false x y p q = q
 
-arms-of : (k : ℕ) (b : Bool) (x y : Device) → KeptOf k x → KeptOf k y → KeptOf k (cond b x y)
-arms-of k true x y p q = p
-arms-of k false x y p q = q
+arms-of : (d : Device) (b : Bool) (x y : Device) → AnsweredOf d x → AnsweredOf d y → AnsweredOf d (cond b x y)
+arms-of d true x y p q = p
+arms-of d false x y p q = q
 
-begun-kept : (p n : ℕ) (i : Interface) → Kept (i .illegal) (begun p n i)
+begun-answered : (p n : ℕ) (i : Interface) → Answered i (begun p n i)
 unfolding begun
-begun-kept p n i = search (arms, same, set)
+begun-answered p n i = search (arms, same, flagged)
 
-status-mode-kept : (i : Interface) → Kept (i .illegal) (statusMode i)
+status-mode-answered : (i : Interface) → Answered i (statusMode i)
 unfolding statusMode
-status-mode-kept i = search (arms, same, set)
+status-mode-answered i = search (arms, same, flagged)
 
-read-mode-kept : (i : Interface) → Kept (i .illegal) (readMode i)
+read-mode-answered : (i : Interface) → Answered i (readMode i)
 unfolding readMode
-read-mode-kept i = search (arms, same, set)
+read-mode-answered i = search (arms, same, flagged)
 
-plain-kept : (code : ℕ) (i : Interface) → Kept (i .illegal) (plainCommand code i)
+plain-answered : (code : ℕ) (i : Interface) → Answered i (plainCommand code i)
 unfolding plainCommand
-plain-kept code i = search (arms, same, set, begun-kept, status-mode-kept, read-mode-kept) depth 8
+plain-answered code i = search (arms, same, flagged, begun-answered, status-mode-answered, read-mode-answered) depth 8
 
-latched-kept : (g : Geometry) (b : ℕ) (i : Interface) → Kept (i .illegal) (latched g b i)
+latched-answered : (g : Geometry) (b : ℕ) (i : Interface) → Answered i (latched g b i)
 unfolding latched
-latched-kept g b i = search (arms, same, set)
+latched-answered g b i = search (arms, same, flagged)
 
-addressed-kept : (g : Geometry) (b : ℕ) (i : Interface) → Kept (i .illegal) (addressed g b i)
-unfolding addressed
-addressed-kept g b i =
-    arms _ (eqb (i .phase) 3) _ _ (latched-kept g b i)
-    (arms _ (eqb (i .phase) 4) _ _ (latched-kept g b i)
-    (arms _ (eqb (i .phase) 5) _ _ (latched-kept g b i)
+addressed-answered : (g : Geometry) (b : ℕ) (i : Interface) → Answered i (addressed g b i)
+unfolding addressed latched
+addressed-answered g b i =
+    arms _ (eqb (i .phase) 3) _ _ (latched-answered g b i)
+    (arms _ (eqb (i .phase) 4) _ _ (latched-answered g b i)
+    (arms _ (eqb (i .phase) 5) _ _ (latched-answered g b i)
     (arms _ (eqb (i .phase) 2) _ _
-    (arms _ (eqb (i .first) (i .column)) _ _ (latched-kept g b (beginning 3 0 i)) (set refl))
-    (set refl))))
+    (arms _ (eqb (i .first) (i .column)) _ _ (same refl) (flagged refl))
+    (flagged refl))))
 
-confirmed-kept : (code : ℕ) (s : Setting) (d : Device) → KeptOf (d .port .illegal) (confirmed code s d)
+confirmed-answered : (code : ℕ) (s : Setting) (d : Device) → AnsweredOf d (confirmed code s d)
 unfolding confirmed readStarted programStarted eraseStarted started
-confirmed-kept code s d = search (arms-of, same-of, set-of) depth 9
+confirmed-answered code s d = search (arms-of, same-of, flagged-of) depth 9
 
-commanded-kept : (code : ℕ) (s : Setting) (d : Device) → KeptOf (d .port .illegal) (commanded code s d)
+commanded-answered : (code : ℕ) (s : Setting) (d : Device) → AnsweredOf d (commanded code s d)
 unfolding commanded
-commanded-kept code s d =
-    arms-of _ (isConfirm code) _ _ (arms-of _ (confirmable s d) _ _ (confirmed-kept code s d) (set-of refl))
-    (port-of (d .array) (d .register) (d .history) (plain-kept code (d .port)))
+commanded-answered code s d =
+    arms-of _ (isConfirm code) _ _ (arms-of _ (confirmable s d) _ _ (confirmed-answered code s d) (flagged-of refl))
+    (port-of d (plain-answered code (d .port)))
 
-completed-kept : (g : Geometry) (d : Device) → KeptOf (d .port .illegal) (completed g d)
+completed-answered : (g : Geometry) (d : Device) → AnsweredOf d (completed g d)
 unfolding completed
-completed-kept g d = search (arms-of, same-of, set-of) depth 9
+completed-answered g d = search (arms-of, same-of, flagged-of) depth 9
 
-status-kept : (g : Geometry) (d : Device) → KeptOf (d .port .illegal) (statusRead g d)
+status-answered : (g : Geometry) (d : Device) → AnsweredOf d (statusRead g d)
 unfolding statusRead finished
-status-kept g d =
+status-answered g d =
     arms-of _ (eqb (d .port .phase) 1) _ _ (same-of refl)
     (arms-of _ (eqb (d .port .phase) 8) _ _
     (arms-of _ (eqb (d .port .busy) 0) _ _
     (arms-of _ (lengthsFit g d) _ _
-    (arms-of _ (ltb (rowAt (d .port)) (rowCount g)) _ _ (completed-kept g d) (set-of refl))
-    (set-of refl))
+    (arms-of _ (ltb (rowAt (d .port)) (rowCount g)) _ _ (completed-answered g d) (flagged-of refl))
+    (flagged-of refl))
     (same-of refl))
-    (set-of refl))
+    (flagged-of refl))
 
-exec-kept : (s : Setting) (d : Device) (c : Cycle) → KeptOf (d .port .illegal) (exec s d c)
+exec-answered : (s : Setting) (d : Device) (c : Cycle) → AnsweredOf d (exec s d c)
 unfolding exec dataTaken dataGiven
-exec-kept s d (command code) = commanded-kept code s d
-exec-kept s d (address byte) =
-    port-of (d .array) (d .register) (d .history) (addressed-kept (s .geometry) byte (d .port))
-exec-kept s d (dataIn byte) = search (arms-of, same-of, set-of)
-exec-kept s d dataOut = search (arms-of, same-of, set-of)
-exec-kept s d status = status-kept (s .geometry) d
+exec-answered s d (command code) = commanded-answered code s d
+exec-answered s d (address byte) = port-of d (addressed-answered (s .geometry) byte (d .port))
+exec-answered s d (dataIn byte) = search (arms-of, same-of, flagged-of)
+exec-answered s d dataOut = search (arms-of, same-of, flagged-of)
+exec-answered s d status = status-answered (s .geometry) d
 
 module _ (s : Setting) where
+  -- every cycle on every chip leaves the flag as it was, or changes nothing but the flag
+  pub illegal-changes-nothing : (d : Device) (c : Cycle) → (exec s d c .port .illegal ≡ d .port .illegal) ⊎ (exec s d c ≡ illegalCycle d)
+  illegal-changes-nothing d c = exec-answered s d c .answered
+
+  pub illegal-keeps : (d : Device) (c : Cycle) → d .port .illegal ≡ 0 → (exec s d c .port .illegal ≡ 0 → ⊥) → exec s d c ≡ illegalCycle d
+  illegal-keeps d c e n = ⊎-elim (λ f. absurd (n (f ∙ e))) (λ f. f) (illegal-changes-nothing d c)
+
   legal-before : (d : Device) (c : Cycle) → exec s d c .port .illegal ≡ 0 → d .port .illegal ≡ 0
-  legal-before d c h = ⊎-elim (λ e. omega (arith, e)) (λ e. absurd (omega (arith, e))) (exec-kept s d c .kept)
+  legal-before d c h =
+      ⊎-elim (λ e. sym e ∙ h)
+      (λ e. let one : exec s d c .port .illegal ≡ 1 = ap (λ (x : Device). x .port .illegal) e in absurd (omega arith))
+      (illegal-changes-nothing d c)
 
   pub legal-start : (d : Device) (cs : List Cycle) → run s d cs .port .illegal ≡ 0 → d .port .illegal ≡ 0
   unfolding run

@@ -38,6 +38,12 @@ pub stop-answer : (o : Outcome) → isReadEnd o ≡ true → isPassed o ≡ fals
 unfolding stopAnswer
 stop-answer o r f = ⊎-elim (λ s. inl (rw s)) (λ c. inr (rw (c .0, c .1))) (stopped-so o r f)
 
+pub stop-silent : (o : Outcome) → stopAnswer o ≡ 10 → isSilent o ≡ true
+unfolding stopAnswer
+stop-silent o z =
+    cases (isSilent o) (λ s. s)
+    (λ s. cases (isCut o) (λ c. absurd (omega (arith, rw (s, c) at z))) (λ c. absurd (omega (arith, rw (s, c) at z))))
+
 pub stop-cut : (o : Outcome) → stopAnswer o ≡ 11 → isCut o ≡ true
 unfolding stopAnswer
 stop-cut o z =
@@ -51,15 +57,12 @@ unfolding stopAnswer
 stop-least o =
     cases (isSilent o) (λ s. rw s (omega arith)) (λ s. cases (isCut o) (λ c. rw (s, c) (omega arith)) (λ c. rw (s, c) (omega arith)))
 
--- the answer of a request whose last operation neither failed nor was refused
-pub answer-most : (o : Outcome) → isReadEnd o ≡ true → answerFor o ≤ 11
-answer-most o r =
-    cases (isPassed o) (λ t. rw t (omega arith))
-    (λ f. rw f (⊎-elim (λ e. omega (arith, e)) (λ e. omega (arith, e)) (stop-answer o r f)))
-
 -- no operation is answered by 1
 pub answer-least : (o : Outcome) → answerFor o ≡ 1 → ⊥
 answer-least o z = cases (isPassed o) (λ t. omega (arith, rw t at z)) (λ f. omega (arith, rw f at z, stop-least o))
+
+pub answer-silent : (o : Outcome) → answerFor o ≡ 10 → isSilent o ≡ true
+answer-silent o z = cases (isPassed o) (λ t. absurd (omega (arith, rw t at z))) (λ f. stop-silent o (rw f at z))
 
 pub answer-cut : (o : Outcome) → answerFor o ≡ 11 → isCut o ≡ true
 answer-cut o z = cases (isPassed o) (λ t. absurd (omega (arith, rw t at z))) (λ f. stop-cut o (rw f at z))

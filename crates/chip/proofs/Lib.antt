@@ -1,1 +1,2 @@
 pub mod ConfirmableLaws
+pub mod IllegalLaws

@@ -169,10 +169,10 @@ fn read_row_4(
 fn reset_chip(label: &[u8], a: &mut [u8], r: &mut [u8], h: &mut [u8], fates: &[u32]) -> Bus {
     let mask = [0u8; 192];
     let start = Bus::new(Interface::power_on(), 10000);
-    shown(
-        label,
-        operations::reset(start, small(), a, r, h, &mask, fates),
-    )
+    let done = operations::reset(start, small(), a, r, h, &mask, fates);
+    let bus = done.bus;
+    let outcome = done.outcome;
+    shown(label, Done { bus, outcome })
 }
 
 fn show_operations() {

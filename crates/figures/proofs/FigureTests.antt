@@ -35,7 +35,7 @@ use Rattle.copies.specs.Pick.{better, pick, someBelow}
 use Rattle.mount.specs.Mount.{mountRun}
 use Rattle.copies.specs.Table as table
 use Rattle.figures.specs.Figures as bench
-use Rattle.figures.specs.Figures.{figures, given, paper}
+use Rattle.figures.specs.Figures.{figures, mountRows, formatRows, given, paper}
 
 -- every starred case is as the paper says
 pub figures-agree : given figures ≡ paper figures
@@ -91,3 +91,12 @@ mount-wrong = refl
 mount-clash : mountAnswer bench.small (bench.copyArray 1 2 2) ≡ 6
 unfolding agrees completeTo isComplete isTable isData isCopyOf above isMarked aboveTo currentTable currentCopy aboveAll nextNumber filledLast sharesNumber clashesAt clashes judgeTable mountAnswer better pick someBelow table.clearWhere table.rightFirst table.rightPage table.rightTo table.rightTable table.tablePage tableMain put numberWidth bytesOf numberOf labelBytes encoded kindOf labelOf allOnes storedCheck countedCheck whole zeroBits ones bitAt withBit countBits clearFrom
 mount-clash = refl
+
+-- where conditions meet, the answers are those of the paper's table
+pub mount-rows-agree : given mountRows ≡ paper mountRows
+unfolding given paper agrees completeTo isComplete isTable isData isCopyOf above isMarked aboveTo currentTable currentCopy aboveAll nextNumber filledLast sharesNumber clashesAt clashes judgeTable mountAnswer better pick someBelow table.clearWhere table.rightFirst table.rightPage table.rightTo table.rightTable table.tablePage tableMain put numberWidth bytesOf numberOf labelBytes encoded kindOf labelOf allOnes storedCheck countedCheck whole zeroBits ones bitAt withBit countBits clearFrom
+mount-rows-agree = refl
+
+pub format-rows-agree : given formatRows ≡ paper formatRows
+unfolding given paper ones begun statusMode readMode plainCommand addressFits latched addressed fateWord nextFate started statusByte fitting readStarted programStarted eraseStarted completed isConfirm confirmed confirmable commanded dataTaken dataGiven dataByte finished statusRead exec programmed weakened raised put mayGo cutAfter send byteOut sendAll sent goesOn waiting polls outcomeOf isPassed endedAs readCycles readOutcome outputs readOutputs startedBy readOn resetOn pagesRead blocksRead sized stopAnswer isSilent isCut bitAt withBit countBits zeroBits numberWidth bytesOf numberOf labelBytes encoded kindOf labelOf allOnes storedCheck countedCheck whole isMarked aboveTo marksTo marksRead afterErase blockErased failedAt aboveAt erasedTo eraseOn programOn isFailed mainOf mainRead pageFilled pagesFilled tableMain permitted searchAfter countPermitted afterFill tryBlock tryTable tablesFilled firstState tooFew tablesRun roundRun marksRun formatting table.tablePage
+format-rows-agree = refl

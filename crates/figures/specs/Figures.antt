@@ -10,6 +10,7 @@ use Rattle.interface.specs.Interface.{poweredOn}
 use Rattle.array.specs.Device.{Device, Setting, device, setting}
 use Rattle.pages.specs.Layout.{label, encoded, storedCheck, whole, dataKind, tableKind}
 use Rattle.copies.specs.Blocks.{blockIn, pageIn}
+use Rattle.copies.specs.Current.{mountAnswer}
 use Rattle.state.specs.State.{blank}
 use Rattle.state.specs.declared.State.{State}
 use Rattle.calls.specs.Call.{Result}
@@ -87,22 +88,64 @@ unfoldable pub paper : List Figure → List (List ℕ)
 paper [] = []
 paper (f ∷ fs) = f .paper ∷ paper fs
 
+-- a block whose pages bear one label, with these main bytes on page 0 and FFh on the others
+abbrev pub blockWith : ℕ → ℕ → ℕ → List ℕ → List ℕ
+blockWith kind logical number first =
+    encoded 16 (label kind logical 0 number) first
+    ++ (encoded 16 (label kind logical 1 number) (replicate 32 255)
+    ++ (encoded 16 (label kind logical 2 number) (replicate 32 255) ++ encoded 16 (label kind logical 3 number) (replicate 32 255)))
+
+-- a table under a number that lists the blocks whose bits one byte has set
+abbrev pub tableBlock : ℕ → ℕ → List ℕ
+tableBlock number bits = blockWith tableKind 0 number (tableMain small (bits ∷ []) 0)
+
+-- an erased array with these bytes in a block
+abbrev pub arrayWith : ℕ → List ℕ → List ℕ
+arrayWith block bytes = put (block * 192) bytes (replicate 768 255)
+
 -- the array with a table under number 1 in block 0, and with a data copy in a block, A5h in page 0 and FFh in the others
 abbrev pub tableArray : List ℕ
-tableArray =
-    put 0
-    (encoded 16 (label tableKind 0 0 1) (tableMain small (replicate 512 0) 0)
-    ++ (encoded 16 (label tableKind 0 1 1) (replicate 32 255)
-    ++ (encoded 16 (label tableKind 0 2 1) (replicate 32 255) ++ encoded 16 (label tableKind 0 3 1) (replicate 32 255))))
-    (replicate 768 255)
+tableArray = arrayWith 0 (tableBlock 1 0)
 
 abbrev pub copyArray : ℕ → ℕ → ℕ → List ℕ
-copyArray block logical number =
-    put (block * 192)
-    (encoded 16 (label dataKind logical 0 number) (replicate 32 165)
-    ++ (encoded 16 (label dataKind logical 1 number) (replicate 32 255)
-    ++ (encoded 16 (label dataKind logical 2 number) (replicate 32 255) ++ encoded 16 (label dataKind logical 3 number) (replicate 32 255))))
-    tableArray
+copyArray block logical number = put (block * 192) (blockWith dataKind logical number (replicate 32 165)) tableArray
 
 abbrev pub chipWith : List ℕ → Device
 chipWith array = device poweredOn array (replicate 48 255) (replicate 4 0)
+
+-- tables with one number in blocks 1 and 2
+abbrev pub tiedArray : List ℕ → List ℕ
+tiedArray lower = put 192 (lower ++ tableBlock 3 0) (replicate 768 255)
+
+-- a formatting for N logical blocks of a chip with a table under a number in block 0, whose first erase fails and takes no
+-- effect; in the second form the first program of a table fails too
+abbrev pub formattedFrom : ℕ → ℕ → List ℕ → Result
+formattedFrom n number fates =
+    formatting (setting (record { main = 32; spare = 16; pages = 4; blocks = 4; logical = n }) (replicate 192 0) fates) (chipWith (arrayWith 0 (tableBlock number 0))) 10000 (blank 0)
+
+abbrev pub eraseFails : List ℕ
+eraseFails = replicate 8 0 ++ (65536 ∷ [])
+
+abbrev pub programFails : List ℕ
+programFails = eraseFails ++ (replicate 8 0 ++ (65536 ∷ []))
+
+-- answers where conditions meet: mounts of two tables with one number (a clash; done where the lower lists the other; the
+-- lower is current and wrong), of a table that is labelled with logical block 1, and of one that lists a marked block
+abbrev pub mountRows : List Figure
+mountRows =
+    figure (mountAnswer small (tiedArray (tableBlock 3 0)) ∷ []) (6 ∷ [])
+    ∷ figure (mountAnswer small (tiedArray (tableBlock 3 4)) ∷ []) (0 ∷ [])
+    ∷ figure (mountAnswer small (tiedArray (blockWith tableKind 0 3 (replicate 32 255))) ∷ []) (5 ∷ [])
+    ∷ figure (mountAnswer small (arrayWith 0 (blockWith tableKind 1 1 (tableMain small (0 ∷ []) 0))) ∷ []) (5 ∷ [])
+    ∷ figure (mountAnswer small (set (arrayWith 0 (tableBlock 1 8)) 608 0) ∷ []) (5 ∷ [])
+    ∷ []
+
+-- formattings: number 4,294,967,295 is used, the next fill gets 9, and so does a first fill above it; 8 comes before 9
+-- where three blocks are left for N = 2
+abbrev pub formatRows : List Figure
+formatRows =
+    figure (formattedFrom 1 4294967294 eraseFails .answer ∷ formattedFrom 1 4294967294 eraseFails .state .number ∷ []) (0 ∷ 4294967296 ∷ [])
+    ∷ figure (formattedFrom 1 4294967294 programFails .answer ∷ []) (9 ∷ [])
+    ∷ figure (formattedFrom 1 4294967295 eraseFails .answer ∷ []) (9 ∷ [])
+    ∷ figure (formattedFrom 2 4294967295 eraseFails .answer ∷ []) (8 ∷ [])
+    ∷ []

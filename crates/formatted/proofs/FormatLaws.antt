@@ -1,13 +1,13 @@
 -- A formatting as a whole: every cycle legal, marked blocks untouched, and what an acknowledged one leaves. Assumes nothing.
 use Prim.Native.Nat.{ℕ, zero, suc, _+_, _*_, _≤_, _<_}
-use mathlib.Core.Bool.{true, false}
+use mathlib.Core.Bool.{true, false, false≢true}
 use mathlib.Core.List.{List, []}
-use mathlib.Core.Logic.{⊎-elim}
+use mathlib.Core.Logic.{_⊎_, inl, inr, ⊎-elim}
 use mathlib.Core.Path.{_≡_, refl, sym, ap, subst, _∙_}
-use native.Mathlib.Nat.{mul-le-mul-right}
+use native.Mathlib.Nat.{mul-le-mul-right, add-zero}
 use native.Mathlib.Omega.{arith}
 use borrow.Table.Steps.{cases}
-use borrow.Author.Tests.{eqb-true}
+use borrow.Author.Tests.{eqb-true, eqb-false, ltb-true, ltb-false}
 use lib.Dec.{eqb}
 use lib.ListN.{length, replicate}
 use Rattle.geometry.specs.declared.Geometry.{Geometry}
@@ -21,36 +21,49 @@ use Rattle.polling.specs.Outcomes.{isPassed, isReadEnd}
 use Rattle.polling.specs.declared.Outcome.{Outcome}
 use Rattle.polling.specs.declared.Outcome.the-variants.{Passed}
 use Rattle.operations.specs.Ends.{Called}
+use Rattle.operations.specs.Trace.{ArrayOperation}
 use Rattle.copies.specs.Blocks.{blockIn, pageIn, isMarked}
 use Rattle.copies.specs.Current.{currentTable, filledLast, nextNumber}
 use Rattle.choose.specs.Choose.{permitted, countPermitted}
 use Rattle.state.specs.State.{blank}
+use Rattle.state.proofs.MountedLaws.{blank-clear}
 use Rattle.state.specs.declared.State.{State}
 use Rattle.found.specs.Contents.{mapOf}
 use Rattle.found.specs.Found.{bitsAt, marksTo}
 use Rattle.calls.specs.Call.{sizedFor, callLine, stopAnswer}
-use Rattle.calls.proofs.CallLaws.{sizes, stop-answer, stop-cut}
+use Rattle.calls.proofs.CallLaws.{sizes, stop-answer, stop-cut, stop-silent}
 use Rattle.progress.specs.Progress.{Progress, progress, readOn, resetOn}
+use Rattle.fill.specs.Fill.{tableCopy, tableMain, pageOf}
 use Rattle.mount.specs.Mount.{mountedState, blockOf}
 use Rattle.mount.proofs.MountLaws.{mark-bit}
 use Rattle.marks.specs.Marks.{marksRead}
 use Rattle.erasing.specs.Round.{Round, erasedTo}
+use Rattle.erasing.proofs.RoundLaws.{round-stopped}
 use Rattle.tables.specs.Tables.{Tabled, tabled, numbersLeft}
 use Rattle.format.specs.Format.{firstState, tooFew, stopped, tablesOf, tablesRun, roundRun, marksRun, formatRun}
-use Rattle.runs.specs.Run.{failedIn, NoneFailed, Sound, Unchanged, Spent, readMost, fillMost, blockOn}
+use Rattle.runs.specs.Run.{failedIn, NoneFailed, Sound, Unchanged, Spent, readMost, fillMost, blockOn, Slow, Failing}
 use Rattle.runs.proofs.PlaceLaws.{page-erased}
 use Rattle.runs.proofs.ReadLaws.{read-unchanged, read-spends, read-calm, reset-unchanged, reset-spends}
 use Rattle.runs.proofs.CopyLaws.{erased-unmarked}
 use Rattle.formatted.proofs.SettledLaws as settled
 use Rattle.formatted.proofs.TablesLaws.{Ready, Done, Left, tables-leave}
 use Rattle.formatted.proofs.RoundLaws.{Rounded, round-leaves}
-use Rattle.formatted.specs.Formatting.{Formatted, blockMost, formatMost}
+use Rattle.formatted.proofs.CountLaws.{count-unfailed, none-unfailed, some-unfailed}
+use Rattle.formatted.specs.Formatting.{Formatted, FormatAnswer, is-worn, is-silent, is-cut, unfailed, roundFrom, roundDone, blockMost, formatMost}
 
 -- how a formatting of chip d ends that may send n cycles, whatever fails or is cut
 pub record FormatLeft (s : Setting) (d : Device) (n : ℕ) (t : Tabled) : Type 0 where
   pub legal : t .progress .line .chip .port .illegal ≡ 0
-  pub answers : t .answer ≤ 11
+  pub answers : FormatAnswer (t .answer)
+  pub worn-by : t .answer ≡ 8 → (unfailed (s .geometry) (d .array) (roundDone s d n .started) (s .geometry .blocks) < s .geometry .logical + 2)
+      ⊎ (unfailed (s .geometry) (d .array) (t .progress .started) (s .geometry .blocks) ≡ 0)
+  pub worn-so : isPassed (roundDone s d n .outcome) ≡ true → unfailed (s .geometry) (d .array) (roundDone s d n .started) (s .geometry .blocks) < s .geometry .logical + 2 → t .answer ≡ 8
+  pub worn-out : isPassed (roundDone s d n .outcome) ≡ true → unfailed (s .geometry) (d .array) (t .progress .started) (s .geometry .blocks) ≡ 0 → (t .answer ≡ 8) ⊎ (t .answer ≡ 9)
+  pub spent-by : t .answer ≡ 9 → Failing (s .fates)
+  pub silent-by : t .answer ≡ 10 → Slow (s .fates)
   pub used-up : t .answer ≡ 11 → t .progress .line .left ≡ 0
+  pub round-failed : (b : ℕ) → b < s .geometry .blocks → failedIn b (roundDone s d n .started) ≡ true → Failing (s .fates)
+  pub failed-by : (b : ℕ) → b < s .geometry .blocks → failedIn b (t .progress .started) ≡ true → Failing (s .fates)
   pub stopped-so : (t .answer ≡ 0 → ⊥) → t .state ≡ blank 2
   pub marked-kept : (b : ℕ) → b < s .geometry .blocks → isMarked (s .geometry) (blockIn (s .geometry) (d .array) b) ≡ true
       → blockIn (s .geometry) (t .progress .line .chip .array) b ≡ blockIn (s .geometry) (d .array) b
@@ -115,14 +128,25 @@ count-most marked invalid held (suc n) =
     let less = count-most marked invalid held n in
     cases (permitted marked invalid held n) (λ t. rw t (omega (arith, less))) (λ t. rw t (omega (arith, less)))
 
-stop-most : (o : Outcome) → isReadEnd o ≡ true → isPassed o ≡ false → (stopAnswer o ≤ 11) × (stopAnswer o ≡ 0 → ⊥)
-stop-most o r f = ⊎-elim (λ e. (omega (arith, e), λ z. omega (arith, e, z))) (λ e. (omega (arith, e), λ z. omega (arith, e, z))) (stop-answer o r f)
+-- silent or cut
+stop-least : (o : Outcome) → isReadEnd o ≡ true → isPassed o ≡ false → FormatAnswer (stopAnswer o) × (10 ≤ stopAnswer o)
+stop-least o r f =
+    ⊎-elim (λ e. (subst FormatAnswer (sym e) is-silent, omega (arith, e))) (λ e. (subst FormatAnswer (sym e) is-cut, omega (arith, e))) (stop-answer o r f)
 
 -- a formatting that led from p to t
 pub record Whole (s : Setting) (p : Progress) (t : Tabled) : Type 0 where
   pub sound : Sound s (t .progress)
-  pub answers : t .answer ≤ 11
+  pub answers : FormatAnswer (t .answer)
+  pub worn-by : t .answer ≡ 8 → (unfailed (s .geometry) (p .line .chip .array) (roundFrom s p .progress .started) (s .geometry .blocks) < s .geometry .logical + 2)
+      ⊎ (unfailed (s .geometry) (p .line .chip .array) (t .progress .started) (s .geometry .blocks) ≡ 0)
+  pub worn-so : isPassed (roundFrom s p .progress .outcome) ≡ true → unfailed (s .geometry) (p .line .chip .array) (roundFrom s p .progress .started) (s .geometry .blocks) < s .geometry .logical + 2
+      → t .answer ≡ 8
+  pub worn-out : isPassed (roundFrom s p .progress .outcome) ≡ true → unfailed (s .geometry) (p .line .chip .array) (t .progress .started) (s .geometry .blocks) ≡ 0 → (t .answer ≡ 8) ⊎ (t .answer ≡ 9)
+  pub spent-by : t .answer ≡ 9 → Failing (s .fates)
+  pub silent-by : t .answer ≡ 10 → Slow (s .fates)
   pub used-up : t .answer ≡ 11 → t .progress .line .left ≡ 0
+  pub round-failed : (b : ℕ) → b < s .geometry .blocks → failedIn b (roundFrom s p .progress .started) ≡ true → Failing (s .fates)
+  pub failed-by : (b : ℕ) → b < s .geometry .blocks → failedIn b (t .progress .started) ≡ true → Failing (s .fates)
   pub stopped-so : (t .answer ≡ 0 → ⊥) → t .state ≡ blank 2
   pub marked-kept : (b : ℕ) → b < s .geometry .blocks → isMarked (s .geometry) (blockOn s p b) ≡ true → blockOn s (t .progress) b ≡ blockOn s p b
   pub called : t .answer ≡ 0 → Called s (t .progress .line)
@@ -146,19 +170,34 @@ module _ (s : Setting) (v : Valid (s .geometry)) (mask-bytes : Bytes (s .mask)) 
   rounded : Rounded s marked p (g .blocks) r
   rounded = round-leaves s v mask-bytes marked p mark-is sound ends none (g .blocks) (omega arith)
 
-  -- a run that ends with a stopped state
-  stops : (t : Tabled) → Sound s (t .progress) → t .answer ≤ 11 → (t .answer ≡ 11 → t .progress .line .left ≡ 0) → t .state ≡ blank 2 → (t .answer ≡ 0 → ⊥) → ((b : ℕ) → b < g .blocks → bitAt marked b ≡ true → blockOn s (t .progress) b ≡ blockOn s p b) → Spent p (t .progress) (g .blocks * blockMost g) → Whole s p t
-  stops t x most used blank-so not-done kept few =
+  -- the blocks left after the first round
+  abbrev unfailed-round : ℕ
+  unfailed-round = unfailed g (p .line .chip .array) (r .progress .started) (g .blocks)
+
+  round-count : unfailed-round ≡ countPermitted marked (r .invalid) (replicate 512 0) (g .blocks)
+  round-count = count-unfailed g (p .line .chip .array) (r .progress .started) marked (r .invalid) (g .blocks) (v .blocks-most) mark-is (rounded .failures)
+
+  -- a run that ends with the first round
+  stops : (a : ℕ) → FormatAnswer a → (a ≡ 0 → ⊥) → (a ≡ 8 → unfailed-round < g .logical + 2) → (isPassed (r .progress .outcome) ≡ true → unfailed-round < g .logical + 2 → a ≡ 8) → (a ≡ 9 → ⊥)
+      → (a ≡ 10 → Slow (s .fates)) → (a ≡ 11 → r .progress .line .left ≡ 0) → Whole s p (tabled (r .progress) a (blank 2))
+  stops a is not-done worn-by worn-so not-spent silent-by used =
       record {
-        sound = x;
-        answers = most;
+        sound = rounded .sound;
+        answers = is;
+        worn-by = λ z. inl (worn-by z);
+        worn-so = worn-so;
+        worn-out = λ y none. inl (worn-so y (omega (arith, none)));
+        spent-by = λ z. absurd (not-spent z);
+        silent-by = silent-by;
         used-up = used;
-        stopped-so = λ y. blank-so;
-        marked-kept = λ b h m. kept b h (sym (mark-is b h) ∙ m);
+        round-failed = rounded .failed-by;
+        failed-by = rounded .failed-by;
+        stopped-so = λ y. refl;
+        marked-kept = λ b h m. rounded .marked-kept b h (sym (mark-is b h) ∙ m);
         called = λ z. absurd (not-done z);
         formatted = λ z. absurd (not-done z);
         failures = λ z. absurd (not-done z);
-        spent = omega (arith, few);
+        spent = omega (arith, rounded .spent);
       }
 
   -- the first round passed
@@ -196,6 +235,7 @@ module _ (s : Setting) (v : Valid (s .geometry)) (mask-bytes : Bytes (s .mask)) 
           listed = λ b h m t. omega (arith, rounded .numbers y b h t, number-above);
           apart = rounded .apart;
           failures = rounded .failures;
+          failed-by = rounded .failed-by;
         }
 
     abbrev t : Tabled
@@ -233,6 +273,10 @@ module _ (s : Setting) (v : Valid (s .geometry)) (mask-bytes : Bytes (s .mask)) 
           record {
             table-is = settled.current-is (d .settled);
             lists-are = settled.lists-invalid (d .settled);
+            number-next = d .number-is ∙ ap (λ (k : ℕ). k + 1) (sym (settled.number-is (d .settled)));
+            table-pages = λ i h.
+                d .settled .table-pages i h ∙ ap (λ (k : ℕ). pageOf g (tableCopy k) i (tableMain g (t .state .invalid) i)) (sym (settled.number-is (d .settled)));
+            erased = λ b h x m l. d .settled .erased b h x m (sym (settled.lists-invalid (d .settled) b h) ∙ l);
             only-table = λ b h c l. settled.only-table (d .settled) b h c (sym (settled.lists-invalid (d .settled) b h) ∙ l);
             mounts = settled.mounts-well (d .settled);
             state-is = state-is;
@@ -250,17 +294,67 @@ module _ (s : Setting) (v : Valid (s .geometry)) (mask-bytes : Bytes (s .mask)) 
     fills-most : countPermitted marked (r .invalid) (replicate 512 0) (g .blocks) * fillMost g ≤ g .blocks * fillMost g
     fills-most = mul-le-mul-right (fillMost g) (count-most marked (r .invalid) (replicate 512 0) (g .blocks))
 
+    -- worn: every unmarked block failed
+    worn-all : t .answer ≡ 8 → (b : ℕ) → b < g .blocks → isMarked g (blockOn s p b) ≡ false → failedIn b (t .progress .started) ≡ true
+    unfolding firstState permitted
+    worn-all z b h m =
+        let free : bitAt marked b ≡ false = sym (mark-is b h) ∙ m in
+        cases (bitAt (r .invalid) b)
+        (λ i. left .failed-kept b (rounded .failures b h ∙ i))
+        (λ i. left .worn-by z b h (rw (free, i, blank-clear b (omega (arith, h, v .blocks-most)))))
+
+    -- spent: an erase failed, or a fill
+    spent-failing : t .answer ≡ 9 → Failing (s .fates)
+    unfolding firstState
+    spent-failing z =
+        ⊎-elim
+        (λ most.
+        cases (eqb (r .above) 0)
+        (λ e. absurd (omega (arith, rw e at most)))
+        (λ e. rounded .above-by (eqb-false (r .above) 0 e)))
+        (λ f. f)
+        (left .spent-by z)
+
+    -- no block is left: worn or spent
+    none-left : unfailed g (p .line .chip .array) (t .progress .started) (g .blocks) ≡ 0 → (t .answer ≡ 8) ⊎ (t .answer ≡ 9)
+    unfolding firstState
+    none-left none =
+        cases (eqb (t .answer) 8)
+        (λ e. inl (eqb-true (t .answer) 8 e))
+        (λ e.
+        cases (eqb (t .answer) 9)
+        (λ i. inr (eqb-true (t .answer) 9 i))
+        (λ i.
+        let u = left .unworn (eqb-false (t .answer) 8 e) (eqb-false (t .answer) 9 i) in
+        absurd (omega (arith, none, some-unfailed g (p .line .chip .array) (t .progress .started) (g .blocks) (u .block) (u .below) (mark-is (u .block) (u .below) ∙ u .unmarked) (u .unfailed)))))
+
+    few-blocks : tooFew g marked (r .invalid) ≡ true → unfailed-round < g .logical + 2
+    unfolding tooFew
+    few-blocks few = omega (arith, round-count, ltb-true (countPermitted marked (r .invalid) (replicate 512 0) (g .blocks)) (g .logical + 2) few)
+
+    many-blocks : tooFew g marked (r .invalid) ≡ false → unfailed-round < g .logical + 2 → ⊥
+    unfolding tooFew
+    many-blocks enough less = omega (arith, less, round-count, ltb-false (countPermitted marked (r .invalid) (replicate 512 0) (g .blocks)) (g .logical + 2) enough)
+
     tables-whole : Whole s p (tablesRun s marked (r .invalid) (r .above) (r .progress))
     unfolding tablesRun
     tables-whole =
         cases (tooFew g marked (r .invalid))
-        (λ few. subst (Whole s p) (sym (rw few)) (stops (tabled (r .progress) 8 (blank 2)) (rounded .sound) (omega arith) (λ z. absurd (omega (arith, z))) refl (λ z. omega (arith, z)) (rounded .marked-kept) (rounded .spent)))
+        (λ few. subst (Whole s p) (sym (rw few))
+        (stops 8 is-worn (λ z. omega (arith, z)) (λ z. few-blocks few) (λ x less. refl) (λ z. omega (arith, z)) (λ z. absurd (omega (arith, z))) (λ z. absurd (omega (arith, z)))))
         (λ enough.
         subst (Whole s p) (sym (rw enough))
         (record {
           sound = left .sound;
           answers = left .answers;
+          worn-by = λ z. inr (none-unfailed g (p .line .chip .array) (t .progress .started) (g .blocks) (worn-all z));
+          worn-so = λ x less. absurd (many-blocks enough less);
+          worn-out = λ x none. none-left none;
+          spent-by = spent-failing;
+          silent-by = left .silent-by;
           used-up = left .used-up;
+          round-failed = rounded .failed-by;
+          failed-by = left .failed-by;
           stopped-so = left .stopped;
           marked-kept = λ b h m. kept-marked b h (sym (mark-is b h) ∙ m);
           called = λ z. d z .called;
@@ -276,8 +370,11 @@ module _ (s : Setting) (v : Valid (s .geometry)) (mask-bytes : Bytes (s .mask)) 
       cases (isPassed (r .progress .outcome))
       (λ y. subst (Whole s p) (sym (rw y)) (tables-whole y))
       (λ f.
-      let most = stop-most (r .progress .outcome) (rounded .ends) f in
-      subst (Whole s p) (sym (rw f)) (stops (stopped (r .progress)) (rounded .sound) (most .0) (λ z. rounded .sound .used-up (stop-cut (r .progress .outcome) z)) refl (most .1) (rounded .marked-kept) (rounded .spent)))
+      let stop = stop-least (r .progress .outcome) (rounded .ends) f in
+      let least = stop .1 in
+      subst (Whole s p) (sym (rw f))
+      (stops (stopAnswer (r .progress .outcome)) (stop .0) (λ z. omega (arith, z, least)) (λ z. absurd (omega (arith, z, least))) (λ y. absurd (false≢true (sym f ∙ y)))
+      (λ z. omega (arith, z, least)) (λ z. rounded .sound .silent-by (stop-silent (r .progress .outcome) z)) (λ z. rounded .sound .used-up (stop-cut (r .progress .outcome) z))))
 
 -- the request from its reset on
 module _ (s : Setting) (d : Device) (n : ℕ) (t : sizedFor s d ≡ true) (mask-bytes : Bytes (s .mask)) where
@@ -303,13 +400,25 @@ module _ (s : Setting) (d : Device) (n : ℕ) (t : sizedFor s d ≡ true) (mask-
   block-same : (b : ℕ) → blockOn s q b ≡ blockIn (s .geometry) (d .array) b
   block-same b = ap (λ (a : List ℕ). blockIn (s .geometry) a b) (same .same-array)
 
+  -- the count of blocks is that of the chip as it was handed in
+  unfailed-same : (trace : List ArrayOperation) → unfailed (s .geometry) (q .line .chip .array) trace (s .geometry .blocks) ≡ unfailed (s .geometry) (d .array) trace (s .geometry .blocks)
+  unfailed-same trace = ap (λ (a : List ℕ). unfailed (s .geometry) a trace (s .geometry .blocks)) (same .same-array)
+
   -- what the marks led to
   whole-run : (x : Tabled) → Whole s q x → FormatLeft s d n x
   whole-run x w =
       record {
         legal = w .sound .legal;
         answers = w .answers;
+        worn-by = λ z.
+            ⊎-elim (λ e. inl (subst (λ (k : ℕ). k < s .geometry .logical + 2) (unfailed-same (roundFrom s q .progress .started)) e)) (λ e. inr (sym (unfailed-same (x .progress .started)) ∙ e)) (w .worn-by z);
+        worn-so = λ y less. w .worn-so y (subst (λ (k : ℕ). k < s .geometry .logical + 2) (sym (unfailed-same (roundFrom s q .progress .started))) less);
+        worn-out = λ y none. w .worn-out y (unfailed-same (x .progress .started) ∙ none);
+        spent-by = w .spent-by;
+        silent-by = w .silent-by;
         used-up = w .used-up;
+        round-failed = w .round-failed;
+        failed-by = w .failed-by;
         stopped-so = w .stopped-so;
         marked-kept = λ b h m. w .marked-kept b h (ap (isMarked (s .geometry)) (block-same b) ∙ m) ∙ block-same b;
         called = w .called;
@@ -318,18 +427,33 @@ module _ (s : Setting) (d : Device) (n : ℕ) (t : sizedFor s d ≡ true) (mask-
         spent = omega (arith, w .spent, few);
       }
 
+  -- a round that does not begin erases nothing
+  none-erased : isPassed (q .outcome) ≡ false → roundFrom s q .progress ≡ q
+  unfolding erasedTo
+  none-erased f =
+      let marks : List ℕ = marksTo (s .geometry) (q .line .chip .array) (s .geometry .blocks) in
+      ap (λ (k : ℕ). erasedTo s marks k q .progress) (sym (add-zero (s .geometry .blocks))) ∙ round-stopped s marks 0 q f (s .geometry .blocks)
+
   stop-run : isPassed (q .outcome) ≡ false → FormatLeft s d n (stopped q)
   stop-run f =
-      let most = stop-most (q .outcome) (same .ends) f in
+      let stop = stop-least (q .outcome) (same .ends) f in
+      let least = stop .1 in
       record {
         legal = same .sound .legal;
-        answers = most .0;
+        answers = stop .0;
+        worn-by = λ z. absurd (omega (arith, z, least));
+        worn-so = λ y. absurd (false≢true (sym (ap (λ (x : Progress). isPassed (x .outcome)) (none-erased f) ∙ f) ∙ y));
+        worn-out = λ y. absurd (false≢true (sym (ap (λ (x : Progress). isPassed (x .outcome)) (none-erased f) ∙ f) ∙ y));
+        spent-by = λ z. absurd (omega (arith, z, least));
+        silent-by = λ z. same .sound .silent-by (stop-silent (q .outcome) z);
         used-up = λ z. same .sound .used-up (stop-cut (q .outcome) z);
+        round-failed = λ b h y. absurd (false≢true (sym (ap (λ (x : Progress). failedIn b (x .started)) (none-erased f) ∙ calm b) ∙ y));
+        failed-by = λ b h y. absurd (false≢true (sym (calm b) ∙ y));
         stopped-so = λ y. refl;
         marked-kept = λ b h m. block-same b;
-        called = λ z. absurd (most .1 z);
-        formatted = λ z. absurd (most .1 z);
-        failures = λ z. absurd (most .1 z);
+        called = λ z. absurd (omega (arith, z, least));
+        formatted = λ z. absurd (omega (arith, z, least));
+        failures = λ z. absurd (omega (arith, z, least));
         spent = omega (arith, few);
       }
 

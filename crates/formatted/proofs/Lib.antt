@@ -1,3 +1,4 @@
+pub mod CountLaws
 pub mod SettledLaws
 pub mod TablesLaws
 pub mod RoundLaws

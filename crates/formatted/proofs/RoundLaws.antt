@@ -21,7 +21,7 @@ use Rattle.cells.proofs.CellLaws.{getD-raised, or-full}
 use Rattle.bitmaps.specs.Bitmap.{bitAt, withBit}
 use Rattle.bitmaps.proofs.BitLaws.{bit-set, bit-kept}
 use Rattle.array.specs.Device.{Setting}
-use Rattle.polling.specs.Outcomes.{isPassed, isFailed, isIllegal, isCut, isReadEnd}
+use Rattle.polling.specs.Outcomes.{isPassed, isFailed, isIllegal, isCut, isReadEnd, isSilent}
 use Rattle.operations.specs.Ends.{Called}
 use Rattle.copies.specs.Blocks.{blockIn, markByte, isMarked, aboveTo}
 use Rattle.copies.proofs.PickLaws.{up-to}
@@ -31,7 +31,7 @@ use Rattle.progress.specs.Steps.{eraseOn, resumed}
 use Rattle.polling.proofs.OutcomeLaws.{passed-answered, failed-answered, read-end-unfailed, failed-unpassed, unfailed-end}
 use Rattle.progress.proofs.StepLaws.{erase-stopped}
 use Rattle.erasing.specs.Round.{Round, round, afterErase, blockErased, failedAt, aboveAt, erasedTo}
-use Rattle.runs.specs.Run.{failedIn, NoneFailed, Sound, Unchanged, Erased, Spent, readMost, blockOn}
+use Rattle.runs.specs.Run.{failedIn, NoneFailed, Sound, Unchanged, Erased, Spent, readMost, blockOn, Failing}
 use Rattle.runs.proofs.PlaceLaws.{block-long, page-within}
 use Rattle.runs.proofs.ReadLaws.{pages-unchanged, pages-spend, pages-calm}
 use Rattle.runs.proofs.TraceLaws.{unfailed-none}
@@ -81,6 +81,8 @@ pub record Rounded (s : Setting) (marked : List ℕ) (p : Progress) (n : ℕ) (r
   pub numbers : isPassed (r .progress .outcome) ≡ true → (b : ℕ) → b < n → bitAt (r .invalid) b ≡ true → aboveTo (s .geometry) (blockOn s (r .progress) b) (s .geometry .pages) ≤ r .above
   pub spent : Spent p (r .progress) (n * blockMost (s .geometry))
   pub failures : (b : ℕ) → b < s .geometry .blocks → failedIn b (r .progress .started) ≡ bitAt (r .invalid) b
+  pub failed-by : (b : ℕ) → b < s .geometry .blocks → failedIn b (r .progress .started) ≡ true → Failing (s .fates)
+  pub above-by : (r .above ≡ 0 → ⊥) → Failing (s .fates)
 
 module _ (s : Setting) (v : Valid (s .geometry)) (mask-bytes : Bytes (s .mask)) (marked : List ℕ) (p : Progress) (marks : (b : ℕ) → b < s .geometry .blocks → isMarked (s .geometry) (blockOn s p b) ≡ bitAt marked b) where
   next-round : ℕ → Round → Round
@@ -136,6 +138,8 @@ module _ (s : Setting) (v : Valid (s .geometry)) (mask-bytes : Bytes (s .mask)) 
                 up-to (λ k. bitAt (r .invalid) k ≡ true → aboveTo (s .geometry) (blockOn s (r .progress) k) (s .geometry .pages) ≤ r .above) n b l (x .numbers y b) unlisted;
             spent = omega (arith, x .spent, more);
             failures = x .failures;
+            failed-by = x .failed-by;
+            above-by = x .above-by;
           }
 
       -- a block that is erased
@@ -191,6 +195,8 @@ module _ (s : Setting) (v : Valid (s .geometry)) (mask-bytes : Bytes (s .mask)) 
                     (λ h c. subst (λ (row : List ℕ). aboveTo (s .geometry) row (s .geometry .pages) ≤ r .above) (sym (others-before b h)) (x .numbers t b h c)) unlisted;
                 spent = omega (arith, x .spent, left .spent, more);
                 failures = λ b h. unfailed-none q e n f (left .failures) b ∙ x .failures b h;
+                failed-by = λ b h z. x .failed-by b h (sym (unfailed-none q e n f (left .failures) b) ∙ z);
+                above-by = x .above-by;
               }
 
         -- the erase failed: the pages are read
@@ -206,10 +212,10 @@ module _ (s : Setting) (v : Valid (s .geometry)) (mask-bytes : Bytes (s .mask)) 
           failed-is = rw (t, free, w)
 
           goes-on : Unchanged s (e .line .chip .array) (e .line .chip .history) (resumed e)
-          unfolding isIllegal isReadEnd isCut
+          unfolding isIllegal isReadEnd isCut isSilent isFailed
           goes-on =
               record {
-                sound = record { legal = left .sound .legal; known = refl; used-up = λ c. absurd (false≢true c); called = λ a. left .sound .called (failed-answered (e .outcome) w) };
+                sound = record { legal = left .sound .legal; known = refl; used-up = λ c. absurd (false≢true c); silent-by = λ c. absurd (false≢true c); failed-by = λ c. absurd (false≢true c); called = λ a. left .sound .called (failed-answered (e .outcome) w) };
                 ends = refl;
                 same-array = refl;
                 same-history = refl;
@@ -278,6 +284,8 @@ module _ (s : Setting) (v : Valid (s .geometry)) (mask-bytes : Bytes (s .mask)) 
                     (λ c. subst (λ (row : List ℕ). aboveTo (s .geometry) row (s .geometry .pages) ≤ max (r .above) most) (sym (same-block n)) (omega arith));
                 spent = omega (arith, x .spent, left .spent, scan-spent, more);
                 failures = failed-bits;
+                failed-by = λ b h z. left .sound .failed-by w;
+                above-by = λ z. left .sound .failed-by w;
               }
 
       round-next : Rounded s marked p (suc n) (next-round n r)
@@ -308,6 +316,8 @@ module _ (s : Setting) (v : Valid (s .geometry)) (mask-bytes : Bytes (s .mask)) 
         numbers = λ y b l. absurd (omega (arith, l));
         spent = omega arith;
         failures = λ b l. none b ∙ sym (blank-clear b (omega (arith, l, v .blocks-most)));
+        failed-by = λ b l z. absurd (false≢true (sym (none b) ∙ z));
+        above-by = λ z. absurd (z refl);
       }
   round-leaves sound ends none (suc n) h =
       subst (Rounded s marked p (suc n)) (sym (one-round n)) (round-next n (erasedTo s marked n p) (round-leaves sound ends none n (omega (arith, h))) (omega (arith, h)))

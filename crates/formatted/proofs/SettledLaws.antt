@@ -204,7 +204,7 @@ module _ {g : Geometry} {array invalid : List ℕ} {table number : ℕ} (r : Set
   lower-complete b h x t =
       omega (arith, lower b h x (complete-parts b t .0), above-least g (row b) (g .pages) 0 zero-below (complete-whole b t))
 
-  number-is : numberAt g array table ≡ number
+  pub number-is : numberAt g array table ≡ number
   number-is = ap (λ (l : Label). l .number) table-first
 
   -- the current table

@@ -3,12 +3,13 @@ use Prim.Native.Nat.{ℕ, zero, suc, _+_, _-_, _*_, _/_, _≤_, _<_}
 use mathlib.Core.Bool.{Bool, true, false, cond, true≢false, false≢true}
 use mathlib.Core.List.{List}
 use mathlib.Core.Logic.{⊎-elim}
+use mathlib.Core.Logic.{_⊎_, inl, inr, ⊎-elim}
 use mathlib.Core.Path.{_≡_, refl, sym, ap, subst, _∙_}
 use native.Mathlib.Nat.{suc-mul}
 use native.Mathlib.Numerals.{add-one}
 use native.Mathlib.Omega.{arith}
 use borrow.Table.Steps.{cases}
-use borrow.Author.Tests.{eqb-true, eqb-false}
+use borrow.Author.Tests.{eq-eqb, eqb-true, eqb-false}
 use lib.Dec.{eqb}
 use lib.ListN.{length, replicate}
 use Rattle.geometry.specs.Limits.{Valid}
@@ -18,7 +19,7 @@ use Rattle.cells.specs.Cells.{raised}
 use Rattle.bitmaps.specs.Bitmap.{bitAt, withBit}
 use Rattle.bitmaps.proofs.BitLaws.{bit-set, bit-kept}
 use Rattle.array.specs.Device.{Setting}
-use Rattle.polling.specs.Outcomes.{isPassed, isFailed, isIllegal, isCut}
+use Rattle.polling.specs.Outcomes.{isPassed, isFailed, isIllegal, isCut, isSilent}
 use Rattle.operations.specs.Ends.{Called}
 use Rattle.pages.specs.Over.{Over}
 use Rattle.copies.specs.Blocks.{pageIn, isMarked, aboveTo}
@@ -28,15 +29,15 @@ use Rattle.state.specs.declared.State.{State}
 use Rattle.choose.specs.declared.Choice.{Choice}
 use Rattle.choose.specs.declared.Choice.the-variants.{Block, Worn}
 use Rattle.choose.proofs.ChooseLaws as choose
-use Rattle.calls.specs.Call.{stateFor}
+use Rattle.calls.specs.Call.{answerFor, stateFor}
 use Rattle.progress.specs.Progress.{Progress}
 use Rattle.fill.specs.Fill.{tableCopy, tableSource, tableMain, tableFilled, pageOf}
 use Rattle.progress.specs.Steps.{resumed}
-use Rattle.calls.proofs.CallLaws.{answer-most, answer-cut, answer-passed, answer-stopped}
+use Rattle.calls.proofs.CallLaws.{stop-answer, stop-least, answer-silent, answer-cut, answer-passed, answer-stopped}
 use Rattle.tables.proofs.AfterLaws.{after-passed, after-failed}
 use Rattle.polling.proofs.OutcomeLaws.{unfailed-end, failed-unpassed, passed-answered, failed-answered, passed-unfailed}
 use Rattle.tables.specs.Tables.{Tried, tryBlock, tryTable, afterFill, Tabled, tabled, endedBy, tablesFilled}
-use Rattle.runs.specs.Run.{failedIn, Sound, Meant, from-caller, Filled, Spent, fillMost, blockOn, pageOn}
+use Rattle.runs.specs.Run.{failedIn, Sound, Meant, from-caller, Filled, Spent, fillMost, blockOn, pageOn, Slow, Failing}
 use Rattle.runs.proofs.TraceLaws.{unfailed-none}
 use Rattle.runs.proofs.PlaceLaws.{page-erased}
 use Rattle.runs.proofs.FillLaws.{fill-leaves, over-erased}
@@ -44,7 +45,10 @@ use Rattle.runs.proofs.CopyLaws.{copy-long, copy-bytes, copy-unmarked, raised-a
 use Rattle.bitmaps.proofs.BitmapLaws.{Bitmap, bits-more, bit-more}
 use Rattle.cells.proofs.CellLaws.{raised-erased}
 use Rattle.formatted.proofs.SettledLaws.{Settled, table-label, table-long, table-bytes}
-use Rattle.choose.proofs.ChooseLaws.{by-choice, permitted-parts, count-less}
+use Rattle.choose.proofs.ChooseLaws.{by-choice, permitted-parts, permitted-other, permitted-gone, count-less}
+use Rattle.polling.specs.declared.Outcome.{Outcome}
+use Rattle.bools.proofs.BoolLaws.{and-none, one-true}
+use Rattle.formatted.specs.Formatting.{FormatAnswer, is-done, is-worn, is-spent, is-silent, is-cut}
 
 -- before a table fill: every unmarked block is erased, or is invalid and has only lower numbers
 pub record Ready (s : Setting) (p : Progress) (st : State) : Type 0 where
@@ -57,6 +61,7 @@ pub record Ready (s : Setting) (p : Progress) (st : State) : Type 0 where
   pub listed : (b : ℕ) → b < s .geometry .blocks → bitAt (st .marked) b ≡ false → bitAt (st .invalid) b ≡ true → aboveTo (s .geometry) (blockOn s p b) (s .geometry .pages) ≤ st .number
   pub apart : (b : ℕ) → b < s .geometry .blocks → bitAt (st .marked) b ≡ true → bitAt (st .invalid) b ≡ false
   pub failures : (b : ℕ) → b < s .geometry .blocks → failedIn b (p .started) ≡ bitAt (st .invalid) b
+  pub failed-by : (b : ℕ) → b < s .geometry .blocks → failedIn b (p .started) ≡ true → Failing (s .fates)
 
 -- after a table fill that passed
 pub record Done (s : Setting) (st : State) (q : Progress) (next : State) : Type 0 where
@@ -71,11 +76,25 @@ pub record Done (s : Setting) (st : State) (q : Progress) (next : State) : Type 
   pub called : Called s (q .line)
   pub failures : (b : ℕ) → b < s .geometry .blocks → failedIn b (q .started) ≡ bitAt (next .invalid) b
 
--- however table fills end
+-- an unmarked block that has not failed
+pub record Unfailed (s : Setting) (marked : List ℕ) (p : Progress) : Type 0 where
+  pub block : ℕ
+  pub below : block < s .geometry .blocks
+  pub unmarked : bitAt marked block ≡ false
+  pub unfailed : failedIn block (p .started) ≡ false
+
+-- however table fills end: worn only where every block that was permitted has failed since, spent only where no number was
+-- left or a fill failed
 pub record Left (s : Setting) (held : List ℕ) (st : State) (p : Progress) (t : Tabled) : Type 0 where
   pub sound : Sound s (t .progress)
-  pub answers : t .answer ≤ 11
+  pub answers : FormatAnswer (t .answer)
+  pub worn-by : t .answer ≡ 8 → (b : ℕ) → b < s .geometry .blocks → permitted (st .marked) (st .invalid) held b ≡ true → failedIn b (t .progress .started) ≡ true
+  pub unworn : (t .answer ≡ 8 → ⊥) → (t .answer ≡ 9 → ⊥) → Unfailed s (st .marked) (t .progress)
+  pub spent-by : t .answer ≡ 9 → (4294967296 ≤ st .number) ⊎ Failing (s .fates)
+  pub silent-by : t .answer ≡ 10 → Slow (s .fates)
   pub used-up : t .answer ≡ 11 → t .progress .line .left ≡ 0
+  pub failed-kept : (b : ℕ) → failedIn b (p .started) ≡ true → failedIn b (t .progress .started) ≡ true
+  pub failed-by : (b : ℕ) → b < s .geometry .blocks → failedIn b (t .progress .started) ≡ true → Failing (s .fates)
   pub stopped : (t .answer ≡ 0 → ⊥) → t .state ≡ blank 2
   pub marked-kept : (b : ℕ) → b < s .geometry .blocks → bitAt (st .marked) b ≡ true → blockOn s (t .progress) b ≡ blockOn s p b
   pub done : t .answer ≡ 0 → Done s st (t .progress) (t .state)
@@ -219,11 +238,11 @@ module _ (s : Setting) (mask-bytes : Bytes (s .mask)) (st : State) (p : Progress
       off-next c f e = true≢false (sym (bit-set (st .invalid) b byte-there) ∙ ap (bitAt (withBit (st .invalid) b)) (sym e) ∙ f)
 
       ready-next : Ready s (resumed q) next
-      unfolding isPassed isIllegal isCut
+      unfolding isPassed isIllegal isCut isSilent isFailed
       ready-next =
           record {
             passed = refl;
-            sound = record { legal = left .sound .legal; known = refl; used-up = λ c. absurd (false≢true c); called = λ a. left .sound .called (failed-answered (q .outcome) w) };
+            sound = record { legal = left .sound .legal; known = refl; used-up = λ c. absurd (false≢true c); silent-by = λ c. absurd (false≢true c); failed-by = λ c. absurd (false≢true c); called = λ a. left .sound .called (failed-answered (q .outcome) w) };
             last-below = r .last-below;
             invalid-bits = bits-more (s .geometry .blocks) (st .invalid) b (v .blocks-most) below (r .invalid-bits);
             marks = marks-failed;
@@ -237,7 +256,19 @@ module _ (s : Setting) (mask-bytes : Bytes (s .mask)) (st : State) (p : Progress
                 ∙ ap (λ (x : Bool). cond (failedIn c (p .started)) true (cond (eqb b c) x false)) w
                 ∙ ap (λ (x : Bool). cond x true (cond (eqb b c) true false)) (r .failures c h)
                 ∙ bit-more (st .invalid) b c byte-there;
+            failed-by = λ c h z. left .sound .failed-by w;
           }
+
+-- an answer after a fill that did not fail
+end-answers : (o : Outcome) → isIllegal o ≡ false → isFailed o ≡ false → FormatAnswer (answerFor o)
+end-answers o k f =
+    cases (isPassed o) (λ t. rw t is-done)
+    (λ u. rw u (⊎-elim (λ e. rw e is-silent) (λ e. rw e is-cut) (stop-answer o (unfailed-end o k f) u)))
+
+-- 0, or 10 and more
+end-unlike : {P : Type 0} (o : Outcome) (a : ℕ) → 0 < a → a < 10 → answerFor o ≡ a → P
+end-unlike o a l h z =
+    cases (isPassed o) (λ t. absurd (omega (arith, rw t at z, l))) (λ f. absurd (omega (arith, rw f at z, h, stop-least o)))
 
 module _ (s : Setting) (mask-bytes : Bytes (s .mask)) (held : List ℕ) where
   -- what one try makes of it
@@ -260,9 +291,25 @@ module _ (s : Setting) (mask-bytes : Bytes (s .mask)) (held : List ℕ) where
     try-is c e = ap (tryBlock s st p) e
 
     -- no block is left
-    worn : Left s held st p (after-try k (tryBlock s st p Worn))
+    worn : choice ≡ Worn → Left s held st p (after-try k (tryBlock s st p Worn))
     unfolding after-try tryBlock
-    worn = record { sound = r .sound; answers = omega arith; used-up = λ z. absurd (omega (arith, z)); stopped = λ x. refl; marked-kept = λ b l t. refl; done = λ z. absurd (omega (arith, z)); spent = omega arith }
+    worn e =
+        let none = choose.worn-exactly (permitted (st .marked) (st .invalid) held) (s .geometry .blocks) (st .last) (r .last-below) .0 e in
+        record {
+          sound = r .sound;
+          answers = is-worn;
+          worn-by = λ z b h t. absurd (false≢true (sym (none b h) ∙ t));
+          unworn = λ x y. absurd (x refl);
+          spent-by = λ z. absurd (omega (arith, z));
+          silent-by = λ z. absurd (omega (arith, z));
+          used-up = λ z. absurd (omega (arith, z));
+          failed-kept = λ b t. t;
+          failed-by = r .failed-by;
+          stopped = λ x. refl;
+          marked-kept = λ b l t. refl;
+          done = λ z. absurd (omega (arith, z));
+          spent = omega arith;
+        }
 
     -- block b is filled
     module _ (b : ℕ) (e : choice ≡ Block b) where
@@ -286,14 +333,16 @@ module _ (s : Setting) (mask-bytes : Bytes (s .mask)) (held : List ℕ) where
       block-left : Filled s p ended b (λ i. pageOf (s .geometry) (tableCopy (st .number)) i (tableMain (s .geometry) (st .invalid) i)) (s .geometry .pages) (fillMost (s .geometry))
       block-left = left s mask-bytes st p r number-fits b below (free .0) (free .1)
 
+      bit-room : b / 8 < length (st .invalid)
+      bit-room = omega (arith, below, v s mask-bytes st p r number-fits .blocks-most, r .invalid-bits .long)
+
       -- one permitted block less
       abbrev fewer : ℕ
       fewer = countPermitted (st .marked) (withBit (st .invalid) b) held (s .geometry .blocks)
 
       one-less : fewer + 1 ≡ countPermitted (st .marked) (st .invalid) held (s .geometry .blocks)
       one-less =
-          count-less (st .marked) (st .invalid) held b
-          (omega (arith, below, v s mask-bytes st p r number-fits .blocks-most, r .invalid-bits .long)) (chosen-is .passes) (s .geometry .blocks) below
+          count-less (st .marked) (st .invalid) held b bit-room (chosen-is .passes) (s .geometry .blocks) below
 
       one-fill : countPermitted (st .marked) (st .invalid) held (s .geometry .blocks) * fillMost (s .geometry) ≡ fewer * fillMost (s .geometry) + fillMost (s .geometry)
       one-fill = ap (λ (k : ℕ). k * fillMost (s .geometry)) (sym one-less ∙ add-one fewer) ∙ suc-mul fewer (fillMost (s .geometry))
@@ -309,13 +358,38 @@ module _ (s : Setting) (mask-bytes : Bytes (s .mask)) (held : List ℕ) where
       unfolding after-try tryBlock
       ended-is f = rw f
 
+      -- what failed before, and the block if its fill did
+      failed-before : (c : ℕ) → failedIn c (p .started) ≡ true → failedIn c (ended .started) ≡ true
+      failed-before c t = block-left .failures c ∙ rw t
+
+      failed-now : isFailed (ended .outcome) ≡ true → failedIn b (ended .started) ≡ true
+      failed-now w = block-left .failures b ∙ rw (w, eq-eqb b b refl) (one-true (failedIn b (p .started)))
+
+      failed-since : (c : ℕ) → c < s .geometry .blocks → failedIn c (ended .started) ≡ true → Failing (s .fates)
+      failed-since c h t =
+          cases (failedIn c (p .started))
+          (λ y. r .failed-by c h y)
+          (λ y.
+          cases (isFailed (ended .outcome))
+          (λ w. block-left .sound .failed-by w)
+          (λ f. absurd (false≢true (sym (block-left .failures c ∙ rw (y, f) (and-none (eqb b c))) ∙ t))))
+
       -- the fills that follow a failed one
-      goes-on : (t : Tabled) → Left s held (withInvalid b taken) (resumed ended) t → Left s held st p t
-      goes-on t x =
+      goes-on : isFailed (ended .outcome) ≡ true → (t : Tabled) → Left s held (withInvalid b taken) (resumed ended) t → Left s held st p t
+      goes-on w t x =
           record {
             sound = x .sound;
             answers = x .answers;
+            worn-by = λ z c h y.
+                cases (eqb c b)
+                (λ e. subst (λ (k : ℕ). failedIn k (t .progress .started) ≡ true) (sym (eqb-true c b e)) (x .failed-kept b (failed-now w)))
+                (λ e. x .worn-by z c h (permitted-other (st .marked) (st .invalid) held b bit-room c (eqb-false c b e) ∙ y));
+            unworn = x .unworn;
+            spent-by = λ z. inr (block-left .sound .failed-by w);
+            silent-by = x .silent-by;
             used-up = x .used-up;
+            failed-kept = λ c y. x .failed-kept c (failed-before c y);
+            failed-by = x .failed-by;
             stopped = x .stopped;
             marked-kept = λ c h m. x .marked-kept c h m ∙ kept-marked c h m;
             done = λ z.
@@ -339,7 +413,13 @@ module _ (s : Setting) (mask-bytes : Bytes (s .mask)) (held : List ℕ) where
       ends-so f =
           record {
             sound = block-left .sound;
-            answers = answer-most (ended .outcome) (unfailed-end (ended .outcome) (block-left .sound .known) f);
+            answers = end-answers (ended .outcome) (block-left .sound .known) f;
+            worn-by = λ z. end-unlike (ended .outcome) 8 (omega arith) (omega arith) z;
+            unworn = λ x y. record { block = b; below = below; unmarked = free .0; unfailed = unfailed-none p ended b f (block-left .failures) b ∙ r .failures b below ∙ free .1 };
+            spent-by = λ z. end-unlike (ended .outcome) 9 (omega arith) (omega arith) z;
+            silent-by = λ z. block-left .sound .silent-by (answer-silent (ended .outcome) z);
+            failed-kept = failed-before;
+            failed-by = failed-since;
             used-up = λ z. block-left .sound .used-up (answer-cut (ended .outcome) z);
             stopped = answer-stopped (ended .outcome) (afterFill b (ended .outcome) taken);
             marked-kept = kept-marked;
@@ -350,21 +430,35 @@ module _ (s : Setting) (mask-bytes : Bytes (s .mask)) (held : List ℕ) where
             spent = omega (arith, block-left .spent, one-less, one-fill);
           }
 
-      filled-so : ((st' : State) (p' : Progress) → Ready s p' st' → k ≤ 4294967296 - st' .number → Left s held st' p' (tablesFilled s held k st' p')) → suc k ≤ 4294967296 - st .number
+      filled-so : ((st' : State) (p' : Progress) → Ready s p' st' → k ≡ 4294967296 - st' .number → Left s held st' p' (tablesFilled s held k st' p')) → suc k ≡ 4294967296 - st .number
           → Left s held st p (after-try k (tryBlock s st p (Block b)))
       filled-so less h =
           cases (isFailed (ended .outcome))
           (λ w. subst (Left s held st p) (failed-is w)
-          (goes-on _ (less (withInvalid b taken) (resumed ended) (ready-next s mask-bytes st p r number-fits b below (free .0) (free .1) w) (omega (arith, h)))))
+          (goes-on w _ (less (withInvalid b taken) (resumed ended) (ready-next s mask-bytes st p r number-fits b below (free .0) (free .1) w) (omega (arith, h)))))
           (λ f. subst (Left s held st p) (ended-is f) (ends-so f))
 
-  pub tables-leave : (k : ℕ) (st : State) (p : Progress) → Ready s p st → k ≤ 4294967296 - st .number → Left s held st p (tablesFilled s held k st p)
+  pub tables-leave : (k : ℕ) (st : State) (p : Progress) → Ready s p st → k ≡ 4294967296 - st .number → Left s held st p (tablesFilled s held k st p)
   unfolding tablesFilled
   tables-leave zero st p r h =
-      record { sound = r .sound; answers = omega arith; used-up = λ z. absurd (omega (arith, z)); stopped = λ x. refl; marked-kept = λ b l t. refl; done = λ z. absurd (omega (arith, z)); spent = omega arith }
+      record {
+        sound = r .sound;
+        answers = is-spent;
+        worn-by = λ z. absurd (omega (arith, z));
+        unworn = λ x y. absurd (y refl);
+        spent-by = λ z. inl (omega (arith, h));
+        silent-by = λ z. absurd (omega (arith, z));
+        used-up = λ z. absurd (omega (arith, z));
+        failed-kept = λ b t. t;
+        failed-by = r .failed-by;
+        stopped = λ x. refl;
+        marked-kept = λ b l t. refl;
+        done = λ z. absurd (omega (arith, z));
+        spent = omega arith;
+      }
   tables-leave (suc k) st p r h =
       let fits : st .number < 4294967296 = omega (arith, h) in
       subst (Left s held st p) (sym (one-try k st p))
       (by-choice (chosen (st .marked) (st .invalid) held (s .geometry .blocks) (st .last))
-      (λ e. subst (λ (t : Tried). Left s held st p (after-try k t)) (sym (try-is k st p r fits Worn e)) (worn k st p r fits))
+      (λ e. subst (λ (t : Tried). Left s held st p (after-try k t)) (sym (try-is k st p r fits Worn e)) (worn k st p r fits e))
       (λ b e. subst (λ (t : Tried). Left s held st p (after-try k t)) (sym (try-is k st p r fits (Block b) e)) (filled-so k st p r fits b e (tables-leave k) h)))

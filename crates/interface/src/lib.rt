@@ -121,8 +121,8 @@ impl Interface {
     fn begin(mut self, phase: usize, count: usize) -> Self
         ensures { λ r. ⌜ r ≡ begun phase count self ⌝ }
     {
-        let now = self.phase;
-        if DATA_OUT < now {
+        let present = self.phase;
+        if DATA_OUT < present {
             return self.refuse();
         }
         self.phase = phase;

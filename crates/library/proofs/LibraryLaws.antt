@@ -3,7 +3,6 @@ use Prim.Native.Nat.{ℕ}
 use mathlib.Core.Bool.{true, false, false≢true}
 use mathlib.Core.List.{List}
 use mathlib.Core.Path.{_≡_, refl, sym, ap, ap₂, _∙_}
-use lib.ListN.{length}
 use Rattle.interface.specs.declared.Interface.{Interface}
 use Rattle.array.specs.Device.{Device, Setting, device}
 use Rattle.state.specs.declared.State.{State}
@@ -22,7 +21,9 @@ lent-wrongly l r f = (rw f, λ t. absurd (false≢true (sym f ∙ t)))
 pub read-wrongly : (s : Setting) (l : Lent) (n logical page : ℕ) (buffer : List ℕ) → rightly l ≡ false
     → (readHanded (handed 100 l) buffer ≡ readingLent s l n logical page buffer) × PassedOn l (readPage s l n logical page buffer .returned) (l .state)
 unfolding readingLent answered
-read-wrongly s l n logical page buffer f = (rw f, λ t. absurd (false≢true (sym f ∙ t)))
+read-wrongly s l n logical page buffer f =
+    let back = lent-wrongly l (readPage s l n logical page buffer .returned) f in
+    (ap (λ (x : Handed). readHanded x buffer) (back .0) ∙ rw f, back .1)
 
 -- a call with the right lengths hands back what its request does
 lent-rightly : (l : Lent) (x : Handed) (q r : Result) (bytes : List ℕ) → rightly l ≡ true → x ≡ putBack q → bytesState bytes ≡ q .state → q ≡ r
@@ -47,5 +48,5 @@ unfolding readingLent
 read-handed s l n logical page buffer after x q bytes state i t e f r p b =
     let all : readResult q after ≡ readPage s l n logical page buffer =
     r ∙ ap₂ (λ (j : Interface) (y : State). readingPage s (device j (l .array) (l .register) (l .history)) n y logical page buffer) f e in
-    let back = lent-rightly l x q _ bytes t p b (ap (λ (y : ReadResult). y .returned) all) in
+    let back = request-handed (λ (d : Device) (y : State). readingPage s d n y logical page buffer .returned) l x q bytes state i t e f (ap (λ (y : ReadResult). y .returned) r) p b in
     (ap₂ readHanded (back .0) (ap (λ (y : ReadResult). y .buffer) all ∙ rw t refl), back .1)

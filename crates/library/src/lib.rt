@@ -6,7 +6,7 @@ ghost use Rattle.lent.specs.Buffers.{geometryOf, lent, handed, PassedOn};
 ghost use Rattle.library.specs.Library.{formatResult, mountResult, readPage, formattingLent, mountingLent, readHanded, readingLent};
 
 // A buffer of the state, the interface or the cycles sent has the wrong length.
-const LENT_WRONGLY: usize = 100;
+const BAD_BUFFER: usize = 100;
 
 // Formats the chip. c/flash_store.h says what is lent.
 #[no_mangle]
@@ -30,7 +30,7 @@ pub extern "C" fn flash_store_format(
     ensures { λ _. ⌜ PassedOn (lent (now (state .entry)) (now (words .entry)) (now (array .entry)) (now (register .entry)) (now (history .entry)) (now (sent .entry))) (formatResult (setting (geometryOf main spare pages blocks logical) (now (mask .entry)) (now (fates .entry))) (lent (now (state .entry)) (now (words .entry)) (now (array .entry)) (now (register .entry)) (now (history .entry)) (now (sent .entry))) allowed) (now (state .exit)) ⌝ }
 {
     if !lent::is_lent_rightly(state.len(), words.len(), sent.len()) {
-        return LENT_WRONGLY;
+        return BAD_BUFFER;
     }
     let g = Geometry {
         main,
@@ -77,7 +77,7 @@ pub extern "C" fn flash_store_mount(
     ensures { λ _. ⌜ PassedOn (lent (now (state .entry)) (now (words .entry)) (now (array .entry)) (now (register .entry)) (now (history .entry)) (now (sent .entry))) (mountResult (setting (geometryOf main spare pages blocks logical) (now (mask .entry)) (now (fates .entry))) (lent (now (state .entry)) (now (words .entry)) (now (array .entry)) (now (register .entry)) (now (history .entry)) (now (sent .entry))) allowed) (now (state .exit)) ⌝ }
 {
     if !lent::is_lent_rightly(state.len(), words.len(), sent.len()) {
-        return LENT_WRONGLY;
+        return BAD_BUFFER;
     }
     let g = Geometry {
         main,
@@ -127,7 +127,7 @@ pub extern "C" fn flash_store_read(
     ensures { λ _. ⌜ PassedOn (lent (now (state .entry)) (now (words .entry)) (now (array .entry)) (now (register .entry)) (now (history .entry)) (now (sent .entry))) (readPage (setting (geometryOf main spare pages blocks logical) (now (mask .entry)) (now (fates .entry))) (lent (now (state .entry)) (now (words .entry)) (now (array .entry)) (now (register .entry)) (now (history .entry)) (now (sent .entry))) allowed block page (now (buffer .entry)) .returned) (now (state .exit)) ⌝ }
 {
     if !lent::is_lent_rightly(state.len(), words.len(), sent.len()) {
-        return LENT_WRONGLY;
+        return BAD_BUFFER;
     }
     let g = Geometry {
         main,

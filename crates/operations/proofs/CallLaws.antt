@@ -1,17 +1,21 @@
 -- What every call on a ready chip has: lengths that fit, and an address that the chip takes.
-use Prim.Native.Nat.{ℕ, _+_, _*_, _<_}
+use Prim.Native.Nat.{ℕ, _+_, _*_, _<_, _≤_}
 use mathlib.Core.Bool.{Bool, true, false, cond}
 use mathlib.Core.List.{List}
-use mathlib.Core.Path.{_≡_, refl}
+use mathlib.Core.Path.{_≡_, refl, _∙_}
 use native.Mathlib.Omega.{arith}
 use borrow.Author.Tests.{eq-eqb, lt-ltb}
+use lib.ListN.{length, set, length-set}
 use Rattle.geometry.specs.declared.Geometry.{Geometry}
 use Rattle.geometry.specs.Limits.{Valid}
 use Rattle.geometry.specs.Sizes.{pageSize, chipSize, rowCount}
 use Rattle.geometry.proofs.LimitLaws.{holds}
 use Rattle.geometry.proofs.SizeLaws.{page-size-most}
 use Rattle.interface.specs.Interface.{addressFits, rowOfAddress, columnOfAddress}
-use Rattle.array.specs.Device.{Device, fitting}
+use Rattle.cells.specs.Part.{put}
+use Rattle.cells.proofs.PartLaws.{length-put}
+use Rattle.array.specs.Device.{Device, Setting, fitting}
+use Rattle.operations.specs.Ends.{Called}
 use Rattle.bus.specs.Line.{Line, uncutLine}
 
 pub fitting-holds : (g : Geometry) (a r h : ℕ) → Valid g → a ≡ chipSize g → r ≡ pageSize g → h ≡ g .blocks → fitting g a r h ≡ true
@@ -43,3 +47,11 @@ arms f v false x y p q = q
 pub part-arms : (f : Device → List ℕ) (b : Bool) (x y : Device) → f (cond b x y) ≡ cond b (f x) (f y)
 part-arms f true x y = refl
 part-arms f false x y = refl
+
+-- the array with a part replaced and the history with a byte replaced are as long as they were
+module _ {s : Setting} {l : Line} (c : Called s l) where
+  pub put-long : (at : ℕ) (ys : List ℕ) → at + length ys ≤ length (l .chip .array) → length (put at ys (l .chip .array)) ≡ chipSize (s .geometry)
+  put-long at ys h = length-put at ys (l .chip .array) h ∙ c .array-long
+
+  pub set-long : (block k : ℕ) → length (set (l .chip .history) block k) ≡ s .geometry .blocks
+  set-long block k = length-set (l .chip .history) block k ∙ c .history-long

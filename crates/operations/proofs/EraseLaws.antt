@@ -6,14 +6,14 @@ use mathlib.Core.Path.{_≡_, refl, sym, ap, ap₂, subst, _∙_}
 use native.Mathlib.Nat.{zero-add}
 use native.Mathlib.Omega.{arith}
 use lib.Dec.{eqb, leb}
-use lib.ListN.{length, set, take, replicate, length-set, length-replicate}
+use lib.ListN.{length, set, take, replicate, length-replicate}
 use lib.Seq.{set-set}
 use Rattle.geometry.specs.Sizes.{pageSize, blockSize, chipSize, rowCount, rowOf, rowBytes}
 use Rattle.geometry.proofs.SizeLaws.{row-below, row-count-most, page-size-least, block-within, block-of-row, page-of-row}
 use Rattle.cells.specs.Cells.{raised}
 use Rattle.cells.specs.Part.{part, put}
 use Rattle.cells.proofs.CellLaws.{length-raised}
-use Rattle.cells.proofs.PartLaws.{length-part, put-put, length-put}
+use Rattle.cells.proofs.PartLaws.{length-part, put-put}
 use Rattle.interface.specs.declared.Interface.{Interface}
 use Rattle.interface.specs.Interface.{beginning, fullAddress, inPhase, started, addressFits, failedFor, nextFate}
 use Rattle.array.specs.Device.{Device, Setting, device, withPort, rowAt, completed}
@@ -26,7 +26,7 @@ use Rattle.sequences.specs.Cycles.{eraseAddress, rowCycles, eraseCycles}
 use Rattle.operations.specs.Trace.{eraseStarts}
 use Rattle.operations.specs.Ends.{Called, CanErase, endOf, endsAs, confirmedEnd, eraseEnd, wordFor}
 use Rattle.polling.specs.Outcomes.{answered}
-use Rattle.operations.proofs.CallLaws.{uncut-is, fitting-holds, row-is, address-holds, arms, part-arms}
+use Rattle.operations.proofs.CallLaws.{uncut-is, fitting-holds, row-is, address-holds, arms, part-arms, put-long, set-long}
 use Rattle.operations.proofs.TraceLaws.{effect-starts}
 use Rattle.operations.proofs.ConfirmLaws.{confirmed-legal}
 use Rattle.operations.proofs.EndLaws.{Effect, effect-ends, effect-next}
@@ -134,24 +134,20 @@ module _ (s : Setting) (d : Device) (n block : ℕ) (p : CanErase s (uncutLine d
 
   length-half : length half ≡ chipSize (s .geometry)
   unfolding half old
-  length-half =
-      length-put (block * blockSize (s .geometry)) (raised old (s .mask)) (d .array) (rw length-raise block-fits)
-      ∙ p .called .array-long
+  length-half = put-long (p .called) (block * blockSize (s .geometry)) (raised old (s .mask)) (rw length-raise block-fits)
 
   length-full : length full ≡ chipSize (s .geometry)
   unfolding full
   length-full =
-      length-put (block * blockSize (s .geometry)) (replicate (blockSize (s .geometry)) 255) (d .array)
-      (rw length-replicate block-fits)
-      ∙ p .called .array-long
+      put-long (p .called) (block * blockSize (s .geometry)) (replicate (blockSize (s .geometry)) 255) (rw length-replicate block-fits)
 
   length-marked : length marked ≡ s .geometry .blocks
   unfolding marked
-  length-marked = length-set (d .history) block 255 ∙ p .called .history-long
+  length-marked = set-long (p .called) block 255
 
   length-freed : length freed ≡ s .geometry .blocks
   unfolding freed
-  length-freed = length-set (d .history) block 0 ∙ p .called .history-long
+  length-freed = set-long (p .called) block 0
 
   still-first : AllStill (eraseAddress row)
   unfolding still isConfirm

@@ -5,14 +5,14 @@ use mathlib.Core.List.{List, [], _∷_, _++_, map, append-nil}
 use mathlib.Core.Path.{_≡_, refl, sym, ap, ap₂, subst, _∙_}
 use native.Mathlib.Omega.{arith}
 use lib.Dec.{eqb, leb}
-use lib.ListN.{length, set, take, drop-of-length-le, length-set, length-map}
+use lib.ListN.{length, set, take, drop-of-length-le, length-map}
 use lib.Seq.{sets, sets-eq}
 use Rattle.geometry.specs.Sizes.{pageSize, chipSize, rowCount, rowOf, columnBytes, rowBytes}
 use Rattle.geometry.proofs.SizeLaws.{row-below, row-count-most, page-size-least, row-within, block-of-row, page-of-row}
 use Rattle.cells.specs.Cells.{programmed, weakened}
 use Rattle.cells.specs.Part.{part, put}
 use Rattle.cells.proofs.CellLaws.{length-programmed, programmed-again}
-use Rattle.cells.proofs.PartLaws.{length-part, part-put, put-put, length-put}
+use Rattle.cells.proofs.PartLaws.{length-part, part-put, put-put}
 use Rattle.interface.specs.declared.Interface.{Interface}
 use Rattle.interface.specs.Interface.{beginning, fullAddress, inPhase, started, columnOfAddress, failedFor, nextFate}
 use Rattle.array.specs.Device.{Device, Setting, device, withPort, rowAt, fitting, completed}
@@ -26,7 +26,7 @@ use Rattle.sequences.specs.Cycles.{programData, addressCycles, programCycles}
 use Rattle.operations.specs.Trace.{programStarts}
 use Rattle.operations.specs.Ends.{Called, CanProgram, endOf, endsAs, confirmedEnd, programEnd, wordFor}
 use Rattle.polling.specs.Outcomes.{answered}
-use Rattle.operations.proofs.CallLaws.{uncut-is, fitting-holds, column-is, row-is, address-holds, arms, part-arms}
+use Rattle.operations.proofs.CallLaws.{uncut-is, fitting-holds, column-is, row-is, address-holds, arms, part-arms, put-long, set-long}
 use Rattle.operations.proofs.EndLaws.{Effect, effect-ends, effect-next}
 use Rattle.operations.proofs.TraceLaws.{effect-starts}
 use Rattle.operations.proofs.ConfirmLaws.{confirmed-legal}
@@ -161,20 +161,17 @@ module _ (s : Setting) (d : Device) (n block page : ℕ) (bytes : List ℕ) (p :
   length-half : length half ≡ chipSize (s .geometry)
   unfolding half old
   length-half =
-      length-put (row * pageSize (s .geometry)) (programmed old (weakened bytes (s .mask))) (d .array)
+      put-long (p .called) (row * pageSize (s .geometry)) (programmed old (weakened bytes (s .mask)))
       (rw (length-programmed old (weakened bytes (s .mask)) ∙ length-old) page-fits)
-      ∙ p .called .array-long
 
   length-full : length full ≡ chipSize (s .geometry)
   unfolding full old
   length-full =
-      length-put (row * pageSize (s .geometry)) (programmed old bytes) (d .array)
-      (rw (length-programmed old bytes ∙ length-old) page-fits)
-      ∙ p .called .array-long
+      put-long (p .called) (row * pageSize (s .geometry)) (programmed old bytes) (rw (length-programmed old bytes ∙ length-old) page-fits)
 
   length-marked : length marked ≡ s .geometry .blocks
   unfolding marked
-  length-marked = length-set (d .history) block (page + 1) ∙ p .called .history-long
+  length-marked = set-long (p .called) block (page + 1)
 
   still-first : AllStill (programData row bytes)
   unfolding still isConfirm

@@ -1,26 +1,27 @@
 -- A reset, from any phase of the interface.
 use Prim.Native.Nat.{ℕ, zero, suc, _-_, _<_, _≤_}
+use mathlib.Core.Bool.{cond}
 use mathlib.Core.List.{[], _∷_}
 use mathlib.Core.Path.{_≡_, refl, sym, ap, subst, _∙_}
 use native.Mathlib.Omega.{arith}
-use borrow.Author.Tests.{eq-eqb, ltb-true, ltb-false}
+use borrow.Author.Tests.{eq-eqb, lt-ltb, le-ltb, ltb-true, ltb-false}
 use borrow.Table.Steps.{cases}
 use lib.Dec.{ltb}
 use lib.ListN.{length, take}
 use Rattle.geometry.specs.Limits.{Valid}
 use Rattle.geometry.specs.Sizes.{pageSize, blockSize, chipSize}
-use Rattle.interface.specs.Interface.{afterReset, inPhase}
+use Rattle.interface.specs.Interface.{afterReset, inPhase, statusByte}
 use Rattle.array.specs.Device.{Device, Setting, withPort}
-use Rattle.chip.specs.Chip.{exec, statusRead, isConfirm}
+use Rattle.chip.specs.Chip.{exec, statusRead, statusShown, isConfirm}
 use Rattle.chip.specs.Chip.Cycle.{command, status}
-use Rattle.bus.specs.Line.{Line, run, sendAll, uncutLine, cutLine, Legal, Quiet, still}
-use Rattle.bus.proofs.LineLaws.{run-uncut, run-cut}
-use Rattle.bus.proofs.LegalLaws.{legal-run, legal-take}
+use Rattle.bus.specs.Line.{Line, mayGo, goesOn, statusOut, run, send, sendAll, uncutLine, cutLine, Legal, Quiet, still}
+use Rattle.bus.proofs.LineLaws.{run-uncut, run-cut, send-one, send-none, send-stopped, sendAll-stopped, going}
+use Rattle.bus.proofs.LegalLaws.{legal-run, legal-take, legal-first}
 use Rattle.bus.proofs.QuietLaws.{quiet-run}
 use Rattle.bus.proofs.StepLaws.{reset-command, status-ready}
 use Rattle.polling.specs.Polling.{endedAs}
-use Rattle.sequences.specs.Cycles.{resetCycles}
-use Rattle.operations.specs.Ends.{Called, resetEnd, endOfReset}
+use Rattle.sequences.specs.Cycles.{resetCycles, confirmCycles}
+use Rattle.operations.specs.Ends.{Called, resetEnd, endOfReset, resetStatus}
 use Rattle.operations.proofs.CallLaws.{uncut-is}
 use Rattle.operations.proofs.EndLaws.{same-end}
 
@@ -79,6 +80,55 @@ module _ (s : Setting) (d : Device) (n : ℕ) (g : d .port .illegal ≡ 0) where
       (λ t. ap (λ (x : Line). x .chip .port .illegal) (broken (ltb-true n 3 t)) ∙ legal-take s d n resetCycles g legal)
       (λ t. ap (λ (x : Line). x .chip .port .illegal) (whole (ltb-false n 3 t)) ∙ g)
 
+  -- before its status read
+  asked : run s d (confirmCycles 255) ≡ done
+  unfolding run done
+  asked =
+      ap (λ (x : Device). exec s x (command 112)) (reset-command s d)
+      ∙ status-ready s (withPort (afterReset (d .port)) d) (omega arith)
+
+  legal-asked : Legal s d (confirmCycles 255)
+  legal-asked = legal-first s d (confirmCycles 255) (status ∷ []) legal
+
+  answers : resetStatus s (uncutLine d n) ≡ cond (ltb n 3) 0 224
+  unfolding resetStatus statusOut mayGo statusShown statusByte done
+  answers =
+      cases (ltb n 2)
+      (λ t.
+      let h = ltb-true n 2 t in
+      rw (run-cut s d n (confirmCycles 255) g legal-asked h, lt-ltb n 3 (omega arith)))
+      (λ t.
+      let h = ltb-false n 2 t in
+      rw (run-uncut s d n (confirmCycles 255) g legal-asked h, asked, eq-eqb _ _ g)
+      (cases (ltb n 3)
+      (λ u. rw (u, le-ltb 0 (n - 2) (omega (arith, ltb-true n 3 u))))
+      (λ u. rw (u, lt-ltb 0 (n - 2) (omega (arith, ltb-false n 3 u))))))
+
+  shown : exec s done status ≡ done
+  unfolding done exec statusRead
+  shown = refl
+
+  again-on : (k : ℕ) → send s (uncutLine done k) (command 112) ≡ send s (uncutLine done k) status
+  unfolding done
+  again-on zero = send-none s done (command 112) g ∙ sym (send-none s done status g)
+  again-on (suc k) =
+      send-one s done k (command 112) g
+      ∙ ap (λ (x : Device). uncutLine x k) (status-ready s done (omega arith) ∙ sym shown)
+      ∙ sym (send-one s done k status g)
+
+  -- another 70h in the place of the status read
+  again : send s (sendAll s (uncutLine d n) (confirmCycles 255)) (command 112) ≡ send s (sendAll s (uncutLine d n) (confirmCycles 255)) status
+  unfolding done exec statusRead goesOn
+  again =
+      cases (ltb n 2)
+      (λ t.
+      let k = cutLine (run s d (take n (confirmCycles 255))) in
+      rw (run-cut s d n (confirmCycles 255) g legal-asked (ltb-true n 2 t))
+      (send-stopped s k (command 112) refl ∙ sym (send-stopped s k status refl)))
+      (λ t.
+      rw (run-uncut s d n (confirmCycles 255) g legal-asked (ltb-false n 2 t), asked)
+      (again-on (n - 2)))
+
 -- how a reset ends
 pub reset-ends : (s : Setting) (l : Line) → l .cut ≡ 0 → l .chip .port .illegal ≡ 0 → endOfReset s l ≡ resetEnd l
 reset-ends s l u g =
@@ -88,6 +138,24 @@ reset-ends s l u g =
 pub reset-legal : (s : Setting) (l : Line) → l .cut ≡ 0 → l .chip .port .illegal ≡ 0 → sendAll s l resetCycles .chip .port .illegal ≡ 0
 reset-legal s l u g =
     subst (λ (x : Line). sendAll s x resetCycles .chip .port .illegal ≡ 0) (sym (uncut-is l u)) (allowed s (l .chip) (l .left) g)
+
+-- its status read shows E0h, unless the allowance does not reach it
+pub reset-shows : (s : Setting) (l : Line) → l .cut ≡ 0 → l .chip .port .illegal ≡ 0 → resetStatus s l ≡ cond (ltb (l .left) 3) 0 224
+reset-shows s l u g =
+    subst (λ (x : Line). resetStatus s x ≡ cond (ltb (x .left) 3) 0 224) (sym (uncut-is l u)) (answers s (l .chip) (l .left) g)
+
+-- another 70h in the place of the status read would leave the same line: only the byte read tells the two apart
+pub reset-unread : (s : Setting) {m k : Line} (l : Line) → m ≡ sendAll s l (confirmCycles 255) → k ≡ send s m (command 112) → k ≡ sendAll s l resetCycles
+unfolding sendAll
+reset-unread s l e f =
+    f
+    ∙ ap (λ (x : Line). send s x (command 112)) e
+    ∙ cases (goesOn l)
+    (λ t. subst (λ (x : Line). send s (sendAll s x (confirmCycles 255)) (command 112) ≡ send s (sendAll s x (confirmCycles 255)) status) (sym (uncut-is l (going l t .uncut))) (again s (l .chip) (l .left) (going l t .legal)))
+    (λ t.
+    ap (λ (x : Line). send s x (command 112)) (sendAll-stopped s l (confirmCycles 255) t)
+    ∙ send-stopped s l (command 112) t
+    ∙ sym (sendAll-stopped s l resetCycles t))
 
 -- what a reset leaves does not depend on the phase that it began in, but for the fate words used
 pub reset-leaves : (s : Setting) (l : Line) → l .cut ≡ 0 → l .chip .port .illegal ≡ 0 → 3 ≤ l .left → sendAll s l resetCycles ≡ uncutLine (withPort (inPhase 1 (afterReset (l .chip .port))) (l .chip)) (l .left - 3)

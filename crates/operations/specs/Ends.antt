@@ -11,9 +11,9 @@ use Rattle.cells.specs.Cells.{programmed, weakened, raised}
 use Rattle.cells.specs.Part.{part, put}
 use Rattle.interface.specs.Interface.{fateWord, nextFate, busyOf, failedFor}
 use Rattle.array.specs.Device.{Setting, Device}
-use Rattle.bus.specs.Line.{Line, sendAll}
+use Rattle.bus.specs.Line.{Line, sendAll, statusOut}
 use Rattle.polling.specs.Polling.{outcomeOf, endedAs}
-use Rattle.sequences.specs.Cycles.{resetCycles, readCycles, readOutcome}
+use Rattle.sequences.specs.Cycles.{resetCycles, confirmCycles, readCycles, readOutcome}
 use Rattle.polling.specs.declared.Outcome.{Outcome}
 use Rattle.polling.specs.declared.Outcome.the-variants.{Passed, Failed, Silent, Cut}
 
@@ -181,3 +181,7 @@ endOfReset s l =
       left = sendAll s l resetCycles .left;
       fate = sendAll s l resetCycles .chip .port .fate;
     }
+
+-- the byte of its status read, after FFh and 70h: 0 where it is not sent
+unfoldable pub resetStatus : Setting → Line → ℕ
+resetStatus s l = statusOut (sendAll s l (confirmCycles 255))

@@ -10,6 +10,14 @@ ghost use Rattle.array.specs.Device.{setting};
 ghost use Rattle.bus.specs.Line.{line, sendAll};
 ghost use Rattle.polling.specs.Polling.{outcomeOf, endedAs};
 ghost use Rattle.sequences.specs.Cycles.{resetCycles, readCycles, readOutcome, readOutputs, programCycles, eraseCycles};
+ghost use Rattle.operations.specs.Ends.{resetStatus};
+
+// The bus after a reset, how it ended, and the status byte read: 0 where it was not reached.
+pub struct ResetDone {
+    pub bus: Bus,
+    pub outcome: Outcome,
+    pub status: u8,
+}
 
 // Reset: FFh, 70h, one status read.
 pub fn reset(
@@ -20,16 +28,19 @@ pub fn reset(
     history: &mut [u8],
     mask: &[u8],
     fates: &[u32],
-) -> Done
+) -> ResetDone
     ensures { λ r. ⌜ line (r .bus) (now (array .exit)) (now (register .exit)) (now (history .exit)) ≡ sendAll (setting g (now (mask .entry)) (now (fates .entry))) (line from (now (array .entry)) (now (register .entry)) (now (history .entry))) resetCycles ⌝ }
     ensures { λ r. ⌜ r .outcome ≡ endedAs (line (r .bus) (now (array .exit)) (now (register .exit)) (now (history .exit))) ⌝ }
+    ensures { λ r. ⌜ r .status ≡ resetStatus (setting g (now (mask .entry)) (now (fates .entry))) (line from (now (array .entry)) (now (register .entry)) (now (history .entry))) ⌝ }
 {
     let b = sequences::confirm(from, g, array, register, history, mask, fates, 0xff);
     let out = bus::status(b, g, array, register, history);
     let c = out.bus;
-    Done {
+    let status = out.byte;
+    ResetDone {
         bus: c,
         outcome: polling::ended(c),
+        status,
     }
 }
 

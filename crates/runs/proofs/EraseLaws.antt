@@ -16,7 +16,7 @@ use Rattle.cells.proofs.CellLaws.{length-raised}
 use Rattle.interface.specs.Interface.{busyOf, failedFor}
 use Rattle.array.specs.Device.{Setting}
 use Rattle.bus.specs.Line.{Line, sendAll}
-use Rattle.polling.specs.Outcomes.{isPassed, answered, isFailed, isIllegal, isCut}
+use Rattle.polling.specs.Outcomes.{isPassed, answered, isFailed, isIllegal, isCut, isSilent}
 use Rattle.polling.specs.Polling.{outcomeOf}
 use Rattle.polling.specs.declared.Outcome.{Outcome}
 use Rattle.sequences.specs.Cycles.{eraseCycles}
@@ -28,6 +28,7 @@ use Rattle.progress.specs.Progress.{Progress}
 use Rattle.progress.specs.Steps.{eraseOn}
 use Rattle.progress.proofs.StepLaws.{erase-on-line, erase-on-outcome, whole-effect}
 use Rattle.runs.specs.Run.{failedIn, FailedMore, Sound, Erased, OthersSame, blockOn}
+use Rattle.runs.proofs.FateLaws.{ends-slow, ends-failing}
 use Rattle.runs.proofs.TraceLaws.{failed-append, failed-one, cut-unfailed}
 use Rattle.runs.proofs.PlaceLaws.{block-there, block-elsewhere, block-long}
 
@@ -114,6 +115,8 @@ module _ (s : Setting) (p : Progress) (block : ℕ) (below : block < s .geometry
       record {
         known = ap isIllegal outcome-is ∙ ends-known s (p .line) 3 4;
         used-up = λ c. left-is ∙ ends-used-up s (p .line) 3 4 (sym (ap isCut outcome-is) ∙ c);
+        silent-by = λ z. ends-slow s (p .line) 3 4 (sym (ap isSilent outcome-is) ∙ z);
+        failed-by = λ z. ends-failing s (p .line) 3 4 (sym (ap isFailed outcome-is) ∙ z);
         legal = ap (λ (x : Line). x .chip .port .illegal) line-is ∙ erase-legal s (p .line) block can;
         called = λ a. subst (Called s) (sym line-is) (erase-next s (p .line) block can (sym (ap answered outcome-is) ∙ a));
       }

@@ -1,6 +1,8 @@
+pub mod FateLaws
 pub mod PlaceLaws
 pub mod TraceLaws
 pub mod ReadLaws
+pub mod ReplayLaws
 pub mod EraseLaws
 pub mod ProgramLaws
 pub mod FillLaws

@@ -14,7 +14,7 @@ use Rattle.cells.specs.Cells.{programmed, weakened}
 use Rattle.cells.proofs.CellLaws.{length-programmed}
 use Rattle.array.specs.Device.{Setting}
 use Rattle.bus.specs.Line.{Line, sendAll}
-use Rattle.polling.specs.Outcomes.{isPassed, answered, isFailed, isIllegal, isCut}
+use Rattle.polling.specs.Outcomes.{isPassed, answered, isFailed, isIllegal, isCut, isSilent}
 use Rattle.polling.specs.Polling.{outcomeOf}
 use Rattle.polling.specs.declared.Outcome.{Outcome}
 use Rattle.sequences.specs.Cycles.{programCycles}
@@ -26,6 +26,7 @@ use Rattle.progress.specs.Progress.{Progress}
 use Rattle.progress.specs.Steps.{programOn}
 use Rattle.progress.proofs.StepLaws.{program-on-line, program-on-outcome, whole-effect}
 use Rattle.runs.specs.Run.{failedIn, FailedMore, Sound, Programmed, OthersSame, pageOn}
+use Rattle.runs.proofs.FateLaws.{ends-slow, ends-failing}
 use Rattle.runs.proofs.TraceLaws.{failed-append, failed-one, cut-unfailed}
 use Rattle.runs.proofs.PlaceLaws.{page-place, page-there, page-elsewhere, page-other-block, page-long}
 use Rattle.runs.proofs.EraseLaws.{part-effect, ends-known, ends-used-up, total-most}
@@ -65,6 +66,8 @@ module _ (s : Setting) (p : Progress) (block page : ℕ) (bytes : List ℕ) (t :
       record {
         known = ap isIllegal outcome-is ∙ ends-known s (p .line) 2 (6 + length bytes);
         used-up = λ c. left-is ∙ ends-used-up s (p .line) 2 (6 + length bytes) (sym (ap isCut outcome-is) ∙ c);
+        silent-by = λ z. ends-slow s (p .line) 2 (6 + length bytes) (sym (ap isSilent outcome-is) ∙ z);
+        failed-by = λ z. ends-failing s (p .line) 2 (6 + length bytes) (sym (ap isFailed outcome-is) ∙ z);
         legal = ap (λ (x : Line). x .chip .port .illegal) line-is ∙ program-legal s (p .line) block page bytes can;
         called = λ a. subst (Called s) (sym line-is) (program-next s (p .line) block page bytes can (sym (ap answered outcome-is) ∙ a));
       }

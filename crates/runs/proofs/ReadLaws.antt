@@ -14,7 +14,7 @@ use Rattle.geometry.proofs.SizeLaws.{row-below}
 use Rattle.array.specs.Device.{Device, Setting}
 use Rattle.bus.specs.Line.{Line, sendAll}
 use Rattle.interface.specs.Interface.{busyOf}
-use Rattle.polling.specs.Outcomes.{isPassed, answered, isReadEnd, isCut}
+use Rattle.polling.specs.Outcomes.{isPassed, answered, isReadEnd, isCut, isSilent}
 use Rattle.polling.specs.declared.Outcome.the-variants.{Passed}
 use Rattle.sequences.specs.Cycles.{resetCycles}
 use Rattle.operations.specs.Ends.{Called, CanRead, End, endOfRead, readEnd, endOfReset, resetEnd, readTotal, wordFor}
@@ -25,12 +25,13 @@ use Rattle.progress.specs.Progress.{Progress, progress, readOn, resetOn}
 use Rattle.block_scan.specs.Pages.{pagesRead}
 use Rattle.scan.specs.Scan.{blocksRead}
 use Rattle.progress.proofs.ReadOnLaws.{read-line, read-outcome, read-stopped}
-use Rattle.polling.proofs.OutcomeLaws.{is-passed, read-passed, read-known}
+use Rattle.polling.proofs.OutcomeLaws.{is-passed, read-passed, read-known, read-end-unfailed}
 use Rattle.calls.specs.Call.{sizedFor, callLine}
 use Rattle.calls.proofs.ResetLaws.{reset-called}
 use Rattle.runs.specs.Run.{failedIn, NoneFailed, Unchanged, Spent, readMost}
 use Rattle.runs.proofs.TraceLaws.{failed-append, failed-one, read-unfailed}
 use Rattle.bools.proofs.BoolLaws.{and-none, or-none}
+use Rattle.runs.proofs.FateLaws.{read-slow}
 
 -- how a read ends, by its fate word and the allowance
 ends-as-read : (s : Setting) (l : Line) (n : ℕ) → isReadEnd (readEnd s l n .outcome) ≡ true
@@ -74,6 +75,8 @@ module _ (s : Setting) (array history : List ℕ) where
             legal = ap (λ (x : Line). x .chip .port .illegal) line-is ∙ read-legal s l row column n can;
             known = read-known (readOn s row column n p .outcome) fine;
             used-up = λ c. ap (λ (x : Line). x .left) line-is ∙ ap (λ (e : End). e .left) ends ∙ read-used-up s l n (sym (ap isCut outcome-is) ∙ c);
+            silent-by = λ z. read-slow s l n (sym (ap isSilent outcome-is) ∙ z);
+            failed-by = λ z. absurd (false≢true (sym (read-end-unfailed (readOn s row column n p .outcome) fine) ∙ z));
             called = λ a. subst (Called s) (sym line-is) (read-next s l row column n can (sym (ap isPassed outcome-is) ∙ read-passed (readOn s row column n p .outcome) fine a));
           };
           ends = fine;
@@ -166,6 +169,10 @@ module _ (s : Setting) (d : Device) (n : ℕ) (t : sizedFor s d ≡ true) where
   unfolding resetEnd isReadEnd
   ends-as = cases (ltb n 3) (λ u. rw u) (λ u. rw u)
 
+  reset-heard : isSilent (resetEnd (callLine d n) .outcome) ≡ false
+  unfolding resetEnd isSilent
+  reset-heard = cases (ltb n 3) (λ u. rw u) (λ u. rw u)
+
   pub reset-spends : n ≤ begun .line .left + 3
   unfolding endOfReset resetEnd resetOn isPassed
   reset-spends = omega (arith, ap (λ (e : End). e .left) (reset-ends s (callLine d n) refl refl))
@@ -181,6 +188,8 @@ module _ (s : Setting) (d : Device) (n : ℕ) (t : sizedFor s d ≡ true) where
           legal = reset-legal s (callLine d n) refl refl;
           known = read-known (begun .outcome) fine;
           used-up = λ c. ap (λ (e : End). e .left) ends ∙ reset-used-up (callLine d n) (sym (ap isCut outcome-is) ∙ c);
+          silent-by = λ z. absurd (false≢true (sym (ap isSilent outcome-is ∙ reset-heard) ∙ z));
+          failed-by = λ z. absurd (false≢true (sym (read-end-unfailed (begun .outcome) fine) ∙ z));
           called = λ a. reset-called s d n t (begun .line) (begun .outcome) line-is refl (read-passed (begun .outcome) fine a);
         };
         ends = fine;

@@ -10,8 +10,9 @@ use Rattle.geometry.specs.declared.Geometry.{Geometry}
 use Rattle.geometry.specs.Sizes.{pageSize, blockSize}
 use Rattle.cells.specs.Bytes.{Bytes}
 use Rattle.cells.specs.Cells.{programmed, weakened, raised}
+use Rattle.interface.specs.Interface.{busyOf, failedOf}
 use Rattle.array.specs.Device.{Setting}
-use Rattle.polling.specs.Outcomes.{isPassed, answered, isFailed, isIllegal, isCut, isReadEnd}
+use Rattle.polling.specs.Outcomes.{isPassed, answered, isFailed, isIllegal, isCut, isSilent, isReadEnd}
 use Rattle.operations.specs.Ends.{Called}
 use Rattle.operations.specs.Trace.{ArrayOperation}
 use Rattle.pages.specs.Layout.{numberWidth}
@@ -19,6 +20,18 @@ use Rattle.pages.specs.Over.{Over}
 use Rattle.copies.specs.Blocks.{blockIn, pageIn, mainIn}
 use Rattle.progress.specs.Progress.{Progress}
 use Rattle.fill.specs.Fill.{Copy, Source, given, kept, pageOf}
+
+-- some fate word has 256 or more busy reads
+pub record Slow (fates : List ℕ) : Type 0 where
+  pub place : ℕ
+  pub within : place < length fates
+  pub busy : 256 ≤ busyOf (getD fates place 0)
+
+-- some fate word says fail
+pub record Failing (fates : List ℕ) : Type 0 where
+  pub place : ℕ
+  pub within : place < length fates
+  pub fails : failedOf (getD fates place 0) ≡ 1
 
 -- an erase or a program of block b failed
 unfoldable pub failedIn : ℕ → List ArrayOperation → Bool
@@ -30,12 +43,14 @@ abbrev pub FailedMore : Progress → Progress → ℕ → Type 0
 FailedMore p q block =
     (b : ℕ) → failedIn b (q .started) ≡ cond (failedIn b (p .started)) true (cond (eqb block b) (isFailed (q .outcome)) false)
 
--- no cycle was answered illegal, one that was cut used up the allowance, and after an operation that was answered the
--- chip takes the next one
+-- no cycle was answered illegal, one that was cut used up the allowance, a fate word made it silent or fail, and after an
+-- operation that was answered the chip takes the next one
 pub record Sound (s : Setting) (p : Progress) : Type 0 where
   pub legal : p .line .chip .port .illegal ≡ 0
   pub known : isIllegal (p .outcome) ≡ false
   pub used-up : isCut (p .outcome) ≡ true → p .line .left ≡ 0
+  pub silent-by : isSilent (p .outcome) ≡ true → Slow (s .fates)
+  pub failed-by : isFailed (p .outcome) ≡ true → Failing (s .fates)
   pub called : answered (p .outcome) ≡ true → Called s (p .line)
 
 -- so far nothing but resets and reads: array and history are as they were

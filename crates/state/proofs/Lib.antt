@@ -1,2 +1,3 @@
 pub mod MountedLaws
 pub mod StateLaws
+pub mod TakenLaws

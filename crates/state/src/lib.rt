@@ -2,7 +2,7 @@
 use choose::Choice;
 ghost use mathlib.Core.Path.{_≡_};
 ghost use Prim.Native.Nat.{_+_, _-_, _<_, _≤_};
-ghost use lib.ListN.{replicate};
+ghost use lib.ListN.{length, replicate};
 ghost use Rattle.bitmaps.specs.Bitmap.{withBit};
 ghost use Rattle.choose.specs.Choose.{chosen};
 ghost use Rattle.state.specs.State.{blank, spent, withNumber, withInvalid, withCopy, withTable, heldBits, emptyFrom, soundBlock, soundFrom, soundEntries, mounted, freeBlocks};
@@ -31,18 +31,18 @@ fn wide(x: u16) -> usize
 }
 
 // Whether the entries past the last logical block are empty.
-fn is_empty_from(map: &[u16; 4096], logical: usize) -> bool
+fn is_empty_from(map: &[u16], logical: usize) -> bool
     requires { ⌜ logical ≤ 4096 ⌝ }
+    requires { ⌜ length (now map) ≡ 4096 ⌝ }
     ensures { λ r. ⌜ r ≡ emptyFrom (now (map .entry)) logical (4096 - logical) ⌝ }
 {
+    let mut other: u16 = 0;
     let mut l = logical;
     while l < 4096 {
-        if map[l] != 65535 {
-            return false;
-        }
+        other = other | !map[l];
         l += 1;
     }
-    true
+    other == 0
 }
 
 impl State {
@@ -142,23 +142,21 @@ impl State {
         let invalid = self.invalid;
         let map = self.map;
         let table = self.table;
-        let mut named = [0u8; 512];
-        bitmaps::set_bit(&mut named, table);
+        let mut taken = bitmaps::flags(&marked, &invalid);
+        taken[table] = 1;
+        let mut unsound: u8 = 0;
         let mut l = 0;
         while l < logical {
             let block = wide(map[l]);
-            if block != 65535 {
-                if blocks <= block {
-                    return false;
-                }
-                if !choose::is_permitted(&marked, &invalid, &named, block) {
-                    return false;
-                }
-                bitmaps::set_bit(&mut named, block);
+            if block < blocks {
+                unsound = unsound | taken[block];
+                taken[block] = 1;
+            } else if block != 65535 {
+                unsound = 1;
             }
             l += 1;
         }
-        true
+        unsound == 0
     }
 
     // Whether the table's block is on the chip, unmarked and valid.

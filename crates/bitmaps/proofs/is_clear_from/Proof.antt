@@ -1,50 +1,79 @@
--- `bitmaps::is_clear_from` meets its contract. Assumes nothing.
-use Rattle.bitmaps.proofs.BitLaws.{clear-hit, clear-on, clear-over}
-use Rattle.bitmaps.specs.Bitmap.{clearFrom}
-use denote.Ref.{now}
+-- `bitmaps::is_clear_from` meets its contract: bits to the end of a byte, whole bytes, the bits left. Assumes nothing.
+use Prim.Native.Nat.{_+_}
+use mathlib.Core.Path.{sym, _∙_}
 use native.Mathlib.Omega.{arith}
-use mathlib.Core.Path.{_≡_, refl, sym, _∙_}
-use Prim.Native.Nat.{_≤_, _-_}
+use borrow.Author.Needs.{needs}
+use borrow.Author.Tests.{not-true, not-false}
+use denote.Ref.{now}
+use Rattle.bitmaps.proofs.ByteLaws.{clear-parts}
 use Rattle.bitmaps.proofs.is_clear_from.Statement.{statement}
 use Rattle.bitmaps.proofs.is_clear_from.Tie as tie
 
-abbrev Inv-loop : tie.InvT-loop
-Inv-loop bits from end block₀ block = (block ≤ end) × (clearFrom bits block (end - block) ≡ clearFrom bits from (end - from))
+byte-of-requires : tie.Need-byte-of-requires
+byte-of-requires c κs = search needs
 
-abbrev μ-loop : tie.MeasureT-loop
-μ-loop bits from end block₀ block = end - block
+add-first : tie.Need-add-first
+add-first c = search needs
 
-loop-holds : tie.Need-loop-holds Inv-loop μ-loop
-loop-holds c = (omega arith, refl)
+byte-of-requires-2 : tie.Need-byte-of-requires-2
+byte-of-requires-2 c κs = search needs
 
-is-set-requires : tie.Need-is-set-requires Inv-loop μ-loop
-is-set-requires c κs = omega arith
+are-bits-clear-requires : tie.Need-are-bits-clear-requires
+are-bits-clear-requires c κs = search needs
 
-returns : tie.Need-returns Inv-loop μ-loop
-returns c = clear-hit (now (c .before .before .before .before .before .args .bits)) (c .before .before .before .before .before .args .end) (c .before .before .before .loop .block) (c .before .before .loop-test .taken) (sym (c .before .is-set .ensures) ∙ c .if1 .taken) ∙ c .before .before .before .loop .inv .1
+returns : tie.Need-returns
+returns c = search needs
 
-add-block : tie.Need-add-block Inv-loop μ-loop
-add-block c = omega arith
+mul-are-bits-clear : tie.Need-mul-are-bits-clear
+mul-are-bits-clear c = search needs
 
-loop-less : tie.Need-loop-less Inv-loop μ-loop
-loop-less c = omega arith
+are-bits-clear-requires-2 : tie.Need-are-bits-clear-requires-2
+are-bits-clear-requires-2 c κs = search needs
 
-loop-again : tie.Need-loop-again Inv-loop μ-loop
-loop-again c = (omega arith, clear-on (now (c .before .before .before .before .before .args .bits)) (c .before .before .before .before .before .args .end) (c .before .before .before .loop .block) (c .before .before .loop-test .taken) (sym (c .before .is-set .ensures) ∙ c .if1 .left) ∙ c .before .before .before .loop .inv .1)
+returns-2 : tie.Need-returns-2
+returns-2 c =
+    let first = c .before .before .before .before .byte-of .ensures in
+    let last = c .before .before .before .byte-of2 .ensures in
+    let left = c .before .before .if1 .left in
+    rw (clear-parts (now (c .before .before .before .before .before .before .args .bits)) (c .before .before .before .before .before .before .args .from) (c .before .before .before .before .byte-of .result + 1) (c .before .before .before .byte-of2 .result) (c .before .before .before .before .before .before .args .end) (omega (arith, first)) (omega (arith, left)) (omega (arith, last)), sym (c .before .are-bits-clear2 .ensures) ∙ not-true (c .before .are-bits-clear2 .result) (c .if2 .taken))
 
-returns-2 : tie.Need-returns-2 Inv-loop μ-loop
-returns-2 c = clear-over (now (c .before .before .before .args .bits)) (c .before .before .before .args .end) (c .before .loop .block) (c .loop-test .left) ∙ c .before .loop .inv .1
+are-bytes-clear-requires : tie.Need-are-bytes-clear-requires
+are-bytes-clear-requires c κs = search needs
+
+returns-3 : tie.Need-returns-3
+returns-3 c =
+    let first = c .before .before .before .before .before .before .byte-of .ensures in
+    let last = c .before .before .before .before .before .byte-of2 .ensures in
+    let left = c .before .before .before .before .if1 .left in
+    rw (clear-parts (now (c .before .before .before .before .before .before .before .before .args .bits)) (c .before .before .before .before .before .before .before .before .args .from) (c .before .before .before .before .before .before .byte-of .result + 1) (c .before .before .before .before .before .byte-of2 .result) (c .before .before .before .before .before .before .before .before .args .end) (omega (arith, first)) (omega (arith, left)) (omega (arith, last)), sym (c .before .before .before .are-bits-clear2 .ensures) ∙ not-false (c .before .before .before .are-bits-clear2 .result) (c .before .before .if2 .left), sym (c .before .are-bytes-clear .ensures) ∙ not-true (c .before .are-bytes-clear .result) (c .if3 .taken))
+
+mul-are-bits-clear-2 : tie.Need-mul-are-bits-clear-2
+mul-are-bits-clear-2 c = search needs
+
+are-bits-clear-requires-3 : tie.Need-are-bits-clear-requires-3
+are-bits-clear-requires-3 c κs = search needs
+
+returns-4 : tie.Need-returns-4
+returns-4 c =
+    let first = c .before .before .before .before .before .before .before .byte-of .ensures in
+    let last = c .before .before .before .before .before .before .byte-of2 .ensures in
+    let left = c .before .before .before .before .before .if1 .left in
+    rw (clear-parts (now (c .before .before .before .before .before .before .before .before .before .args .bits)) (c .before .before .before .before .before .before .before .before .before .args .from) (c .before .before .before .before .before .before .before .byte-of .result + 1) (c .before .before .before .before .before .before .byte-of2 .result) (c .before .before .before .before .before .before .before .before .before .args .end) (omega (arith, first)) (omega (arith, left)) (omega (arith, last)), sym (c .before .before .before .before .are-bits-clear2 .ensures) ∙ not-false (c .before .before .before .before .are-bits-clear2 .result) (c .before .before .before .if2 .left), sym (c .before .before .are-bytes-clear .ensures) ∙ not-false (c .before .before .are-bytes-clear .result) (c .before .if3 .left)) (c .are-bits-clear3 .ensures)
 
 pub is-clear-from-spec : {M : Type 1} → statement M
 is-clear-from-spec =
     tie.close
     (tie.spec
-    Inv-loop
-    μ-loop
-    loop-holds
-    is-set-requires
+    byte-of-requires
+    add-first
+    byte-of-requires-2
+    are-bits-clear-requires
     returns
-    add-block
-    loop-less
-    loop-again
-    returns-2)
+    mul-are-bits-clear
+    are-bits-clear-requires-2
+    returns-2
+    are-bytes-clear-requires
+    returns-3
+    mul-are-bits-clear-2
+    are-bits-clear-requires-3
+    returns-4)

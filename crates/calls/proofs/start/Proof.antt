@@ -50,7 +50,7 @@ returns-2 c =
     let set = setting (start .args .g) (now (start .args .mask)) (now (start .args .fates)) in
     let d = device (start .args .interface) (now (start .args .array)) (now (start .args .register)) (now (start .args .history)) in
     let from = ap (λ (b : Bus). sendAll set (line b (now (start .args .array)) (now (start .args .register)) (now (start .args .history))) resetCycles) (begun .begin .ensures) in
-    start-sized set d (start .args .allowed) _ _ (sym (tested .before .is-sized .ensures) ∙ not-false _ (tested .if1 .left)) (done .reset .ensures .0 ∙ from) (c .answer-for .ensures ∙ ap answerFor (done .reset .ensures .1))
+    start-sized set d (start .args .allowed) _ _ (sym (tested .before .is-sized .ensures) ∙ not-false _ (tested .if1 .left)) (done .reset .ensures .0 ∙ from) (c .answer-for .ensures ∙ ap answerFor (done .reset .ensures .1 .0))
 
 pub start-spec : {M : Type 1} → statement M
 start-spec =

@@ -1,6 +1,9 @@
 -- `operations::reset` meets its contract: the two command cycles and a status read. Assumes nothing.
+use mathlib.Core.Path.{ap, _∙_}
 use borrow.Author.Needs.{needs}
 use Rattle.sequences.proofs.DataLaws.{lone, joined}
+use Rattle.bus.specs.Line.{statusOut}
+use Rattle.operations.specs.Ends.{resetStatus}
 use Rattle.operations.proofs.reset.Statement.{statement}
 use Rattle.operations.proofs.reset.Tie as tie
 
@@ -23,7 +26,11 @@ same-length-3 : tie.Need-same-length-3
 same-length-3 c = search needs
 
 returns : tie.Need-returns
-returns c = (joined _ _ _ _ (c .before .before .before .before .before .before .before .before .before .before .before .before .before .before .before .before .confirm .ensures) (lone _ _ _ (c .before .before .before .before .before .before .status .ensures .0 _ _)), c .ended .ensures _ _ _)
+unfolding resetStatus
+returns c =
+    let commands = c .before .before .before .before .before .before .before .before .before .before .before .before .before .before .before .before .confirm .ensures in
+    let read = c .before .before .before .before .before .before .status .ensures in
+    (joined _ _ _ _ commands (lone _ _ _ (read .0 _ _)), (c .ended .ensures _ _ _, read .1 _ _ _ ∙ ap statusOut commands))
 
 pub reset-spec : {M : Type 1} → statement M
 reset-spec =

@@ -1,4 +1,5 @@
 -- `interface::Interface::begin_read` meets its contract. Assumes nothing.
+use native.Mathlib.Omega.{arith}
 use Rattle.interface.specs.Interface.{readMode, begun}
 use borrow.Author.Tests.{eq-eqb, ne-eqb, le-leb, lt-leb, lt-ltb, le-ltb}
 use borrow.Author.Needs.{needs}
@@ -24,7 +25,7 @@ begin-requires c κs = search needs
 
 returns-3 : tie.Need-returns-3
 unfolding readMode begun
-returns-3 c = rw (c .begin .ensures) (search (eq-eqb, ne-eqb, le-leb, lt-leb, lt-ltb, le-ltb))
+returns-3 c = rw (c .begin .ensures, le-leb (c .before .before .before .args .self .phase) 2 (omega arith)) (search (eq-eqb, ne-eqb, le-leb, lt-leb, lt-ltb, le-ltb))
 
 pub begin-read-spec : {M : Type 1} → statement M
 begin-read-spec =

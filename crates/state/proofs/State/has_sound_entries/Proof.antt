@@ -8,6 +8,9 @@ use Rattle.state.proofs.StateLaws.{sound-below}
 use Rattle.state.proofs.State.has_sound_entries.Statement.{statement}
 use Rattle.state.proofs.State.has_sound_entries.Tie as tie
 
+slice-aggregate-is-empty-from : tie.Need-slice-aggregate-is-empty-from
+slice-aggregate-is-empty-from c = search needs
+
 is-empty-from-requires : tie.Need-is-empty-from-requires
 is-empty-from-requires c κs = search needs
 
@@ -40,6 +43,7 @@ pub has-sound-entries-spec : {M : Type 1} → statement M
 has-sound-entries-spec =
     tie.close
     (tie.spec
+    slice-aggregate-is-empty-from
     is-empty-from-requires
     has-sound-table-requires
     has-sound-map-requires

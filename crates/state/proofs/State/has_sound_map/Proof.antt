@@ -1,39 +1,40 @@
--- `state::State::has_sound_map` meets its contract: the entries left to look at decide as all do. Assumes nothing.
-use Prim.Native.Nat.{ℕ, _+_, _≤_, _<_, _-_}
-use mathlib.Core.List.{List}
+-- `state::State::has_sound_map` meets its contract: what is unsound so far and the entries left decide as all do. Assumes nothing.
+use Prim.Native.Nat.{_≤_, _-_}
+use mathlib.Core.Bool.{cond, false}
 use mathlib.Core.Logic.{⊎-elim}
-use mathlib.Core.Path.{_≡_, refl, sym, ap, _∙_}
+use mathlib.Core.Path.{_≡_, ap, _∙_}
+use native.Mathlib.Nat.{sub-zero}
 use native.Mathlib.Omega.{arith}
 use borrow.Author.Needs.{needs}
-use borrow.Author.Tests.{not-true, not-false}
-use lib.ListN.{length, replicate}
-use Rattle.bitmaps.specs.Bitmap.{byteOf, withBit}
-use Rattle.state.specs.State.{soundFrom}
-use Rattle.state.proofs.StateLaws.{with-length, bare, sound-bare, sound-start, sound-empty, sound-past, sound-refused, sound-on, sound-over}
+use lib.Dec.{eqb}
+use lib.ListN.{length, set, length-set}
+use Rattle.state.proofs.TakenLaws.{takesFrom, takes-block, takes-past, takes-none, takes-over, takes-all}
 use Rattle.state.proofs.State.has_sound_map.Statement.{statement}
 use Rattle.state.proofs.State.has_sound_map.Tie as tie
 
 abbrev Inv-loop : tie.InvT-loop
-Inv-loop blocks logical marked invalid map table named₀ l₀ named l =
+Inv-loop blocks logical map table taken₀ unsound₀ l₀ taken unsound l =
     (l ≤ logical)
-    × (soundFrom (bare marked invalid map) blocks named l (logical - l) ≡ soundFrom (bare marked invalid map) blocks (withBit (replicate 512 0) table) 0 logical)
-    × (length named ≡ 512)
+    × (cond (eqb unsound 0) (takesFrom map blocks taken l (logical - l)) false ≡ takesFrom map blocks taken₀ 0 logical)
+    × (length taken ≡ 4096)
 
 abbrev μ-loop : tie.MeasureT-loop
-μ-loop blocks logical marked invalid map table named₀ l₀ named l = logical - l
+μ-loop blocks logical map table taken₀ unsound₀ l₀ taken unsound l = logical - l
 
-slice-aggregate-set-bit : tie.Need-slice-aggregate-set-bit Inv-loop μ-loop
-slice-aggregate-set-bit c = search needs
+flags-requires : tie.Need-flags-requires Inv-loop μ-loop
+flags-requires c κs = search needs
 
-set-bit-requires : tie.Need-set-bit-requires Inv-loop μ-loop
-set-bit-requires c κs = search needs
+array-write-taken : tie.Need-array-write-taken Inv-loop μ-loop
+array-write-taken c = search needs
 
 loop-holds : tie.Need-loop-holds Inv-loop μ-loop
-loop-holds c = (
-  omega arith,
-  sound-start (bare (c .before .before .before .before .before .before .args .self .marked) (c .before .before .before .before .before .before .args .self .invalid) (c .before .before .before .before .before .before .args .self .map)) (c .before .before .before .before .before .before .args .blocks) (withBit (replicate 512 0) (c .before .before .before .before .before .before .args .self .table)) (c .before .set-bit .last .0) (c .before .before .before .before .before .before .args .logical) (c .before .set-bit .ensures),
-  with-length (replicate 512 0) (c .before .set-bit .last .0) (c .before .before .before .before .before .before .args .self .table) 512 (c .before .set-bit .ensures) refl,
-)
+loop-holds c =
+    let a = c .before .before .before .before .before .before .args in
+    let size : length (c .flags .result) ≡ 4096 = search needs in (
+      omega arith,
+      ap (takesFrom (a .self .map) (a .blocks) (set (c .flags .result) (a .self .table) 1) 0) (sub-zero (a .logical)),
+      length-set (c .flags .result) (a .self .table) 1 ∙ size,
+    )
 
 mul-wide : tie.Need-mul-wide Inv-loop μ-loop
 mul-wide c = search needs
@@ -44,39 +45,11 @@ array-read-wide c = search needs
 wide-requires : tie.Need-wide-requires Inv-loop μ-loop
 wide-requires c κs = search needs
 
-returns : tie.Need-returns Inv-loop μ-loop
-returns c =
-    let s = c .before .before .before .before .before .before .before .before .before .before .before .args .self in
-    sound-past (s .marked) (s .invalid) (s .map) (c .before .before .before .before .before .before .before .before .before .before .before .args .blocks) (c .before .before .before .before .loop .named) (c .before .before .before .before .before .before .before .before .before .before .before .args .logical) (c .before .before .before .before .loop .l) (c .before .before .wide .result) (c .before .before .before .loop-test .taken) (c .before .before .wide .ensures) (c .before .if1 .taken) (c .if2 .taken)
-    ∙ c .before .before .before .before .loop .inv .1
-    ∙ sound-bare s (c .before .before .before .before .before .before .before .before .before .before .before .args .blocks) (withBit (replicate 512 0) (s .table)) 0 (c .before .before .before .before .before .before .before .before .before .before .before .args .logical)
+array-read-unsound : tie.Need-array-read-unsound Inv-loop μ-loop
+array-read-unsound c = search needs
 
-slice-aggregate-is-permitted : tie.Need-slice-aggregate-is-permitted Inv-loop μ-loop
-slice-aggregate-is-permitted c = search needs
-
-slice-aggregate-is-permitted-2 : tie.Need-slice-aggregate-is-permitted-2 Inv-loop μ-loop
-slice-aggregate-is-permitted-2 c = search needs
-
-slice-aggregate-is-permitted-3 : tie.Need-slice-aggregate-is-permitted-3 Inv-loop μ-loop
-slice-aggregate-is-permitted-3 c = search needs
-
-is-permitted-requires : tie.Need-is-permitted-requires Inv-loop μ-loop
-is-permitted-requires c κs =
-    let h : byteOf (c .before .before .before .before .before .wide .result) < 512 = omega arith in
-    (search needs, (search needs, omega (arith, h, c .before .before .before .before .before .before .before .loop .inv .2)))
-
-returns-2 : tie.Need-returns-2 Inv-loop μ-loop
-returns-2 c =
-    let s = c .before .before .before .before .before .before .before .before .before .before .before .before .before .before .before .before .args .self in
-    sound-refused (s .marked) (s .invalid) (s .map) (c .before .before .before .before .before .before .before .before .before .before .before .before .before .before .before .before .args .blocks) (c .before .before .before .before .before .before .before .before .before .loop .named) (c .before .before .before .before .before .before .before .before .before .before .before .before .before .before .before .before .args .logical) (c .before .before .before .before .before .before .before .before .before .loop .l) (c .before .before .before .before .before .before .before .wide .result) (c .before .before .before .before .before .before .before .before .loop-test .taken) (c .before .before .before .before .before .before .before .wide .ensures) (c .before .before .before .before .before .before .if1 .taken) (c .before .before .before .before .before .if2 .left) (sym (c .before .is-permitted .ensures) ∙ not-true (c .before .is-permitted .result) (c .if3 .taken))
-    ∙ c .before .before .before .before .before .before .before .before .before .loop .inv .1
-    ∙ sound-bare s (c .before .before .before .before .before .before .before .before .before .before .before .before .before .before .before .before .args .blocks) (withBit (replicate 512 0) (s .table)) 0 (c .before .before .before .before .before .before .before .before .before .before .before .before .before .before .before .before .args .logical)
-
-slice-aggregate-set-bit-2 : tie.Need-slice-aggregate-set-bit-2 Inv-loop μ-loop
-slice-aggregate-set-bit-2 c = search needs
-
-set-bit-requires-2 : tie.Need-set-bit-requires-2 Inv-loop μ-loop
-set-bit-requires-2 c κs = search needs
+array-write-taken-2 : tie.Need-array-write-taken-2 Inv-loop μ-loop
+array-write-taken-2 c = search needs
 
 add-l : tie.Need-add-l Inv-loop μ-loop
 add-l c = omega arith
@@ -86,36 +59,27 @@ loop-less c = omega arith
 
 loop-again : tie.Need-loop-again Inv-loop μ-loop
 loop-again c =
-    let s = c .before .before .before .before .before .before .before .before .before .before .args .self in
-    let blocks = c .before .before .before .before .before .before .before .before .before .before .args .blocks in
-    let logical = c .before .before .before .before .before .before .before .before .before .before .args .logical in
-    let named = c .before .before .before .loop .named in
-    let next = c .if1 .named in
-    let l = c .before .before .before .loop .l in
-    let b = c .before .wide .result in
-    let i = c .before .before .before .loop .inv in
+    let a = c .before .before .before .before .before .before .before .before .before .before .args in
+    let l = c .before .before .before .loop in
+    let block = c .before .wide .result in
+    let on = takes-block (a .self .map) (a .blocks) (l .taken) (c .if1 .taken) (a .logical) (l .l) (l .unsound) (c .if1 .unsound) block (c .before .before .loop-test .taken) (c .before .wide .ensures) in
+    let past = takes-past (a .self .map) (a .blocks) (l .taken) (c .if1 .taken) (a .logical) (l .l) (l .unsound) (c .if1 .unsound) block (c .before .before .loop-test .taken) (c .before .wide .ensures) in
+    let none = takes-none (a .self .map) (a .blocks) (l .taken) (c .if1 .taken) (a .logical) (l .l) (l .unsound) (c .if1 .unsound) block (c .before .before .loop-test .taken) (c .before .wide .ensures) in
     ⊎-elim
-    (λ w. (
-      omega arith,
-      sound-on (s .marked) (s .invalid) (s .map) blocks named logical l next b (c .before .before .loop-test .taken) (c .before .wide .ensures) (w .0 .taken) (w .1 .left) (sym (w .5 .ensures) ∙ not-false (w .5 .result) (w .6 .left)) (w .10 ∙ w .8 .ensures)
-          ∙ i .1,
-      with-length named next b 512 (w .10 ∙ w .8 .ensures) (i .2),
-    ))
-    (λ w. (
-      omega arith,
-      ap (λ (x : List ℕ). soundFrom (bare (s .marked) (s .invalid) (s .map)) blocks x (l + 1) (logical - (l + 1))) (w .1)
-          ∙ sound-empty (s .marked) (s .invalid) (s .map) blocks named logical l b (c .before .before .loop-test .taken) (c .before .wide .ensures) (w .0 .left)
-          ∙ i .1,
-      ap length (w .1) ∙ i .2,
-    ))
+    (λ w. (omega arith, on (w .0 .taken) (w .1) (w .2) ∙ l .inv .1, ap length (w .1) ∙ length-set (l .taken) block 1 ∙ l .inv .2))
+    (⊎-elim
+    (λ w. (omega arith, past (w .0 .left) (w .1 .taken) (w .3) ∙ l .inv .1, ap length (w .2) ∙ l .inv .2))
+    (λ w. (omega arith, none (w .0 .left) (w .1 .left) (w .2) (w .3) ∙ l .inv .1, ap length (w .2) ∙ l .inv .2)))
     (c .if1 .came)
 
-returns-3 : tie.Need-returns-3 Inv-loop μ-loop
-returns-3 c =
-    let s = c .before .before .before .before .before .before .before .before .args .self in
-    sound-over (s .marked) (s .invalid) (s .map) (c .before .before .before .before .before .before .before .before .args .blocks) (c .before .loop .named) (c .before .before .before .before .before .before .before .before .args .logical) (c .before .loop .l) (c .loop-test .left)
-    ∙ c .before .loop .inv .1
-    ∙ sound-bare s (c .before .before .before .before .before .before .before .before .args .blocks) (withBit (replicate 512 0) (s .table)) 0 (c .before .before .before .before .before .before .before .before .args .logical)
+returns : tie.Need-returns Inv-loop μ-loop
+returns c =
+    let a = c .before .before .before .before .before .before .before .before .args in
+    let l = c .before .loop in
+    let size : length (c .before .before .flags .result) ≡ 4096 = search needs in
+    takes-over (a .self .map) (a .blocks) (l .taken) (a .logical) (l .l) (l .unsound) (c .loop-test .left)
+    ∙ l .inv .1
+    ∙ takes-all (a .self) (a .blocks) (a .logical) (c .before .before .flags .result) (omega arith) (omega arith) size (c .before .before .flags .ensures)
 
 pub has-sound-map-spec : {M : Type 1} → statement M
 has-sound-map-spec =
@@ -123,21 +87,15 @@ has-sound-map-spec =
     (tie.spec
     Inv-loop
     μ-loop
-    slice-aggregate-set-bit
-    set-bit-requires
+    flags-requires
+    array-write-taken
     loop-holds
     mul-wide
     array-read-wide
     wide-requires
-    returns
-    slice-aggregate-is-permitted
-    slice-aggregate-is-permitted-2
-    slice-aggregate-is-permitted-3
-    is-permitted-requires
-    returns-2
-    slice-aggregate-set-bit-2
-    set-bit-requires-2
+    array-read-unsound
+    array-write-taken-2
     add-l
     loop-less
     loop-again
-    returns-3)
+    returns)

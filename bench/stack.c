@@ -1,0 +1,81 @@
+/* The stack that each call of the library takes: the call runs on a painted stack, and the paint that is left is counted. */
+#include <stdio.h>
+#include <string.h>
+#include <ucontext.h>
+
+#include "../c/flash_store.h"
+
+enum {
+    MAIN = 32,
+    SPARE = 16,
+    PAGE = MAIN + SPARE,
+    PAGES = 4,
+    BLOCK = PAGE * PAGES,
+    BLOCKS = 4,
+    MAP = 1056, /* where the map stands in the state (docs/FORMAT.md) */
+    STACK = 1 << 20,
+    PAINT = 0xa5
+};
+
+static uint8_t array[BLOCK * BLOCKS], page_register[PAGE], history[BLOCKS], mask[BLOCK], page[MAIN], stack[STACK];
+static struct flash_store store = {
+    .main = MAIN,
+    .spare = SPARE,
+    .pages = PAGES,
+    .blocks = BLOCKS,
+    .logical = 2,
+    .array = array,
+    .array_len = sizeof array,
+    .page_register = page_register,
+    .page_register_len = PAGE,
+    .history = history,
+    .history_len = BLOCKS,
+};
+static struct flash_store_call call = {.mask = mask, .mask_len = BLOCK, .allowed = FLASH_STORE_UNCUT};
+static enum flash_store_answer answer;
+static ucontext_t caller, callee;
+
+static void format(void) { answer = flash_store_do_format(&store, &call); }
+static void mount(void) { answer = flash_store_do_mount(&store, &call); }
+static void read_page(void) { answer = flash_store_do_read(&store, &call, 0, 0, page, MAIN); }
+static void nothing(void) {}
+
+/* The bytes of the painted stack that a function changed. */
+static size_t used(void (*function)(void)) {
+    memset(stack, PAINT, STACK);
+    getcontext(&callee);
+    callee.uc_stack.ss_sp = stack;
+    callee.uc_stack.ss_size = STACK;
+    callee.uc_link = &caller;
+    makecontext(&callee, function, 0);
+    swapcontext(&caller, &callee);
+    size_t left = 0;
+    while (left < STACK && stack[left] == PAINT) {
+        left++;
+    }
+    return STACK - left;
+}
+
+/* One row; 1 where the answer or the cycles are not the expected ones. */
+static int measure(const char *name, void (*function)(void), size_t cycles) {
+    size_t bytes = used(function) - used(nothing);
+    printf("%-40s %6zu bytes of stack\n", name, bytes);
+    return answer != FLASH_STORE_DONE || call.sent != cycles;
+}
+
+int main(void) {
+    /* 8 reads of mark bytes, the erase of block 0 (fails), 4 reads of its pages, 3 erases, the erase of a fill, its first program (fails). */
+    static const uint32_t failing[18] = {[8] = 1 << 16, [17] = 1 << 16};
+    int differs = 0;
+    memset(array, 0xff, sizeof array);
+    differs |= measure("format", format, 354);
+    differs |= measure("mount", mount, 931);
+    store.state[MAP] = 1; /* logical block 0 is in block 1 */
+    store.state[MAP + 1] = 0;
+    differs |= measure("read of a page with a copy", read_page, MAIN + 10);
+    store.logical = 1;
+    call.fates = failing;
+    call.fates_len = 18;
+    differs |= measure("format, an erase and a program fail", format, 650);
+    return differs;
+}

@@ -1,0 +1,4 @@
+pub mod LengthLaws
+pub mod RefusedTests
+pub mod RepeatLaws
+pub mod ReplayLaws

@@ -1,0 +1,2 @@
+pub mod PageReadLaws
+pub mod JoinedLaws
