@@ -7,7 +7,7 @@ use lib.ListN.{getD, take}
 use Rattle.geometry.specs.declared.Geometry.{Geometry}
 use Rattle.geometry.specs.Sizes.{pageSize, blockSize}
 use Rattle.cells.specs.Part.{part}
-use Rattle.pages.specs.Layout.{Label, whole, labelOf, dataKind, tableKind}
+use Rattle.pages.specs.Layout.{Label, whole, labelOf, isDataKind, isTableKind}
 
 -- the bytes of a block, and of a page in it
 abbrev pub blockIn : Geometry → List ℕ → ℕ → List ℕ
@@ -51,10 +51,10 @@ abbrev pub numberIn : Geometry → List ℕ → ℕ
 numberIn g block = labelIn g block 0 .number
 
 unfoldable pub isTable : Geometry → List ℕ → Bool
-isTable g block = cond (isComplete g block) (eqb (labelIn g block 0 .kind) tableKind) false
+isTable g block = cond (isComplete g block) (isTableKind (labelIn g block 0 .kind)) false
 
 unfoldable pub isData : Geometry → List ℕ → Bool
-isData g block = cond (isComplete g block) (eqb (labelIn g block 0 .kind) dataKind) false
+isData g block = cond (isComplete g block) (isDataKind (labelIn g block 0 .kind)) false
 
 -- a complete copy of a logical block
 unfoldable pub isCopyOf : Geometry → ℕ → List ℕ → Bool

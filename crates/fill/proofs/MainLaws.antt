@@ -1,18 +1,24 @@
 -- The main bytes of a page: given, kept from the old copy, or FFh. Assumes nothing.
-use Prim.Native.Nat.{ℕ, _+_, _-_, _*_, _≤_, _<_}
+use Prim.Native.Nat.{ℕ, suc, _+_, _-_, _*_, _≤_, _<_}
 use mathlib.Core.Bool.{true, false, false≢true}
 use mathlib.Core.List.{List, _++_}
 use mathlib.Core.Path.{_≡_, refl, sym, ap, ap₂, subst, fun-ext, _∙_}
-use native.Mathlib.Nat.{sub-zero}
+use native.Mathlib.Nat.{sub-zero, suc-mul, zero-mul, mul-le-mul, mul-le-mul-right}
 use native.Mathlib.Omega.{arith}
 use borrow.Table.Steps.{cases}
-use borrow.Author.Tests.{eq-eqb, ne-eqb, lt-ltb, le-ltb}
+use borrow.Author.Tests.{lt-ltb, le-ltb}
 use lib.Dec.{eqb, ltb}
 use lib.ListN.{length, take, drop, replicate, length-append}
 use lib.Seq.{take-at, take-take, length-take-le}
+use borrow.Author.Tests.{lt-ltb, le-ltb, lt-leb, le-leb, ltb-true, ltb-false, leb-true, eqb-true, eqb-false}
+use lib.Dec.{eqb, leb, ltb}
+use lib.ListN.{length, take, drop, replicate, length-append}
+use lib.Seq.{take-at, take-take, take-all, length-take-le}
 use Rattle.geometry.specs.declared.Geometry.{Geometry}
 use Rattle.geometry.specs.Sizes.{pageSize, rowOf}
+use Rattle.bools.proofs.BoolLaws.{both}
 use Rattle.geometry.proofs.SizeLaws.{row-below}
+use Rattle.cells.specs.Part.{part}
 use Rattle.cells.specs.Cells.{over}
 use Rattle.interface.specs.Interface.{busyOf}
 use Rattle.array.specs.Device.{Setting}
@@ -27,34 +33,63 @@ use Rattle.copies.specs.Table.{tablePage}
 use Rattle.progress.specs.Progress.{Progress, progress}
 use Rattle.progress.proofs.ReadOnLaws.{Read, read-leaves, read-line, read-outcome, read-stopped}
 use Rattle.copies.proofs.PlaceLaws.{row-is-page}
-use Rattle.fill.specs.Fill.{Source, given, kept, mainOf, mainRead, dataSource, tableMain, tableSource}
+use Rattle.fill.specs.Fill.{Source, given, kept, mainOf, mainRead, dataSource, tableMain, tableSource, isGiven, givenMain}
 use Rattle.progress.specs.Steps.{ComesTo}
 use Rattle.progress.proofs.ComesLaws.{comes-still, comes-as}
 use Rattle.cells.proofs.CellLaws.{over-all}
 
 -- which of the three a page of a data copy is
-module _ (g : Geometry) (old place : ℕ) (bytes : List ℕ) (n : ℕ) where
-  pub source-given : n ≡ place → dataSource g old place bytes n ≡ given bytes
+module _ (g : Geometry) (old first count : ℕ) (bytes : List ℕ) (n : ℕ) where
+  pub source-given : isGiven first count n ≡ true → dataSource g old first count bytes n ≡ given (givenMain g first bytes n)
   unfolding dataSource
-  source-given e = rw (eq-eqb n place e)
+  source-given e = rw e
 
-  pub source-kept : (n ≡ place → ⊥) → old < g .blocks → dataSource g old place bytes n ≡ kept old
+  pub source-kept : isGiven first count n ≡ false → old < g .blocks → dataSource g old first count bytes n ≡ kept old
   unfolding dataSource
-  source-kept e h = rw (ne-eqb n place e, lt-ltb old (g .blocks) h)
+  source-kept e h = rw (e, lt-ltb old (g .blocks) h)
 
-  pub source-none : (n ≡ place → ⊥) → g .blocks ≤ old → dataSource g old place bytes n ≡ given (replicate (g .main) 255)
+  pub source-none : isGiven first count n ≡ false → g .blocks ≤ old → dataSource g old first count bytes n ≡ given (replicate (g .main) 255)
   unfolding dataSource
-  source-none e h = rw (ne-eqb n place e, le-ltb old (g .blocks) h)
+  source-none e h = rw (e, le-ltb old (g .blocks) h)
+
+-- a page that is given, and one that is not
+pub given-from : (first count n : ℕ) → isGiven first count n ≡ true → (first ≤ n) × (n < first + count)
+unfolding isGiven
+given-from first count n t = let p = both (leb first n) _ t in (leb-true first n (p .0), ltb-true n (first + count) (p .1))
+
+pub given-after : (first count n : ℕ) → n < first → false ≡ isGiven first count n
+unfolding isGiven
+given-after first count n h = rw (lt-leb first n h)
+
+pub given-within : (first count n : ℕ) → first ≤ n → ltb (n - first) count ≡ isGiven first count n
+unfolding isGiven
+given-within first count n h =
+    rw (le-leb first n h)
+    (cases (ltb n (first + count))
+    (λ t. rw t (lt-ltb (n - first) count (omega (arith, ltb-true n (first + count) t))))
+    (λ t. rw t (le-ltb (n - first) count (omega (arith, ltb-false n (first + count) t)))))
+
+-- the bytes of a page that is given stand within those of all of them
+pub given-room : (first count n main pages : ℕ) → main ≤ 4096 → pages ≤ 64 → n < pages → isGiven first count n ≡ true
+    → ((n - first) * main + main ≤ count * main) × ((n - first) * main ≤ 262144)
+given-room first count n main pages m q h t =
+    let w = given-from first count n t in
+    let under : suc (n - first) ≤ count = omega (arith, w .0, w .1) in
+    let room = mul-le-mul-right main under in
+    let few : n - first ≤ 64 = omega (arith, h, q) in
+    (omega (arith, room, suc-mul (n - first) main), omega (arith, mul-le-mul few m))
 
 -- a table's pages are those of a data copy without an old one, page 0 given
-pub table-source : (g : Geometry) (old : ℕ) → g .blocks ≤ old → (invalid bytes : List ℕ) → bytes ≡ tablePage (g .main) (g .blocks) (g .logical) invalid → dataSource g old 0 bytes ≡ tableSource g invalid
-unfolding dataSource tableMain
-table-source g old h invalid bytes e =
+pub table-source : (g : Geometry) (old : ℕ) → g .blocks ≤ old → (invalid bytes : List ℕ) → length bytes ≡ g .main → bytes ≡ tablePage (g .main) (g .blocks) (g .logical) invalid → dataSource g old 0 1 bytes ≡ tableSource g invalid
+unfolding dataSource isGiven tableMain
+table-source g old h invalid bytes long e =
     fun-ext
     (λ n.
     cases (eqb n 0)
-    (λ t. rw t (ap given e))
-    (λ t. rw (t, le-ltb old (g .blocks) h)))
+    (λ t.
+    let here : part ((0 - 0) * g .main) (g .main) bytes ≡ bytes = ap (λ (k : ℕ). take (g .main) (drop k bytes)) (zero-mul (g .main)) ∙ take-all (g .main) bytes (omega (arith, long)) in
+    rw (eqb-true n 0 t) (ap given (here ∙ e)))
+    (λ t. rw (t, le-leb 0 n (omega arith), le-ltb n (0 + 1) (omega (arith, eqb-false n 0 t)), le-ltb old (g .blocks) h)))
 
 -- the bytes that were put into the first part of a buffer
 put-first : (n : ℕ) (page ys rest : List ℕ) → length ys ≡ n → take n (take 0 page ++ (ys ++ rest)) ≡ ys

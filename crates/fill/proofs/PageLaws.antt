@@ -8,7 +8,8 @@ use lib.Seq.{length-take-le}
 use Rattle.geometry.specs.declared.Geometry.{Geometry}
 use Rattle.geometry.specs.Limits.{Valid}
 use Rattle.geometry.specs.Sizes.{pageSize}
-use Rattle.pages.specs.Layout.{label, encoded, numberWidth}
+use Rattle.pages.specs.Layout.{label, encoded}
+use Rattle.pages.proofs.ByteLaws.{width-le}
 use Rattle.pages.proofs.LayoutLaws.{length-encoded}
 use Rattle.fill.specs.Fill.{copy, pageOf}
 
@@ -20,9 +21,9 @@ as-page g kind logical number place page bytes h e =
     e ∙ ap (λ (k : ℕ). encoded k (label kind logical place number) (take (g .main) page)) spare
 
 -- it is as long as a page
-pub page-long : (g : Geometry) → Valid g → (kind logical number place : ℕ) (main : List ℕ) → numberWidth kind ≡ 4 → length main ≡ g .main → length (pageOf g (copy kind logical number) place main) ≡ pageSize g
-page-long g v kind logical number place main w h =
-    length-encoded (g .spare) (label kind logical place number) main (omega (arith, w, v .spare-least)) ∙ ap (λ (k : ℕ). k + g .spare) h
+pub page-long : (g : Geometry) → Valid g → (kind logical number place : ℕ) (main : List ℕ) → length main ≡ g .main → length (pageOf g (copy kind logical number) place main) ≡ pageSize g
+page-long g v kind logical number place main h =
+    length-encoded (g .spare) (label kind logical place number) main (omega (arith, width-le kind, v .spare-least)) ∙ ap (λ (k : ℕ). k + g .spare) h
 
 -- main bytes that were written into the buffer are as long as they are
 pub main-long : (g : Geometry) (page main : List ℕ) → length page ≡ pageSize g → take (g .main) page ≡ main → length main ≡ g .main

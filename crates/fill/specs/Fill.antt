@@ -1,13 +1,14 @@
 -- A fill: a block is erased and its pages are programmed in order, each with its label and check.
-use Prim.Native.Nat.{ℕ, zero, suc, _<_}
-use mathlib.Core.Bool.{cond}
+use Prim.Native.Nat.{ℕ, zero, suc, _+_, _-_, _*_, _<_, _^_}
+use mathlib.Core.Bool.{Bool, false, cond}
 use mathlib.Core.List.{List}
 use mathlib.Core.Path.{_≡_}
-use lib.Dec.{eqb, ltb}
+use lib.Dec.{eqb, leb, ltb}
 use lib.ListN.{replicate}
 use Rattle.geometry.specs.declared.Geometry.{Geometry}
 use Rattle.geometry.specs.Limits.{Valid}
 use Rattle.geometry.specs.Sizes.{pageSize, rowOf}
+use Rattle.cells.specs.Part.{part}
 use Rattle.array.specs.Device.{Setting}
 use Rattle.pages.specs.Layout.{label, encoded, numberWidth, tableKind}
 use Rattle.copies.specs.Blocks.{blockIn, mainIn}
@@ -29,9 +30,9 @@ pub record Fillable (g : Geometry) (block place kind logical number size : ℕ) 
   pub is-valid : Valid g
   pub block-below : block < g .blocks
   pub place-below : place < g .pages
-  pub width-four : numberWidth kind ≡ 4
+  pub width-some : 0 < numberWidth kind
   pub logical-fits : logical < 65536
-  pub number-fits : number < 4294967296
+  pub number-fits : number < 256 ^ numberWidth kind
   pub page-long : size ≡ pageSize g
 
 -- where the main bytes of a page come from: given, or kept from the same page of another block
@@ -79,11 +80,20 @@ unfoldable pub stepsFilled : Setting → ℕ → Copy → (ℕ → Source) → �
 stepsFilled s block c source zero p = p
 stepsFilled s block c source (suc n) p = stepFilled s block c source n (stepsFilled s block c source n p)
 
--- a data copy's pages: one page is given, the others are kept from the old copy, FFh where there is none;
--- no page is given where place is not in the block, and there is no old copy where its block is not on the chip
-unfoldable pub dataSource : Geometry → ℕ → ℕ → List ℕ → ℕ → Source
-dataSource g old place bytes n =
-    cond (eqb n place) (given bytes) (cond (ltb old (g .blocks)) (kept old) (given (replicate (g .main) 255)))
+-- page n is one of the count pages from first on
+unfoldable pub isGiven : ℕ → ℕ → ℕ → Bool
+isGiven first count n = cond (leb first n) (ltb n (first + count)) false
+
+-- its main bytes, where those of all these pages stand one after the other
+abbrev pub givenMain : Geometry → ℕ → List ℕ → ℕ → List ℕ
+givenMain g first bytes n = part ((n - first) * g .main) (g .main) bytes
+
+-- a data copy's pages: count pages from first on are given, the others are kept from the old copy, FFh where there is
+-- none; there is no old copy where its block is not on the chip
+unfoldable pub dataSource : Geometry → ℕ → ℕ → ℕ → List ℕ → ℕ → Source
+dataSource g old first count bytes n =
+    cond (isGiven first count n) (given (givenMain g first bytes n))
+    (cond (ltb old (g .blocks)) (kept old) (given (replicate (g .main) 255)))
 
 -- a table's pages: page 0 lists the invalid blocks, the others are FFh
 unfoldable pub tableMain : Geometry → List ℕ → ℕ → List ℕ

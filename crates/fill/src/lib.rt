@@ -5,8 +5,9 @@ use polling::Done;
 use polling::Outcome;
 ghost use mathlib.Core.Bool.{true};
 ghost use mathlib.Core.Path.{_≡_};
-ghost use Prim.Native.Nat.{_≤_, _<_};
+ghost use Prim.Native.Nat.{_*_, _≤_, _<_};
 ghost use lib.ListN.{length, take, getD};
+ghost use Rattle.geometry.specs.Limits.{Valid};
 ghost use Rattle.geometry.specs.Sizes.{pageSize, rowOf};
 ghost use Rattle.array.specs.Device.{setting};
 ghost use Rattle.bus.specs.Line.{line, sendAll};
@@ -15,16 +16,28 @@ ghost use Rattle.polling.specs.Polling.{outcomeOf};
 ghost use Rattle.sequences.specs.Cycles.{programCycles};
 ghost use Rattle.operations.specs.Ends.{Called};
 ghost use Rattle.progress.specs.Steps.{ComesTo};
-ghost use Rattle.fill.specs.Fill.{copy, pageOf, Fillable, mainOf, mainRead, erasedFor, dataSource};
+ghost use Rattle.fill.specs.Fill.{copy, pageOf, Fillable, mainOf, mainRead, erasedFor, dataSource, isGiven, givenMain};
 
-// What a copy holds beside the bytes of the page that is given: its label, the block of the old copy (none where it is not on
-// the chip), and which page is given (none where it is not in the block).
+// What a copy holds beside the bytes that are given: its label, the block of the old copy (none where it is not on the chip),
+// and which pages are given, so many from the first on.
 pub struct Content {
     pub kind: u8,
     pub logical: usize,
     pub number: u64,
     pub old: usize,
-    pub place: usize,
+    pub first: usize,
+    pub count: usize,
+}
+
+// Whether the bytes of a page are given.
+fn is_given(content: Content, place: usize) -> bool
+    ensures { λ r. ⌜ r ≡ isGiven (content .first) (content .count) place ⌝ }
+{
+    let first = content.first;
+    if place < first {
+        return false;
+    }
+    place - first < content.count
 }
 
 // Finishes a page whose main bytes are in the buffer, and programs it.
@@ -85,6 +98,22 @@ pub fn erase_for(
     operations::erase(from, g, array, register, history, mask, fates, row)
 }
 
+// Puts the main bytes of a page that is given into the buffer.
+fn put_given(g: Geometry, content: Content, place: usize, bytes: &[u8], page: &mut [u8])
+    requires { ⌜ Valid g ⌝ }
+    requires { ⌜ place < g .pages ⌝ }
+    requires { ⌜ isGiven (content .first) (content .count) place ≡ true ⌝ }
+    requires { ⌜ length (now bytes) ≡ content .count * g .main ⌝ }
+    requires { ⌜ length (now page) ≡ pageSize g ⌝ }
+    ensures { λ _. ⌜ take (g .main) (now (page .exit)) ≡ givenMain g (content .first) (now (bytes .entry)) place ⌝ }
+{
+    let main = g.main;
+    let first = content.first;
+    let at = (place - first) * main;
+    let end = at + main;
+    cells::copy(&bytes[at..end], &mut page[0..main]);
+}
+
 // Puts the main bytes of a page into the buffer: those given, those of the old copy, or FFh.
 pub fn put_main(
     from: Bus,
@@ -102,19 +131,19 @@ pub fn put_main(
     requires { ⌜ Called (setting g (now mask) (now fates)) (line from (now array) (now register) (now history)) ⌝ }
     requires { ⌜ place < g .pages ⌝ }
     requires { ⌜ length (now page) ≡ pageSize g ⌝ }
-    requires { ⌜ (place ≡ content .place → length (now bytes) ≡ g .main) ⌝ }
-    ensures { λ r. ⌜ ComesTo (setting g (now (mask .entry)) (now (fates .entry))) (mainRead (setting g (now (mask .entry)) (now (fates .entry))) place (dataSource g (content .old) (content .place) (now (bytes .entry)) place)) (line from (now (array .entry)) (now (register .entry)) (now (history .entry))) (line (r .bus) (now (array .exit)) (now (register .exit)) (now (history .exit))) (r .outcome) ⌝ }
-    ensures { λ r. ⌜ (isPassed (r .outcome) ≡ true → take (g .main) (now (page .exit)) ≡ mainOf g (now (array .entry)) place (dataSource g (content .old) (content .place) (now (bytes .entry)) place)) ⌝ }
+    requires { ⌜ length (now bytes) ≡ content .count * g .main ⌝ }
+    ensures { λ r. ⌜ ComesTo (setting g (now (mask .entry)) (now (fates .entry))) (mainRead (setting g (now (mask .entry)) (now (fates .entry))) place (dataSource g (content .old) (content .first) (content .count) (now (bytes .entry)) place)) (line from (now (array .entry)) (now (register .entry)) (now (history .entry))) (line (r .bus) (now (array .exit)) (now (register .exit)) (now (history .exit))) (r .outcome) ⌝ }
+    ensures { λ r. ⌜ (isPassed (r .outcome) ≡ true → take (g .main) (now (page .exit)) ≡ mainOf g (now (array .entry)) place (dataSource g (content .old) (content .first) (content .count) (now (bytes .entry)) place)) ⌝ }
     ensures { λ _. ⌜ now (history .exit) ≡ now (history .entry) ⌝ }
 {
-    let main = g.main;
-    if place == content.place {
-        cells::copy(bytes, &mut page[0..main]);
+    if is_given(content, place) {
+        put_given(g, content, place, bytes, page);
         return Done {
             bus: from,
             outcome: Outcome::Passed,
         };
     }
+    let main = g.main;
     let old = content.old;
     if old < g.blocks {
         let row = geometry::row_of(g, old, place);

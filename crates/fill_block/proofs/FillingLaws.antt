@@ -55,7 +55,7 @@ module _ (s : Setting) (block : ℕ) (c : Copy) (n : ℕ) (source : Source) (l m
           block-below = f .block-below;
           page-below = f .place-below;
           in-order = in-order;
-          bytes-long = page-long (s .geometry) (f .is-valid) (c .kind) (c .logical) (c .number) n _ (f .width-four) (main-long (s .geometry) page _ (f .page-long) main-is);
+          bytes-long = page-long (s .geometry) (f .is-valid) (c .kind) (c .logical) (c .number) n _ (main-long (s .geometry) page _ (f .page-long) main-is);
         }
 
     sent-is : m' ≡ sendAll s m (programCycles s m (rowOf (s .geometry) block n) bytes)

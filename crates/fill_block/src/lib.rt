@@ -6,7 +6,7 @@ use polling::Done;
 use polling::Outcome;
 ghost use mathlib.Core.Bool.{true};
 ghost use mathlib.Core.Path.{_≡_};
-ghost use Prim.Native.Nat.{_+_, _≤_, _<_};
+ghost use Prim.Native.Nat.{_+_, _*_, _≤_, _<_};
 ghost use lib.ListN.{length, getD};
 ghost use Rattle.geometry.specs.Sizes.{pageSize};
 ghost use Rattle.array.specs.Device.{setting};
@@ -34,8 +34,8 @@ pub fn fill_page(
     requires { ⌜ Called (setting g (now mask) (now fates)) (line from (now array) (now register) (now history)) ⌝ }
     requires { ⌜ Fillable g block place (content .kind) (content .logical) (content .number) (length (now page)) ⌝ }
     requires { ⌜ (0 < place → getD (now history) block 0 ≤ place) ⌝ }
-    requires { ⌜ (place ≡ content .place → length (now bytes) ≡ g .main) ⌝ }
-    ensures { λ r. ⌜ ComesTo (setting g (now (mask .entry)) (now (fates .entry))) (stepFilled (setting g (now (mask .entry)) (now (fates .entry))) block (copy (content .kind) (content .logical) (content .number)) (dataSource g (content .old) (content .place) (now (bytes .entry))) place) (line from (now (array .entry)) (now (register .entry)) (now (history .entry))) (line (r .bus) (now (array .exit)) (now (register .exit)) (now (history .exit))) (r .outcome) ⌝ }
+    requires { ⌜ length (now bytes) ≡ content .count * g .main ⌝ }
+    ensures { λ r. ⌜ ComesTo (setting g (now (mask .entry)) (now (fates .entry))) (stepFilled (setting g (now (mask .entry)) (now (fates .entry))) block (copy (content .kind) (content .logical) (content .number)) (dataSource g (content .old) (content .first) (content .count) (now (bytes .entry))) place) (line from (now (array .entry)) (now (register .entry)) (now (history .entry))) (line (r .bus) (now (array .exit)) (now (register .exit)) (now (history .exit))) (r .outcome) ⌝ }
     ensures { λ r. ⌜ (isPassed (r .outcome) ≡ true → getD (now (history .exit)) block 0 ≤ place + 1) ⌝ }
 {
     let ready = fill::erase_for(from, g, array, register, history, mask, fates, block, place);
@@ -91,8 +91,8 @@ pub fn fill_copy(
 ) -> Done
     requires { ⌜ Called (setting g (now mask) (now fates)) (line from (now array) (now register) (now history)) ⌝ }
     requires { ⌜ Fillable g block 0 (content .kind) (content .logical) (content .number) (length (now page)) ⌝ }
-    requires { ⌜ (content .place < g .pages → length (now bytes) ≡ g .main) ⌝ }
-    ensures { λ r. ⌜ ComesTo (setting g (now (mask .entry)) (now (fates .entry))) (filled (setting g (now (mask .entry)) (now (fates .entry))) block (copy (content .kind) (content .logical) (content .number)) (dataSource g (content .old) (content .place) (now (bytes .entry)))) (line from (now (array .entry)) (now (register .entry)) (now (history .entry))) (line (r .bus) (now (array .exit)) (now (register .exit)) (now (history .exit))) (r .outcome) ⌝ }
+    requires { ⌜ length (now bytes) ≡ content .count * g .main ⌝ }
+    ensures { λ r. ⌜ ComesTo (setting g (now (mask .entry)) (now (fates .entry))) (filled (setting g (now (mask .entry)) (now (fates .entry))) block (copy (content .kind) (content .logical) (content .number)) (dataSource g (content .old) (content .first) (content .count) (now (bytes .entry)))) (line from (now (array .entry)) (now (register .entry)) (now (history .entry))) (line (r .bus) (now (array .exit)) (now (register .exit)) (now (history .exit))) (r .outcome) ⌝ }
 {
     let mut b = from;
     let pages = g.pages;
@@ -149,11 +149,12 @@ pub fn fill_table(
     let main = g.main;
     table::build_first(&mut first[0..main], g.blocks, g.logical, invalid);
     let content = Content {
-        kind: 0x54,
+        kind: pages::TABLE,
         logical: 0,
         number,
         old: 65535,
-        place: 0,
+        first: 0,
+        count: 1,
     };
     fill_copy(
         from,

@@ -41,7 +41,7 @@ use Rattle.erasing.specs.Round.{Round, erasedTo}
 use Rattle.erasing.proofs.RoundLaws.{round-stopped}
 use Rattle.tables.specs.Tables.{Tabled, tabled, numbersLeft}
 use Rattle.format.specs.Format.{firstState, tooFew, stopped, tablesOf, tablesRun, roundRun, marksRun, formatRun}
-use Rattle.runs.specs.Run.{failedIn, NoneFailed, Sound, Unchanged, Spent, readMost, fillMost, blockOn, Slow, Failing}
+use Rattle.runs.specs.Run.{failedIn, NoneFailed, Sound, Unchanged, Spent, readMost, blockOn, Slow, Failing, tableFillMost}
 use Rattle.runs.proofs.PlaceLaws.{page-erased}
 use Rattle.runs.proofs.ReadLaws.{read-unchanged, read-spends, read-calm, reset-unchanged, reset-spends}
 use Rattle.runs.proofs.CopyLaws.{erased-unmarked}
@@ -152,7 +152,7 @@ pub record Whole (s : Setting) (p : Progress) (t : Tabled) : Type 0 where
   pub called : t .answer ≡ 0 → Called s (t .progress .line)
   pub formatted : t .answer ≡ 0 → Formatted (s .geometry) (t .progress .line .chip .array) (t .state)
   pub failures : t .answer ≡ 0 → (b : ℕ) → b < s .geometry .blocks → failedIn b (t .progress .started) ≡ bitAt (t .state .invalid) b
-  pub spent : Spent p (t .progress) (s .geometry .blocks * blockMost (s .geometry) + s .geometry .blocks * fillMost (s .geometry))
+  pub spent : Spent p (t .progress) (s .geometry .blocks * blockMost (s .geometry) + s .geometry .blocks * tableFillMost (s .geometry))
 
 module _ (s : Setting) (v : Valid (s .geometry)) (mask-bytes : Bytes (s .mask)) (p : Progress) (sound : Sound s p) (ends : isReadEnd (p .outcome) ≡ true) (none : (b : ℕ) → failedIn b (p .started) ≡ false) where
   abbrev g : Geometry
@@ -287,12 +287,12 @@ module _ (s : Setting) (v : Valid (s .geometry)) (mask-bytes : Bytes (s .mask)) 
     unfolding firstState
     kept-marked b h m = left .marked-kept b h m ∙ rounded .marked-kept b h m
 
-    tables-spent : Spent (r .progress) (t .progress) (countPermitted marked (r .invalid) (replicate 512 0) (g .blocks) * fillMost g)
+    tables-spent : Spent (r .progress) (t .progress) (countPermitted marked (r .invalid) (replicate 512 0) (g .blocks) * tableFillMost g)
     unfolding firstState
     tables-spent = left .spent
 
-    fills-most : countPermitted marked (r .invalid) (replicate 512 0) (g .blocks) * fillMost g ≤ g .blocks * fillMost g
-    fills-most = mul-le-mul-right (fillMost g) (count-most marked (r .invalid) (replicate 512 0) (g .blocks))
+    fills-most : countPermitted marked (r .invalid) (replicate 512 0) (g .blocks) * tableFillMost g ≤ g .blocks * tableFillMost g
+    fills-most = mul-le-mul-right (tableFillMost g) (count-most marked (r .invalid) (replicate 512 0) (g .blocks))
 
     -- worn: every unmarked block failed
     worn-all : t .answer ≡ 8 → (b : ℕ) → b < g .blocks → isMarked g (blockOn s p b) ≡ false → failedIn b (t .progress .started) ≡ true

@@ -33,7 +33,7 @@ use Rattle.marks.proofs.KeepLaws.{marks-keep}
 use Rattle.erasing.proofs.KeepLaws.{round-keeps}
 use Rattle.runs.specs.Replay.{Replayed}
 use Rattle.runs.proofs.ReplayLaws.{leads-first, leads-kept, replayed, lengths-sized}
-use Rattle.runs.specs.Run.{readMost, pageMost, fillMost, Slow, Failing, failedIn}
+use Rattle.runs.specs.Run.{readMost, Slow, Failing, failedIn, programMost, tableFillMost}
 use Rattle.formatted.specs.Formatting.{blockMost, formatMost, Acknowledged, Formatting, unfailed, roundDone, FormatAnswer, is-done, is-worn, is-spent, is-silent, is-cut}
 use Rattle.formatted.proofs.FormatLaws.{format-leaves, FormatLeft}
 use Rattle.mounted.proofs.StateLaws.{mounted-state}
@@ -123,16 +123,16 @@ format-acknowledged s d n state mask-bytes z =
     (λ f. absurd (omega (arith, z, format-refused s d n state f)))
 
 -- the largest geometry, every operation with 256 status reads
-pub format-fits : (g : Geometry) → Valid g → formatMost g ≤ 3567910915
+pub format-fits : (g : Geometry) → Valid g → formatMost g ≤ 2424700931
 format-fits g v =
     let size = page-size-most g v in
     let read : readMost (pageSize g) ≤ 4617 = omega (arith, size) in
     let reads = mul-le-mul (v .pages-most) read in
     let block : blockMost g ≤ 295750 = omega (arith, reads) in
     let blocks = mul-le-mul (v .blocks-most) block in
-    let page : pageMost g ≤ 8977 = omega (arith, size, v .main-most) in
+    let page : programMost g ≤ 4616 = omega (arith, size) in
     let pages = mul-le-mul (v .pages-most) page in
-    let fill : fillMost g ≤ 574790 = omega (arith, pages) in
+    let fill : tableFillMost g ≤ 295686 = omega (arith, pages) in
     let fills = mul-le-mul (v .blocks-most) fill in
     omega (arith, v .blocks-most, blocks, fills)
 

@@ -1,11 +1,13 @@
 -- On a settled array the table is current, lists what it should, and a mount succeeds. Assumes nothing.
 use Prim.Native.Nat.{ℕ, zero, suc, _+_, _-_, _*_, _/_, _≤_, _<_}
 use mathlib.Core.Bool.{true, false, cond, false≢true}
+use Prim.Native.Nat.{ℕ, zero, suc, _+_, _-_, _*_, _/_, _≤_, _<_, _^_}
+use mathlib.Core.Bool.{true, false, cond, false≢true}
 use mathlib.Core.List.{List}
 use mathlib.Core.Path.{_≡_, refl, sym, ap, subst, _∙_}
 use native.Mathlib.Omega.{arith}
 use borrow.Table.Steps.{cases}
-use borrow.Author.Tests.{eq-eqb, ne-eqb, eqb-true, eqb-false, ltb-true, ltb-false, not-true}
+use borrow.Author.Tests.{ne-eqb, eqb-true, eqb-false, ltb-true, ltb-false, not-true}
 use lib.Dec.{eqb, ltb}
 use lib.ListN.{length, getD, take, replicate, length-append, length-take, length-replicate, getD-replicate, List·getD-append}
 use lib.Seq.{getD-append-add, take-at, length-take-le, getD-take, getD-drop, ext-getD}
@@ -17,8 +19,9 @@ use Rattle.cells.specs.Part.{put}
 use Rattle.cells.proofs.PartLaws.{length-put}
 use Rattle.cells.proofs.CellLaws.{bytes-append, bytes-take, bytes-replicate}
 use Rattle.bitmaps.specs.Bitmap.{bitAt, clearFrom, countBits, bitmapBytes}
-use Rattle.pages.specs.Layout.{Label, allOnes, bytesOf, numberWidth, tableKind, dataKind}
-use Rattle.pages.proofs.LayoutLaws.{bytes-bytesOf, length-bytesOf, allOnes-replicate}
+use Rattle.pages.specs.Layout.{Label, allOnes, bytesOf, tableKind, isDataKind, isTableKind}
+use Rattle.pages.proofs.LayoutLaws.{bytes-bytesOf, length-bytesOf, allOnes-replicate, table-width}
+use Rattle.pages.proofs.LayoutLaws as kinds
 use Rattle.copies.specs.Blocks.{blockIn, pageIn, mainIn, labelIn, wholeIn, isMarked, agrees, isComplete, completeTo, isTable, isData, isCopyOf, aboveTo, above}
 use Rattle.copies.specs.Current as current
 use Rattle.copies.specs.Current.{currentTable, currentCopy, filledLast, nextNumber, aboveAll, numberAt, counts, unlisted, sharesNumber, clashesAt, clashes, judgeTable, mountAnswer, reading}
@@ -53,8 +56,8 @@ pub record Settled (g : Geometry) (array invalid : List ℕ) (table number : ℕ
 
 -- main bytes of a table's pages
 pub table-label : (number : ℕ) → number < 4294967296 → Labelled (tableCopy number)
-unfolding numberWidth
-table-label number h = record { width-four = refl; kind-byte = omega arith; logical-fits = omega arith; number-fits = h }
+table-label number h =
+    record { width-some = omega (arith, table-width); kind-byte = omega arith; logical-fits = omega arith; number-fits = subst (λ (w : ℕ). number < 256 ^ w) (sym table-width) h }
 
 module _ (g : Geometry) (v : Valid g) (invalid : List ℕ) (bits : Bitmap (g .blocks) invalid) where
   room : 8 + bitmapBytes (g .blocks) ≤ g .main
@@ -210,7 +213,7 @@ module _ {g : Geometry} {array invalid : List ℕ} {table number : ℕ} (r : Set
   -- the current table
   is-table : isTable g (row table) ≡ true
   unfolding isTable
-  is-table = rw table-complete (eq-eqb (labelIn g (row table) 0 .kind) tableKind (ap (λ (l : Label). l .kind) table-first))
+  is-table = rw table-complete (ap (λ (l : Label). isTableKind (l .kind)) table-first ∙ kinds.table-is)
 
   table-is-complete : (b : ℕ) → isTable g (row b) ≡ true → isComplete g (row b) ≡ true
   unfolding isTable
@@ -282,7 +285,7 @@ module _ {g : Geometry} {array invalid : List ℕ} {table number : ℕ} (r : Set
   -- no data copy is current
   table-no-data : isData g (row table) ≡ false
   unfolding isData
-  table-no-data = rw table-complete (ap (λ (k : ℕ). eqb k dataKind) (ap (λ (l : Label). l .kind) table-first))
+  table-no-data = rw table-complete (ap (λ (l : Label). isDataKind (l .kind)) table-first ∙ kinds.table-no-data)
 
   unlisted-bit : (b : ℕ) → b < g .blocks → unlisted g array table b ≡ true → bitAt invalid b ≡ false
   unlisted-bit b h t = sym (lists-invalid b h) ∙ not-true (lists g (row table) b) t
@@ -290,7 +293,7 @@ module _ {g : Geometry} {array invalid : List ℕ} {table number : ℕ} (r : Set
   copy-complete-of : (logical b : ℕ) → isCopyOf g logical (row b) ≡ true → (isComplete g (row b) ≡ true) × (isData g (row b) ≡ true)
   unfolding isCopyOf isData
   copy-complete-of logical b t =
-      let data-is = both (cond (isComplete g (row b)) (eqb (labelIn g (row b) 0 .kind) dataKind) false) _ t .0 in
+      let data-is = both (cond (isComplete g (row b)) (isDataKind (labelIn g (row b) 0 .kind)) false) _ t .0 in
       (both (isComplete g (row b)) _ data-is .0, data-is)
 
   pub no-copy : (logical : ℕ) → currentCopy g array table logical ≡ nothing

@@ -37,15 +37,15 @@ use Rattle.calls.proofs.CallLaws.{stop-answer, stop-least, answer-silent, answe
 use Rattle.tables.proofs.AfterLaws.{after-passed, after-failed}
 use Rattle.polling.proofs.OutcomeLaws.{unfailed-end, failed-unpassed, passed-answered, failed-answered, passed-unfailed}
 use Rattle.tables.specs.Tables.{Tried, tryBlock, tryTable, afterFill, Tabled, tabled, endedBy, tablesFilled}
-use Rattle.runs.specs.Run.{failedIn, Sound, Meant, from-caller, Filled, Spent, fillMost, blockOn, pageOn, Slow, Failing}
+use Rattle.runs.specs.Run.{failedIn, Sound, Meant, from-caller, Filled, Spent, blockOn, pageOn, Slow, Failing, programMost, tableFillMost, sourceMost}
 use Rattle.runs.proofs.TraceLaws.{unfailed-none}
 use Rattle.runs.proofs.PlaceLaws.{page-erased}
-use Rattle.runs.proofs.FillLaws.{fill-leaves, over-erased}
+use Rattle.runs.proofs.FillLaws.{fill-given, over-erased}
 use Rattle.runs.proofs.CopyLaws.{copy-long, copy-bytes, copy-unmarked, raised-above, raised-unmarked}
 use Rattle.bitmaps.proofs.BitmapLaws.{Bitmap, bits-more, bit-more}
 use Rattle.cells.proofs.CellLaws.{raised-erased}
 use Rattle.formatted.proofs.SettledLaws.{Settled, table-label, table-long, table-bytes}
-use Rattle.choose.proofs.ChooseLaws.{by-choice, permitted-parts, permitted-other, permitted-gone, count-less}
+use Rattle.choose.proofs.ChooseLaws.{by-choice, permitted-parts, permitted-other, count-less}
 use Rattle.polling.specs.declared.Outcome.{Outcome}
 use Rattle.bools.proofs.BoolLaws.{and-none, one-true}
 use Rattle.formatted.specs.Formatting.{FormatAnswer, is-done, is-worn, is-spent, is-silent, is-cut}
@@ -98,7 +98,7 @@ pub record Left (s : Setting) (held : List ℕ) (st : State) (p : Progress) (t :
   pub stopped : (t .answer ≡ 0 → ⊥) → t .state ≡ blank 2
   pub marked-kept : (b : ℕ) → b < s .geometry .blocks → bitAt (st .marked) b ≡ true → blockOn s (t .progress) b ≡ blockOn s p b
   pub done : t .answer ≡ 0 → Done s st (t .progress) (t .state)
-  pub spent : Spent p (t .progress) (countPermitted (st .marked) (st .invalid) held (s .geometry .blocks) * fillMost (s .geometry))
+  pub spent : Spent p (t .progress) (countPermitted (st .marked) (st .invalid) held (s .geometry .blocks) * tableFillMost (s .geometry))
 
 module _ (s : Setting) (mask-bytes : Bytes (s .mask)) (st : State) (p : Progress) (r : Ready s p st) (number-fits : st .number < 4294967296) where
   called : Called s (p .line)
@@ -130,8 +130,12 @@ module _ (s : Setting) (mask-bytes : Bytes (s .mask)) (st : State) (p : Progress
     meant : Meant s (p .line .chip .array) b (tableCopy (st .number)) (tableSource (s .geometry) (st .invalid)) pages
     meant = record { long = page-long; bytes = page-bytes; provides = λ i h. from-caller (tableMain (s .geometry) (st .invalid) i) }
 
-    left : Filled s p q b pages (s .geometry .pages) (fillMost (s .geometry))
-    left = fill-leaves s p b below (tableCopy (st .number)) (tableSource (s .geometry) (st .invalid)) pages meant mask-bytes (r .passed) called
+    left : Filled s p q b pages (s .geometry .pages) (tableFillMost (s .geometry))
+    unfolding sourceMost
+    left = fill-given s p b below (tableCopy (st .number)) (tableSource (s .geometry) (st .invalid)) pages meant mask-bytes given-all (r .passed) called
+      where
+        given-all : (i : ℕ) → i < s .geometry .pages → sourceMost (s .geometry) (tableSource (s .geometry) (st .invalid) i) ≤ programMost (s .geometry)
+        given-all i h = omega arith
 
     -- whatever became of it, its pages are over those that were meant
     blank-over : (row : List ℕ) → row ≡ replicate (blockSize (s .geometry)) 255 → (i : ℕ) → i < s .geometry .pages → Over (pages i) (pageIn (s .geometry) row i)
@@ -330,7 +334,7 @@ module _ (s : Setting) (mask-bytes : Bytes (s .mask)) (held : List ℕ) where
       abbrev ended : Progress
       ended = tableFilled s b (st .number) (st .invalid) p
 
-      block-left : Filled s p ended b (λ i. pageOf (s .geometry) (tableCopy (st .number)) i (tableMain (s .geometry) (st .invalid) i)) (s .geometry .pages) (fillMost (s .geometry))
+      block-left : Filled s p ended b (λ i. pageOf (s .geometry) (tableCopy (st .number)) i (tableMain (s .geometry) (st .invalid) i)) (s .geometry .pages) (tableFillMost (s .geometry))
       block-left = left s mask-bytes st p r number-fits b below (free .0) (free .1)
 
       bit-room : b / 8 < length (st .invalid)
@@ -344,8 +348,8 @@ module _ (s : Setting) (mask-bytes : Bytes (s .mask)) (held : List ℕ) where
       one-less =
           count-less (st .marked) (st .invalid) held b bit-room (chosen-is .passes) (s .geometry .blocks) below
 
-      one-fill : countPermitted (st .marked) (st .invalid) held (s .geometry .blocks) * fillMost (s .geometry) ≡ fewer * fillMost (s .geometry) + fillMost (s .geometry)
-      one-fill = ap (λ (k : ℕ). k * fillMost (s .geometry)) (sym one-less ∙ add-one fewer) ∙ suc-mul fewer (fillMost (s .geometry))
+      one-fill : countPermitted (st .marked) (st .invalid) held (s .geometry .blocks) * tableFillMost (s .geometry) ≡ fewer * tableFillMost (s .geometry) + tableFillMost (s .geometry)
+      one-fill = ap (λ (k : ℕ). k * tableFillMost (s .geometry)) (sym one-less ∙ add-one fewer) ∙ suc-mul fewer (tableFillMost (s .geometry))
 
       kept-marked : (c : ℕ) → c < s .geometry .blocks → bitAt (st .marked) c ≡ true → blockOn s ended c ≡ blockOn s p c
       kept-marked c h t = block-left .others c h (off-marked s mask-bytes st p r number-fits b below (free .0) (free .1) c t)

@@ -27,7 +27,7 @@ use Rattle.fill.specs.Fill.{tableCopy, tableMain, pageOf}
 use Rattle.format.specs.Format.{formatRun}
 use Rattle.mount.specs.Mount.{mountedState}
 use Rattle.runs.specs.Replay.{Replayed}
-use Rattle.runs.specs.Run.{failedIn, Slow, Failing, readMost, eraseMost, fillMost}
+use Rattle.runs.specs.Run.{failedIn, Slow, Failing, readMost, eraseMost, tableFillMost}
 
 -- what demand 3 starts from: the table on the chip with its number, its pages as they were programmed and what it lists,
 -- every other unmarked block that it does not list erased, so that nothing unlisted is complete but it, a mount that
@@ -50,7 +50,7 @@ abbrev pub blockMost : Geometry → ℕ
 blockMost g = eraseMost + g .pages * readMost (pageSize g)
 
 abbrev pub formatMost : Geometry → ℕ
-formatMost g = 3 + g .blocks * (2 * readMost 1) + (g .blocks * blockMost g + g .blocks * fillMost g)
+formatMost g = 3 + g .blocks * (2 * readMost 1) + (g .blocks * blockMost g + g .blocks * tableFillMost g)
 
 -- a formatting that was acknowledged: what demand 3 starts from, a state that counts as mounted, and a chip ready for
 -- the next call

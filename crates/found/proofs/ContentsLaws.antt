@@ -4,11 +4,12 @@ use mathlib.Core.Bool.{true, false}
 use mathlib.Core.List.{List}
 use mathlib.Core.Path.{_≡_, refl}
 use native.Mathlib.Numerals.{add-one}
-use borrow.Author.Tests.{eq-eqb, ne-eqb, lt-ltb, le-ltb, eqb-true, ltb-true}
+use borrow.Author.Tests.{eq-eqb, ne-eqb, lt-ltb, le-ltb, ltb-true}
 use lib.Dec.{eqb, leb, ltb}
 use lib.ListN.{getD, set}
 use Rattle.bools.proofs.BoolLaws.{both}
 use Rattle.bitmaps.specs.Bitmap.{bitAt}
+use Rattle.pages.specs.Layout.{isDataKind}
 use Rattle.copies.specs.Pick.{someBelow}
 use Rattle.found.specs.Contents.{Contents, counted, bears, pastLast, clashing, replaces, isCandidate, entryNoted, mapTo}
 
@@ -45,13 +46,13 @@ module _ (c : Contents) (bits : List ℕ) (b : ℕ) where
   unfolding clashing
   clash-shared logical t p = rw (t, p)
 
-  pub candidate-data : (logical : ℕ) → counted c bits b ≡ true → getD (c .kinds) b 0 ≡ 68 → ltb (getD (c .logicals) b 0) logical ≡ isCandidate c bits logical b
+  pub candidate-data : (logical : ℕ) → counted c bits b ≡ true → isDataKind (getD (c .kinds) b 0) ≡ true → ltb (getD (c .logicals) b 0) logical ≡ isCandidate c bits logical b
   unfolding isCandidate
-  candidate-data logical t k = rw (t, eq-eqb _ 68 k)
+  candidate-data logical t k = rw (t, k)
 
-  pub candidate-other : (logical : ℕ) → counted c bits b ≡ true → (getD (c .kinds) b 0 ≡ 68 → ⊥) → false ≡ isCandidate c bits logical b
+  pub candidate-other : (logical : ℕ) → counted c bits b ≡ true → isDataKind (getD (c .kinds) b 0) ≡ false → false ≡ isCandidate c bits logical b
   unfolding isCandidate
-  candidate-other logical t k = rw (t, ne-eqb _ 68 k)
+  candidate-other logical t k = rw (t, k)
 
   pub candidate-not : (logical : ℕ) → counted c bits b ≡ false → false ≡ isCandidate c bits logical b
   unfolding isCandidate
@@ -70,13 +71,13 @@ module _ (c : Contents) (bits : List ℕ) (b : ℕ) where
   entry-not blocks logical map t = rw t
 
 module _ (c : Contents) (b : ℕ) where
-  pub past-other : (logical : ℕ) → (getD (c .kinds) b 0 ≡ 68 → ⊥) → false ≡ pastLast c logical b
+  pub past-other : (logical : ℕ) → isDataKind (getD (c .kinds) b 0) ≡ false → false ≡ pastLast c logical b
   unfolding pastLast
-  past-other logical k = rw (ne-eqb _ 68 k)
+  past-other logical k = rw k
 
-  pub past-data : (logical : ℕ) → getD (c .kinds) b 0 ≡ 68 → leb logical (getD (c .logicals) b 0) ≡ pastLast c logical b
+  pub past-data : (logical : ℕ) → isDataKind (getD (c .kinds) b 0) ≡ true → leb logical (getD (c .logicals) b 0) ≡ pastLast c logical b
   unfolding pastLast
-  past-data logical k = rw (eq-eqb _ 68 k)
+  past-data logical k = rw k
 
   pub replaces-older : (blocks old : ℕ) → old < blocks → ltb (getD (c .numbers) old 0) (getD (c .numbers) b 0) ≡ replaces c blocks old b
   unfolding replaces
@@ -99,12 +100,12 @@ module _ (c : Contents) (bits : List ℕ) (blocks logical : ℕ) (start : List �
 -- a candidate is a counted data copy of a logical block below N
 pub record Candidate (c : Contents) (bits : List ℕ) (logical b : ℕ) : Type 0 where
   pub is-counted : counted c bits b ≡ true
-  pub is-data : getD (c .kinds) b 0 ≡ 68
+  pub is-data : isDataKind (getD (c .kinds) b 0) ≡ true
   pub logical-below : getD (c .logicals) b 0 < logical
 
 pub candidate : (c : Contents) (bits : List ℕ) (logical b : ℕ) → isCandidate c bits logical b ≡ true → Candidate c bits logical b
 unfolding isCandidate
 candidate c bits logical b h =
     let t = both (counted c bits b) _ h in
-    let u = both (eqb (getD (c .kinds) b 0) 68) _ (t .1) in
-    record { is-counted = t .0; is-data = eqb-true _ 68 (u .0); logical-below = ltb-true _ _ (u .1) }
+    let u = both (isDataKind (getD (c .kinds) b 0)) _ (t .1) in
+    record { is-counted = t .0; is-data = u .0; logical-below = ltb-true _ _ (u .1) }

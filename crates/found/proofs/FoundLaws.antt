@@ -10,6 +10,7 @@ use borrow.Author.Tests.{eq-eqb, ne-eqb, lt-ltb, le-ltb, eqb-true, eqb-false, lt
 use lib.Dec.{eqb, ltb}
 use Rattle.geometry.specs.declared.Geometry.{Geometry}
 use Rattle.bools.proofs.BoolLaws.{both}
+use Rattle.pages.specs.Layout.{isTableKind}
 use Rattle.pages.proofs.LayoutLaws.{positive}
 use Rattle.copies.specs.Blocks.{blockIn, isMarked, isComplete, isTable, above}
 use Rattle.copies.specs.Current.{numberAt, aboveAll}
@@ -31,7 +32,7 @@ module _ {X : Type 0} (b : ℕ) (s : Summary) (right : ℕ) (bits : List ℕ) (f
   unfolding tableNoted
   table-keeps e =
       arms view (view f) (saysComplete s) _ f
-      (arms view (view f) (eqb (s .kind) 84) _ f (arms view (view f) (isNewer s f) _ f e refl) refl)
+      (arms view (view f) (isTableKind (s .kind)) _ f (arms view (view f) (isNewer s f) _ f e refl) refl)
       refl
 
 zero-test : (m : Bool) (x : Found) (y : Found) → cond (eqb (cond m 1 0) 0) x y ≡ cond m y x
@@ -226,7 +227,7 @@ module _ (g : Geometry) (two : 2 ≤ g .pages) (array : List ℕ) where
   kept-arms false x y = refl
 
   -- a note of block n that is a complete table
-  kept-noted : (n : ℕ) (s : Summary) (f : Found) → saysComplete s ≡ true → eqb (s .kind) 84 ≡ true
+  kept-noted : (n : ℕ) (s : Summary) (f : Found) → saysComplete s ≡ true → isTableKind (s .kind) ≡ true
       → kept (tableNoted n s (rightAt g array n) (bitsAt g array n) f)
       ≡ cond (cond (eqb (f .tables) 0) true (ltb (f .number) (s .number))) (record { tables = 1; table = n; number = s .number; right = rightAt g array n; bits = bitsAt g array n }) (kept f)
   unfolding tableNoted
@@ -234,21 +235,21 @@ module _ (g : Geometry) (two : 2 ≤ g .pages) (array : List ℕ) where
       rw (c, k) (kept-arms (isNewer s f) (withTable n s (rightAt g array n) (bitsAt g array n) f) f)
 
   -- a note of block n that is no complete table
-  table-not : (n : ℕ) (s : Summary) (right : ℕ) (bits : List ℕ) (f : Found) → cond (saysComplete s) (eqb (s .kind) 84) false ≡ false → tableNoted n s right bits f ≡ f
+  table-not : (n : ℕ) (s : Summary) (right : ℕ) (bits : List ℕ) (f : Found) → cond (saysComplete s) (isTableKind (s .kind)) false ≡ false → tableNoted n s right bits f ≡ f
   unfolding tableNoted
   table-not n s right bits f h =
       cases (saysComplete s)
       (λ t.
-      let other : eqb (s .kind) 84 ≡ false = sym (rw t) ∙ h in
+      let other : isTableKind (s .kind) ≡ false = sym (rw t) ∙ h in
       rw (t, other))
       (λ t. rw t)
 
   -- the summary's test for a complete table is the block's
-  table-said : (n : ℕ) → cond (saysComplete (summaryAt g array n)) (eqb (summaryAt g array n .kind) 84) false ≡ isTable g (blockIn g array n)
+  table-said : (n : ℕ) → cond (saysComplete (summaryAt g array n)) (isTableKind (summaryAt g array n .kind)) false ≡ isTable g (blockIn g array n)
   unfolding isTable
   table-said n =
       cases (isComplete g (blockIn g array n))
-      (λ t. rw (says-complete g (blockIn g array n) two, t) (ap (λ (k : ℕ). eqb k 84) (complete-label g (blockIn g array n) two t .kind-is)))
+      (λ t. rw (says-complete g (blockIn g array n) two, t) (ap isTableKind (complete-label g (blockIn g array n) two t .kind-is)))
       (λ t. rw (says-complete g (blockIn g array n) two, t))
 
   table-next : (n : ℕ) (f : Found) → Missing n (kept f) ⊎ Chosen n (kept f)
@@ -257,7 +258,7 @@ module _ (g : Geometry) (two : 2 ≤ g .pages) (array : List ℕ) where
       let s = summaryAt g array n in
       cases (isTable g (blockIn g array n))
       (λ t.
-      let said = both (saysComplete s) (eqb (s .kind) 84) (table-said n ∙ t) in
+      let said = both (saysComplete s) (isTableKind (s .kind)) (table-said n ∙ t) in
       let complete = sym (says-complete g (blockIn g array n) two) ∙ said .0 in
       let label = complete-label g (blockIn g array n) two complete in
       let noted-is = kept-noted n s f (said .0) (said .1) in
@@ -294,5 +295,5 @@ module _ (g : Geometry) (array : List ℕ) where
       let marked : m .table < 4096 = small-arms (eqb (s .marked) 0) f _ less less in
       let counted : a .table < 4096 = small-arms (ltb (m .above) (saysAbove s)) _ m marked marked in
       small-arms (saysComplete s) _ a
-      (small-arms (eqb (s .kind) 84) _ a (small-arms (isNewer s a) (withTable n s (rightAt g array n) (bitsAt g array n) a) a (omega (arith, h)) counted) counted)
+      (small-arms (isTableKind (s .kind)) _ a (small-arms (isNewer s a) (withTable n s (rightAt g array n) (bitsAt g array n) a) a (omega (arith, h)) counted) counted)
       counted

@@ -13,6 +13,7 @@ use Rattle.geometry.specs.declared.Geometry.{Geometry}
 use Rattle.geometry.specs.Limits.{Valid}
 use Rattle.geometry.specs.Sizes.{chipSize}
 use Rattle.bools.proofs.BoolLaws.{both}
+use Rattle.pages.specs.Layout.{isDataKind}
 use Rattle.copies.specs.Blocks.{blockIn, isComplete, isData, isCopyOf, labelIn}
 use Rattle.copies.specs.Current.{numberAt, unlisted, counts, currentCopy}
 use Rattle.copies.specs.Pick.{Pick, nothing, at, better, pick, Picked}
@@ -145,7 +146,7 @@ module _ (g : Geometry) (v : Valid g) (array : List ℕ) (long : length array �
       let parts = both (unlisted g array table b) (isComplete g (blockIn g array b)) t in
       let kind : getD (c .kinds) b 0 ≡ labelIn g (blockIn g array b) 0 .kind = r .kind-is b h ∙ rw (parts .1) in
       rw (counted-same g v array long c r table below b h, t, parts .0, parts .1, kind, r .logical-is b h (parts .1))
-      (by-kind (eqb (labelIn g (blockIn g array b) 0 .kind) 68) (labelIn g (blockIn g array b) 0 .logical) l k))
+      (by-kind (isDataKind (labelIn g (blockIn g array b) 0 .kind)) (labelIn g (blockIn g array b) 0 .logical) l k))
       (λ t.
       rw (counted-same g v array long c r table below b h, t)
       (cases (unlisted g array table b)

@@ -6,6 +6,7 @@ use lib.Dec.{eqb, leb, ltb}
 use lib.ListN.{getD, set}
 use Rattle.geometry.specs.declared.Geometry.{Geometry}
 use Rattle.bitmaps.specs.Bitmap.{bitAt}
+use Rattle.pages.specs.Layout.{isDataKind}
 use Rattle.copies.specs.Current.{currentCopy}
 use Rattle.copies.specs.Pick.{Pick, nothing, at, someBelow}
 use Rattle.summary.specs.Summary.{saysComplete}
@@ -41,7 +42,7 @@ bears c bits number b = cond (counted c bits b) (eqb (getD (c .numbers) b 0) num
 
 -- a data copy of a logical block ≥ N
 unfoldable pub pastLast : Contents → ℕ → ℕ → Bool
-pastLast c logical b = cond (eqb (getD (c .kinds) b 0) 68) (leb logical (getD (c .logicals) b 0)) false
+pastLast c logical b = cond (isDataKind (getD (c .kinds) b 0)) (leb logical (getD (c .logicals) b 0)) false
 
 unfoldable pub clashing : Contents → List ℕ → ℕ → ℕ → Bool
 clashing c bits logical b =
@@ -54,7 +55,7 @@ replaces c blocks old b = cond (ltb old blocks) (ltb (getD (c .numbers) old 0) (
 -- a counted data copy of a logical block below N
 unfoldable pub isCandidate : Contents → List ℕ → ℕ → ℕ → Bool
 isCandidate c bits logical b =
-    cond (counted c bits b) (cond (eqb (getD (c .kinds) b 0) 68) (ltb (getD (c .logicals) b 0) logical) false) false
+    cond (counted c bits b) (cond (isDataKind (getD (c .kinds) b 0)) (ltb (getD (c .logicals) b 0) logical) false) false
 
 unfoldable pub entryNoted : Contents → List ℕ → ℕ → ℕ → ℕ → List ℕ → List ℕ
 entryNoted c bits blocks logical b map =

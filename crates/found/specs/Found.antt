@@ -7,6 +7,7 @@ use lib.ListN.{replicate}
 use Rattle.geometry.specs.declared.Geometry.{Geometry}
 use Rattle.bitmaps.specs.Bitmap.{withBit}
 use Rattle.cells.specs.Part.{put}
+use Rattle.pages.specs.Layout.{isTableKind}
 use Rattle.copies.specs.Blocks.{blockIn, mainIn, isMarked}
 use Rattle.summary.specs.Summary.{summed, saysComplete, saysAbove}
 use Rattle.copies.specs.Table.{bitmapOf, rightTo}
@@ -40,7 +41,7 @@ withTable b s right bits f =
 
 unfoldable pub tableNoted : ℕ → Summary → ℕ → List ℕ → Found → Found
 tableNoted b s right bits f =
-    cond (saysComplete s) (cond (eqb (s .kind) 84) (cond (isNewer s f) (withTable b s right bits f) f) f) f
+    cond (saysComplete s) (cond (isTableKind (s .kind)) (cond (isNewer s f) (withTable b s right bits f) f) f) f
 
 unfoldable pub noted : ℕ → Summary → ℕ → List ℕ → Found → Found
 noted b s right bits f = tableNoted b s right bits (aboveNoted b s (markNoted b s f))

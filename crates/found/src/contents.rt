@@ -104,7 +104,7 @@ fn is_past_last(
     requires { ⌜ block < 4096 ⌝ }
     ensures { λ r. ⌜ r ≡ pastLast (contents (now (kinds .entry)) (now (logicals .entry)) (now (numbers .entry))) logical block ⌝ }
 {
-    if kinds[block] != 0x44 {
+    if !pages::is_data(kinds[block]) {
         return false;
     }
     logical <= logicals[block]
@@ -184,7 +184,7 @@ fn is_candidate(
     ensures { λ r. ⌜ r ≡ isCandidate (contents (now (kinds .entry)) (now (logicals .entry)) (now (numbers .entry))) (now (bits .entry)) logical block ⌝ }
 {
     if is_counted(kinds, logicals, numbers, bits, block) {
-        if kinds[block] == 0x44 {
+        if pages::is_data(kinds[block]) {
             return logicals[block] < logical;
         }
     }

@@ -68,8 +68,8 @@ impl Found {
         self
     }
 
-    // Whether a complete table with this summary is the first, or has a greater number than the one before.
-    fn is_older(self, summary: Summary) -> bool
+    // Whether a complete table with this summary is the first, or has a greater number than the one found before.
+    fn is_newer(self, summary: Summary) -> bool
         ensures { λ r. ⌜ r ≡ isNewer summary self ⌝ }
     {
         let tables = self.tables;
@@ -89,10 +89,10 @@ impl Found {
             return self;
         }
         let kind = summary.kind;
-        if kind != 0x54 {
+        if !pages::is_table(kind) {
             return self;
         }
-        if !self.is_older(summary) {
+        if !self.is_newer(summary) {
             return self;
         }
         self.tables = 1;

@@ -11,22 +11,22 @@ use Rattle.bools.proofs.BoolLaws.{both}
 use Rattle.interface.specs.declared.Interface.{Interface}
 use Rattle.array.specs.Device.{device}
 use Rattle.state.specs.declared.State.{State}
-use Rattle.state_bytes.specs.StateBytes.{stateBytes}
+use Rattle.state_bytes.specs.StateBytes.{stateLength, stateBytes}
 use Rattle.calls.specs.Call.{result}
 use Rattle.lent.specs.Buffers.{wordsOf, lent, lengthsRight, handed, putBack}
 
 -- the lengths asked for
 pub record Long (state words sent : ℕ) : Type 0 where
-  pub state-long : state ≡ 9248
+  pub state-long : state ≡ stateLength
   pub words-long : words ≡ 11
   pub sent-long : sent ≡ 1
 
 pub right-long : (state words sent : ℕ) → lengthsRight state words sent ≡ true → Long state words sent
 unfolding lengthsRight
 right-long state words sent h =
-    let p = both (eqb state 9248) _ h in
+    let p = both (eqb state stateLength) _ h in
     let q = both (eqb words 11) (eqb sent 1) (p .1) in
-    record { state-long = eqb-true state 9248 (p .0); words-long = eqb-true words 11 (q .0); sent-long = eqb-true sent 1 (q .1) }
+    record { state-long = eqb-true state stateLength (p .0); words-long = eqb-true words 11 (q .0); sent-long = eqb-true sent 1 (q .1) }
 
 -- what a request hands back, written into the buffers
 single : (xs : List ℕ) (n : ℕ) → length xs ≡ 1 → set xs 0 n ≡ n ∷ []

@@ -8,7 +8,7 @@ use lib.ListN.{length, getD}
 use Rattle.geometry.specs.declared.Geometry.{Geometry}
 use Rattle.interface.specs.declared.Interface.{Interface}
 use Rattle.array.specs.Device.{Device, device}
-use Rattle.state_bytes.specs.StateBytes.{stateBytes, bytesState}
+use Rattle.state_bytes.specs.StateBytes.{stateLength, stateBytes, bytesState}
 use Rattle.calls.specs.Call.{Result}
 
 abbrev pub geometryOf : ℕ → ℕ → ℕ → ℕ → ℕ → Geometry
@@ -51,9 +51,9 @@ lent state words array register history sent =
 abbrev pub chipOf : Lent → Device
 chipOf l = device (interfaceOf (l .words)) (l .array) (l .register) (l .history)
 
--- 9,248 bytes of state, 11 words of interface, one word for the cycles sent
+-- the bytes of a state, 11 words of interface, one word for the cycles sent
 unfoldable pub lengthsRight : ℕ → ℕ → ℕ → Bool
-lengthsRight state words sent = cond (eqb state 9248) (cond (eqb words 11) (eqb sent 1) false) false
+lengthsRight state words sent = cond (eqb state stateLength) (cond (eqb words 11) (eqb sent 1) false) false
 
 abbrev pub rightly : Lent → Bool
 rightly l = lengthsRight (length (l .state)) (length (l .words)) (length (l .sent))

@@ -6,7 +6,7 @@ ghost use mathlib.Core.List.{List};
 ghost use Prim.Native.Nat.{ℕ};
 ghost use lib.ListN.{length};
 ghost use Rattle.array.specs.Device.{device};
-ghost use Rattle.state_bytes.specs.StateBytes.{bytesState};
+ghost use Rattle.state_bytes.specs.StateBytes.{stateLength, bytesState};
 ghost use Rattle.calls.specs.Call.{result};
 ghost use Rattle.lent.specs.Buffers.{wordsOf, interfaceOf, lent, lengthsRight, handed, putBack};
 
@@ -14,7 +14,7 @@ ghost use Rattle.lent.specs.Buffers.{wordsOf, interfaceOf, lent, lengths
 pub fn is_lent_rightly(state: usize, words: usize, sent: usize) -> bool
     ensures { λ r. ⌜ r ≡ lengthsRight state words sent ⌝ }
 {
-    if state != 9248 {
+    if state != state_bytes::LENGTH {
         return false;
     }
     if words != 11 {
@@ -68,7 +68,7 @@ pub fn hand_back(
     words: &mut [usize],
     sent: &mut [usize],
 ) -> usize
-    requires { ⌜ length (now state) ≡ 9248 ⌝ }
+    requires { ⌜ length (now state) ≡ stateLength ⌝ }
     requires { ⌜ length (now words) ≡ 11 ⌝ }
     requires { ⌜ length (now sent) ≡ 1 ⌝ }
     ensures { λ r. ⌜ ((a p h : List ℕ) → handed r (lent (now (state .exit)) (now (words .exit)) a p h (now (sent .exit))) ≡ putBack (result (returned .answer) (returned .state) (device (returned .interface) a p h) (returned .sent))) ⌝ }

@@ -16,7 +16,7 @@ use Rattle.geometry.specs.Sizes.{chipSize}
 use Rattle.bools.proofs.BoolLaws.{both, unless}
 use Rattle.cells.specs.Part.{put}
 use Rattle.bitmaps.specs.Bitmap.{bitAt, bitIn, byteOf, placeOf, clearFrom, countBits, bitmapBytes}
-use Rattle.pages.specs.Layout.{labelOf, allOnes, dataKind, tableKind}
+use Rattle.pages.specs.Layout.{labelOf, allOnes, dataKind, tableKind, isDataKind, isTableKind}
 use Rattle.copies.specs.Blocks.{blockIn, pageIn, mainIn, labelIn, isMarked, isComplete, isTable, isData, isCopyOf, completeTo, above}
 use Rattle.copies.specs.Current.{currentTable, currentCopy, filledLast, nextNumber, numberAt, unlisted, judgeTable, mountAnswer}
 use Rattle.copies.specs.Pick.{Pick, nothing, at, Picked, pick}
@@ -88,7 +88,7 @@ unfolding isComplete
 complete-unmarked g x t = unless (isMarked g x) (completeTo g x (g .pages)) t .0
 
 table-kind : (g : Geometry) (x : List ℕ) → isTable g x ≡ true → (isMarked g x ≡ false) × (labelIn g x 0 .kind ≡ tableKind)
-unfolding isTable
+unfolding isTable isTableKind
 table-kind g x t =
     let parts = both (isComplete g x) _ t in
     (complete-unmarked g x (parts .0), eqb-true (labelIn g x 0 .kind) tableKind (parts .1))
@@ -99,7 +99,7 @@ record CopyLabel (g : Geometry) (logical : ℕ) (x : List ℕ) : Type 0 where
   logical-is : labelIn g x 0 .logical ≡ logical
 
 copy-label : (g : Geometry) (logical : ℕ) (x : List ℕ) → isCopyOf g logical x ≡ true → CopyLabel g logical x
-unfolding isCopyOf isData
+unfolding isCopyOf isData isDataKind
 copy-label g logical x t =
     let parts = both (cond (isComplete g x) (eqb (labelIn g x 0 .kind) dataKind) false) _ t in
     let kind = both (isComplete g x) _ (parts .0) in

@@ -14,7 +14,7 @@ use Rattle.cells.specs.Bytes.{Bytes}
 use Rattle.cells.proofs.CellLaws.{bytes-append, bytes-replicate}
 use Rattle.bools.proofs.BoolLaws.{both, unless}
 use Rattle.pages.specs.Check.{zeroBits}
-use Rattle.pages.specs.Layout.{Label, label, Fits, numberWidth, checkAt, restAt, bytesOf, numberOf, labelBytes, encoded, spareOf, kindOf, widthOf, labelOf, allOnes, storedCheck, countedCheck, whole}
+use Rattle.pages.specs.Layout.{Label, label, Fits, dataKind, tableKind, isDataKind, isTableKind, numberWidth, checkAt, restAt, bytesOf, numberOf, labelBytes, encoded, spareOf, kindOf, widthOf, labelOf, allOnes, storedCheck, countedCheck, whole}
 use Rattle.pages.specs.Over.{Over, none, more}
 use Rattle.pages.proofs.CheckLaws.{zeroBits-most}
 use Rattle.pages.proofs.OverLaws.{zeroBits-over, zeroBits-same, over-take, over-drop, numberOf-over, numberOf-same}
@@ -47,10 +47,36 @@ four-or-none false false = inl refl
 -- a kind has a number of four bytes
 pub width-cases : (k : ℕ) → (numberWidth k ≡ 0) ⊎ (numberWidth k ≡ 4)
 unfolding numberWidth
-width-cases k = four-or-none (eqb k 68) (eqb k 84)
+width-cases k = four-or-none (isDataKind k) (isTableKind k)
 
 pub width-four : (k : ℕ) → 0 < numberWidth k → numberWidth k ≡ 4
 width-four k h = ⊎-elim (λ e. omega arith) (λ e. e) (width-cases k)
+
+-- the two kinds, their tests and their widths
+pub data-is : isDataKind dataKind ≡ true
+unfolding isDataKind
+data-is = refl
+
+pub table-is : isTableKind tableKind ≡ true
+unfolding isTableKind
+table-is = refl
+
+pub table-no-data : isDataKind tableKind ≡ false
+unfolding isDataKind
+table-no-data = refl
+
+-- 0 is no kind
+pub width-zero : numberWidth 0 ≡ 0
+unfolding numberWidth isDataKind isTableKind
+width-zero = refl
+
+pub data-width : numberWidth dataKind ≡ 4
+unfolding numberWidth isDataKind
+data-width = refl
+
+pub table-width : numberWidth tableKind ≡ 4
+unfolding numberWidth isDataKind isTableKind
+table-width = refl
 
 pub length-labelBytes : (l : Label) → length (labelBytes l) ≡ 5 + numberWidth (l .kind)
 unfolding labelBytes bytesOf
@@ -214,7 +240,7 @@ encoded-whole spare l main f r h =
 
 -- FFh is no kind, and neither is a byte that is not there
 pub width-erased : (n i : ℕ) → numberWidth (getD (replicate n 255) i 0) ≡ 0
-unfolding numberWidth
+unfolding numberWidth isDataKind isTableKind
 width-erased zero i = refl
 width-erased (suc n) zero = refl
 width-erased (suc n) (suc i) = width-erased n i

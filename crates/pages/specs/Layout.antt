@@ -28,9 +28,16 @@ dataKind = 68
 abbrev pub tableKind : ℕ
 tableKind = 84
 
+-- the kinds of data pages, and of table pages
+unfoldable pub isDataKind : ℕ → Bool
+isDataKind k = eqb k dataKind
+
+unfoldable pub isTableKind : ℕ → Bool
+isTableKind k = eqb k tableKind
+
 -- the layout of a kind is given by the bytes of its number; 0 for what is no kind
 unfoldable pub numberWidth : ℕ → ℕ
-numberWidth k = cond (eqb k 68) 4 (cond (eqb k 84) 4 0)
+numberWidth k = cond (isDataKind k) 4 (cond (isTableKind k) 4 0)
 
 -- spare bytes: 0 is FFh, 1 the kind, 2 and 3 the logical block, 4 the page, from 5 on the number, then two of check, then FFh
 abbrev pub checkAt : ℕ → ℕ

@@ -1,12 +1,17 @@
 // Pages byte by byte: the check, whether a page is whole, its label, and the spare bytes of a new page.
 ghost use mathlib.Core.Path.{_≡_};
-ghost use Prim.Native.Nat.{_+_, _-_, _≤_, _<_};
+ghost use Prim.Native.Nat.{_+_, _-_, _≤_, _<_, _^_};
 ghost use lib.Count.{ones};
 ghost use lib.ListN.{length, take, drop, replicate};
 ghost use mathlib.Core.List.{_++_};
 ghost use Rattle.cells.specs.Part.{put};
 ghost use Rattle.pages.specs.Check.{zeroBits};
-ghost use Rattle.pages.specs.Layout.{numberWidth, allOnes, bytesOf, numberOf, kindOf, whole, labelOf, label, encoded, Sized};
+ghost use Rattle.pages.specs.Layout.{isDataKind, isTableKind, numberWidth, allOnes, bytesOf, numberOf, kindOf, whole, labelOf, label, encoded, Sized};
+
+// The kind byte of a data page, and of a table's.
+pub const DATA: u8 = 0x44;
+
+pub const TABLE: u8 = 0x54;
 
 fn wide(x: u8) -> usize
     ensures { λ r. ⌜ r ≡ x ⌝ }
@@ -49,14 +54,29 @@ pub fn all_ones(bytes: &[u8]) -> bool
     true
 }
 
+// Whether a kind is a data page's.
+pub fn is_data(kind: usize) -> bool
+    ensures { λ r. ⌜ r ≡ isDataKind kind ⌝ }
+{
+    kind == DATA as usize
+}
+
+// Whether a kind is a table page's.
+pub fn is_table(kind: usize) -> bool
+    ensures { λ r. ⌜ r ≡ isTableKind kind ⌝ }
+{
+    kind == TABLE as usize
+}
+
 // The bytes of a page's number; 0 where the byte is no kind.
 pub fn number_width(kind: u8) -> usize
     ensures { λ r. ⌜ r ≡ numberWidth kind ⌝ }
 {
-    if kind == 0x44 {
+    let k = wide(kind);
+    if is_data(k) {
         return 4;
     }
-    if kind == 0x54 {
+    if is_table(k) {
         return 4;
     }
     0
@@ -164,10 +184,10 @@ pub fn finish_page(
     number: u64,
 )
     requires { ⌜ Sized main (now page) ⌝ }
-    requires { ⌜ numberWidth kind ≡ 4 ⌝ }
+    requires { ⌜ 0 < numberWidth kind ⌝ }
     requires { ⌜ logical < 65536 ⌝ }
     requires { ⌜ place < 256 ⌝ }
-    requires { ⌜ number < 4294967296 ⌝ }
+    requires { ⌜ number < 256 ^ numberWidth kind ⌝ }
     ensures { λ _. ⌜ now (page .exit) ≡ encoded (length (now (page .entry)) - main) (label kind logical place number) (take main (now (page .entry))) ⌝ }
 {
     let k = main + 1;

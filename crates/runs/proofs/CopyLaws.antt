@@ -1,5 +1,5 @@
 -- Blocks by their pages: one that holds a copy, one that holds a copy with bits raised, an erased one. Assumes nothing.
-use Prim.Native.Nat.{ℕ, zero, suc, _+_, _*_, _≤_, _<_, _^_}
+use Prim.Native.Nat.{ℕ, zero, suc, _+_, _*_, _≤_, _<_}
 use mathlib.Core.Bool.{true, false, false≢true}
 use mathlib.Core.List.{List}
 use mathlib.Core.Path.{_≡_, refl, sym, ap, ap₂, subst, _∙_}
@@ -18,6 +18,7 @@ use Rattle.cells.specs.Bytes.{Bytes}
 use Rattle.pages.specs.Layout.{Label, label, labelOf, whole, numberWidth, Fits}
 use Rattle.pages.specs.Over.{Over}
 use Rattle.pages.proofs.LayoutLaws.{encoded-whole, encoded-label, encoded-first, encoded-main, bytes-encoded, raised-whole-any, erased-not-whole}
+use Rattle.pages.proofs.ByteLaws.{width-le}
 use Rattle.pages.proofs.OverLaws.{over-getD, over-bytes-to}
 use Rattle.copies.specs.Blocks.{pageIn, wholeIn, labelIn, mainIn, markByte, isMarked, agrees, completeTo, isComplete, aboveTo}
 use Rattle.fill.specs.Fill.{Copy, pageOf}
@@ -78,24 +79,24 @@ module _ (g : Geometry) (v : Valid g) (c : Copy) (fits : Labelled c) (main : ℕ
   label-fits : (i : ℕ) → i < g .pages → Fits (labelAt i)
   label-fits i h =
       record {
-        width-some = omega (arith, fits .width-four);
+        width-some = fits .width-some;
         kind-byte = fits .kind-byte;
         logical-fits = fits .logical-fits;
         page-byte = omega (arith, h, v .pages-most);
-        number-fits = subst (λ (w : ℕ). c .number < 256 ^ w) (sym (fits .width-four)) (fits .number-fits);
+        number-fits = fits .number-fits;
       }
 
   pub copy-long : (i : ℕ) → i < g .pages → length (pages i) ≡ pageSize g
-  copy-long i h = page-long g v (c .kind) (c .logical) (c .number) i (main i) (fits .width-four) (long i h)
+  copy-long i h = page-long g v (c .kind) (c .logical) (c .number) i (main i) (long i h)
 
   pub copy-bytes : (i : ℕ) → i < g .pages → Bytes (pages i)
   copy-bytes i h = bytes-encoded (g .spare) (labelAt i) (main i) (label-fits i h) (bytes i h)
 
   spare-enough : 7 + numberWidth (c .kind) ≤ g .spare
-  spare-enough = omega (arith, fits .width-four, v .spare-least)
+  spare-enough = omega (arith, width-le (c .kind), v .spare-least)
 
   check-fits : (i : ℕ) → i < g .pages → 8 * (length (main i) + 5 + numberWidth (c .kind)) < 65536
-  check-fits i h = omega (arith, fits .width-four, long i h, v .main-most)
+  check-fits i h = omega (arith, width-le (c .kind), long i h, v .main-most)
 
   -- a law of an encoded page, said of the geometry's main bytes
   by-main : (P : ℕ → Type 0) (i : ℕ) → i < g .pages → P (length (main i)) → P (g .main)

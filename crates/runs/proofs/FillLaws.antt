@@ -24,12 +24,12 @@ use Rattle.pages.specs.Over.{Over, none, more}
 use Rattle.pages.proofs.OverLaws.{over-refl, programmed-over}
 use Rattle.copies.specs.Blocks.{blockIn, pageIn, mainIn}
 use Rattle.progress.specs.Progress.{Progress, readOn}
-use Rattle.fill.specs.Fill.{Copy, Source, pageOf, mainOf, mainRead, pageFilled, pagesFilled, filled}
+use Rattle.fill.specs.Fill.{Copy, Source, pageOf, mainOf, mainRead, pageFilled, pagesFilled, filled, given, kept}
 use Rattle.progress.specs.Steps.{eraseOn, programOn}
 use Rattle.polling.proofs.OutcomeLaws.{passed-answered, passed-unfailed, read-end-unfailed, passed-read-end}
 use Rattle.progress.proofs.StepLaws.{program-stopped}
 use Rattle.fill.proofs.FillLaws.{fill-stopped}
-use Rattle.runs.specs.Run.{NoneFailed, Unchanged, OthersSame, Programmed, Provides, from-caller, from-copy, Meant, Filled, pageOn, Spent, readMost, programMost, pageMost, eraseMost, fillMost}
+use Rattle.runs.specs.Run.{NoneFailed, Unchanged, OthersSame, Programmed, Provides, from-caller, from-copy, Meant, Filled, pageOn, Spent, readMost, programMost, pageMost, eraseMost, fillMost, tableFillMost, sourceMost}
 use Rattle.runs.proofs.TraceLaws.{unfailed-none, none-unfailed}
 use Rattle.runs.proofs.PlaceLaws.{page-erased}
 use Rattle.runs.proofs.ReadLaws.{read-unchanged, read-spends, read-calm}
@@ -189,27 +189,28 @@ module _ (s : Setting) (p : Progress) (block : ℕ) (below : block < s .geometry
           subst (λ (x : Progress). Filled s p x block pages (suc n) (k + pageMost (s .geometry))) (sym (program-stopped s block n bytes fetched f))
           (weaker (omega arith) (after-stop q n k r t fetched fetch-unchanged (readMost (s .geometry .main)) fetch-spends fetch-calm f)))
 
-    provided-next : (from : Source) (page : List ℕ) → Provides (s .geometry) (p .line .chip .array) block c n from page → page ≡ pages n → Filled s p (pageFilled s block c n from q) block pages (suc n) (k + pageMost (s .geometry))
-    unfolding pageFilled mainOf mainRead
+    provided-next : (from : Source) (page : List ℕ) → Provides (s .geometry) (p .line .chip .array) block c n from page → page ≡ pages n → Filled s p (pageFilled s block c n from q) block pages (suc n) (k + sourceMost (s .geometry) from)
+    unfolding pageFilled mainOf mainRead sourceMost
     provided-next from page (from-caller main) e =
-        subst (λ (x : List ℕ). Filled s p (programOn s block n x q) block pages (suc n) (k + pageMost (s .geometry))) (sym e) (weaker (omega arith) (program-next q n page-below k r t))
+        subst (λ (x : List ℕ). Filled s p (programOn s block n x q) block pages (suc n) (k + programMost (s .geometry))) (sym e) (program-next q n page-below k r t)
     provided-next from page (from-copy old old-below x) e =
         kept-next old old-below _ (ap (λ (row : List ℕ). pageOf (s .geometry) c n (mainIn (s .geometry) row n)) (r .others old old-below x) ∙ e)
 
-    page-next : Filled s p (pageFilled s block c n (source n) q) block pages (suc n) (k + pageMost (s .geometry))
+    page-next : Filled s p (pageFilled s block c n (source n) q) block pages (suc n) (k + sourceMost (s .geometry) (source n))
     page-next = provided-next (source n) (pages n) (meant .provides n page-below) refl
 
-  -- the first n pages, from q right after the erase
-  pub pages-leave : (q : Progress) → Filled s p q block pages 0 eraseMost → (n : ℕ) → n ≤ s .geometry .pages → Filled s p (pagesFilled s block c source n q) block pages n (eraseMost + n * pageMost (s .geometry))
+  -- the first n pages, from q right after the erase, where no page sends more than some number of cycles
+  pub pages-leave : (each : ℕ) → ((i : ℕ) → i < s .geometry .pages → sourceMost (s .geometry) (source i) ≤ each)
+      → (q : Progress) → Filled s p q block pages 0 eraseMost → (n : ℕ) → n ≤ s .geometry .pages → Filled s p (pagesFilled s block c source n q) block pages n (eraseMost + n * each)
   unfolding pagesFilled
-  pages-leave q r zero h = weaker (omega arith) r
-  pages-leave q r (suc n) h =
+  pages-leave each few q r zero h = weaker (omega arith) r
+  pages-leave each few q r (suc n) h =
       let so-far = pagesFilled s block c source n q in
-      let less = pages-leave q r n (omega (arith, h)) in
-      let more = suc-mul n (pageMost (s .geometry)) in
+      let less = pages-leave each few q r n (omega (arith, h)) in
+      let more = suc-mul n each in
       cases (isPassed (so-far .outcome))
-      (λ t. weaker (omega (arith, more)) (page-next so-far n (omega (arith, h)) (eraseMost + n * pageMost (s .geometry)) less t))
-      (λ f. subst (λ (x : Progress). Filled s p x block pages (suc n) (eraseMost + suc n * pageMost (s .geometry))) (sym (still q n f)) (weaker (omega (arith, more)) (stopped so-far n less f)))
+      (λ t. weaker (omega (arith, more, few n (omega (arith, h)))) (page-next so-far n (omega (arith, h)) (eraseMost + n * each) less t))
+      (λ f. subst (λ (x : Progress). Filled s p x block pages (suc n) (eraseMost + suc n * each)) (sym (still q n f)) (weaker (omega (arith, more)) (stopped so-far n less f)))
     where
       still : (q : Progress) (n : ℕ) → isPassed (pagesFilled s block c source n q .outcome) ≡ false → pagesFilled s block c source (suc n) q ≡ pagesFilled s block c source n q
       still q n f = ap (λ (k : ℕ). pagesFilled s block c source k q) (sym (one-more n)) ∙ fill-stopped s block c source n q f 1
@@ -228,10 +229,11 @@ module _ (s : Setting) (p : Progress) (block : ℕ) (below : block < s .geometry
           }
 
   -- the whole fill, from p
-  pub fill-leaves : isPassed (p .outcome) ≡ true → Called s (p .line) → Filled s p (filled s block c source p) block pages (s .geometry .pages) (fillMost (s .geometry))
-  fill-leaves t called =
+  fill-each : (each : ℕ) → ((i : ℕ) → i < s .geometry .pages → sourceMost (s .geometry) (source i) ≤ each)
+      → isPassed (p .outcome) ≡ true → Called s (p .line) → Filled s p (filled s block c source p) block pages (s .geometry .pages) (eraseMost + s .geometry .pages * each)
+  fill-each each few t called =
       let e = erase-leaves s p block below t called in
-      pages-leave (eraseOn s block p)
+      pages-leave each few (eraseOn s block p)
       (record {
         sound = e .sound;
         others = e .others;
@@ -243,3 +245,17 @@ module _ (s : Setting) (p : Progress) (block : ℕ) (below : block < s .geometry
         failures = e .failures;
       })
       (s .geometry .pages) (omega arith)
+
+  -- whatever its sources
+  pub fill-leaves : isPassed (p .outcome) ≡ true → Called s (p .line) → Filled s p (filled s block c source p) block pages (s .geometry .pages) (fillMost (s .geometry))
+  unfolding sourceMost
+  fill-leaves = fill-each (pageMost (s .geometry)) (λ i h. most (source i))
+    where
+      most : (from : Source) → sourceMost (s .geometry) from ≤ pageMost (s .geometry)
+      most (given main) = omega arith
+      most (kept old) = omega arith
+
+  -- of a copy that keeps no page, as a table
+  pub fill-given : ((i : ℕ) → i < s .geometry .pages → sourceMost (s .geometry) (source i) ≤ programMost (s .geometry))
+      → isPassed (p .outcome) ≡ true → Called s (p .line) → Filled s p (filled s block c source p) block pages (s .geometry .pages) (tableFillMost (s .geometry))
+  fill-given = fill-each (programMost (s .geometry))

@@ -1,5 +1,5 @@
 -- A request on its way, told without its cycles: what each of its operations leaves of the chip.
-use Prim.Native.Nat.{ℕ, _+_, _*_, _≤_, _<_}
+use Prim.Native.Nat.{ℕ, _+_, _*_, _≤_, _<_, _^_}
 use mathlib.Core.Bool.{Bool, true, false, cond}
 use mathlib.Core.List.{List, [], _∷_}
 use mathlib.Core.Logic.{_⊎_}
@@ -96,6 +96,15 @@ pageMost g = readMost (g .main) + programMost g
 abbrev pub fillMost : Geometry → ℕ
 fillMost g = eraseMost + g .pages * pageMost g
 
+-- those of a table fill, which keeps no page
+abbrev pub tableFillMost : Geometry → ℕ
+tableFillMost g = eraseMost + g .pages * programMost g
+
+-- those of a page by where its bytes come from
+unfoldable pub sourceMost : Geometry → Source → ℕ
+sourceMost g (given main) = programMost g
+sourceMost g (kept old) = pageMost g
+
 -- an erase that led from p to q
 pub record Erased (s : Setting) (p q : Progress) (block : ℕ) : Type 0 where
   pub sound : Sound s q
@@ -123,12 +132,12 @@ pub data Provides (g : Geometry) (array : List ℕ) (block : ℕ) (c : Copy) (n 
   from-caller : (main : List ℕ) → Provides g array block c n (given main) (pageOf g c n main)
   from-copy : (old : ℕ) → old < g .blocks → (old ≡ block → ⊥) → Provides g array block c n (kept old) (pageOf g c n (mainIn g (blockIn g array old) n))
 
--- a copy whose label fits its bytes, with a number of four bytes
+-- a copy whose label has a layout and fits its bytes
 pub record Labelled (c : Copy) : Type 0 where
-  pub width-four : numberWidth (c .kind) ≡ 4
+  pub width-some : 0 < numberWidth (c .kind)
   pub kind-byte : c .kind < 256
   pub logical-fits : c .logical < 65536
-  pub number-fits : c .number < 4294967296
+  pub number-fits : c .number < 256 ^ numberWidth (c .kind)
 
 -- the pages that a fill is to leave: bytes, as long as a page, with a source each
 pub record Meant (s : Setting) (array : List ℕ) (block : ℕ) (c : Copy) (source : ℕ → Source) (pages : ℕ → List ℕ) : Type 0 where

@@ -14,7 +14,7 @@ use Rattle.pages.specs.Layout.{bytesOf, numberOf}
 use Rattle.pages.proofs.ByteLaws.{put-next, set-next}
 use Rattle.pages.proofs.LayoutLaws.{length-bytesOf}
 use Rattle.state.specs.declared.State.{State}
-use Rattle.state_bytes.specs.StateBytes.{pairs, entries, stateBytes, bytesState}
+use Rattle.state_bytes.specs.StateBytes.{stateLength, pairs, entries, stateBytes, bytesState}
 
 -- bytes that replace all there are
 pub over-whole : (ys xs : List ℕ) → length xs ≤ length ys → over ys xs ≡ ys
@@ -192,7 +192,7 @@ next n m zs ys xs p q k l e f = (
 )
 
 -- the pieces of a state, written in their order
-pub stored : (s : State) (xs p₁ p₂ p₃ p₄ p₅ p₆ : List ℕ) → length xs ≡ 9248 → length (s .marked) ≡ 512 → length (s .invalid) ≡ 512 → length (s .map) ≡ 4096
+pub stored : (s : State) (xs p₁ p₂ p₃ p₄ p₅ p₆ : List ℕ) → length xs ≡ stateLength → length (s .marked) ≡ 512 → length (s .invalid) ≡ 512 → length (s .map) ≡ 4096
     → p₁ ≡ put 0 (bytesOf 8 (s .status)) xs
     → p₂ ≡ put 8 (bytesOf 8 (s .table)) p₁
     → p₃ ≡ put 16 (bytesOf 8 (s .last)) p₂

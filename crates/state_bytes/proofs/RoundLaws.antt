@@ -13,7 +13,7 @@ use Rattle.cells.proofs.PartLaws.{length-part, bytes-part}
 use Rattle.pages.specs.Layout.{bytesOf, numberOf}
 use Rattle.pages.proofs.LayoutLaws.{numberOf-bytesOf, length-bytesOf, bytes-bytesOf}
 use Rattle.state.specs.declared.State.{State}
-use Rattle.state_bytes.specs.StateBytes.{pairs, entries, stateBytes, bytesState, Ranged}
+use Rattle.state_bytes.specs.StateBytes.{stateLength, pairs, entries, stateBytes, bytesState, Ranged}
 use Rattle.state_bytes.proofs.PieceLaws.{loaded, length-pairs, length-entries}
 
 -- a piece, and what follows it
@@ -87,7 +87,7 @@ stored-piece : (k n : ℕ) (ys zs xs : List ℕ) → ys ≡ part k n xs → zs �
 stored-piece k n ys zs xs e f = ap₂ _++_ e (f ∙ sym (drop-drop n k xs)) ∙ take-append-drop n (drop k xs)
 
 -- a buffer that was loaded is stored as it was
-pub store-loaded : (xs : List ℕ) → length xs ≡ 9248 → Bytes xs → stateBytes (bytesState xs) ≡ xs
+pub store-loaded : (xs : List ℕ) → length xs ≡ stateLength → Bytes xs → stateBytes (bytesState xs) ≡ xs
 unfolding stateBytes bytesState
 store-loaded xs long b =
     let number : (k : ℕ) → k + 8 ≤ length xs → bytesOf 8 (numberOf (part k 8 xs)) ≡ part k 8 xs = λ k h. part-stored k 8 xs b h in
@@ -101,7 +101,7 @@ store-loaded xs long b =
     stored-piece 0 8 (bytesOf 8 (numberOf (part 0 8 xs))) _ xs (number 0 (omega (arith, long))) q₂
 
 -- a state in the range of its types is stored as 9,248 bytes
-pub stored-long : (s : State) → Ranged s → length (stateBytes s) ≡ 9248
+pub stored-long : (s : State) → Ranged s → length (stateBytes s) ≡ stateLength
 unfolding stateBytes
 stored-long s r =
     simp (length-append, length-bytesOf, length-pairs) (omega (arith, r .marked-long, r .invalid-long, r .map-long))
@@ -140,7 +140,7 @@ entries-fit (suc n) xs h b zero = part-fits 0 2 xs b (omega (arith, h))
 entries-fit (suc n) xs h b (suc i) = entries-fit n (drop 2 xs) (length-drop 2 xs ∙ omega (arith, h)) (bytes-drop 2 xs b) i
 
 -- what is loaded is in the range of its types
-pub loaded-ranged : (xs : List ℕ) → length xs ≡ 9248 → Bytes xs → Ranged (bytesState xs)
+pub loaded-ranged : (xs : List ℕ) → length xs ≡ stateLength → Bytes xs → Ranged (bytesState xs)
 unfolding bytesState
 loaded-ranged xs long b =
     record {

@@ -1,4 +1,4 @@
--- The mounted state as 9,248 bytes, and the state that such bytes are.
+-- The mounted state as bytes, and the state that such bytes are.
 use Prim.Native.Nat.{ℕ, zero, suc, _<_, _^_}
 use mathlib.Core.List.{List, [], _∷_, _++_}
 use mathlib.Core.Path.{_≡_}
@@ -7,6 +7,10 @@ use Rattle.cells.specs.Bytes.{Bytes}
 use Rattle.cells.specs.Part.{part}
 use Rattle.pages.specs.Layout.{bytesOf, numberOf}
 use Rattle.state.specs.declared.State.{State}
+
+-- a state has 9,248 bytes: four numbers of eight bytes, two bitmaps, and a map of two bytes an entry
+abbrev pub stateLength : ℕ
+stateLength = 9248
 
 -- numbers of two bytes, low byte first, one after the other
 unfoldable pub pairs : List ℕ → List ℕ

@@ -5,7 +5,10 @@ ghost use Prim.Native.Nat.{_+_, _≤_};
 ghost use lib.ListN.{length, drop};
 ghost use Rattle.cells.specs.Part.{part, put};
 ghost use Rattle.pages.specs.Layout.{bytesOf, numberOf};
-ghost use Rattle.state_bytes.specs.StateBytes.{pairs, entries, stateBytes, bytesState};
+ghost use Rattle.state_bytes.specs.StateBytes.{stateLength, pairs, entries, stateBytes, bytesState};
+
+// The bytes of a state.
+pub const LENGTH: usize = 9248;
 
 fn wide(x: u16) -> usize
     ensures { λ r. ⌜ r ≡ x ⌝ }
@@ -51,7 +54,7 @@ fn write_bits(bytes: &mut [u8], at: usize, bits: &[u8])
 
 // Writes the factory marks and the invalid blocks.
 fn write_bitmaps(bytes: &mut [u8], marked: &[u8], invalid: &[u8])
-    requires { ⌜ length (now bytes) ≡ 9248 ⌝ }
+    requires { ⌜ length (now bytes) ≡ stateLength ⌝ }
     requires { ⌜ length (now marked) ≡ 512 ⌝ }
     requires { ⌜ length (now invalid) ≡ 512 ⌝ }
     ensures { λ _. ⌜ now (bytes .exit) ≡ put 544 (now (invalid .entry)) (put 32 (now (marked .entry)) (now (bytes .entry))) ⌝ }
@@ -73,7 +76,7 @@ fn bits_at(bytes: &[u8], at: usize) -> [u8; 512]
 
 // Writes the map, two bytes an entry.
 fn write_map(bytes: &mut [u8], map: &[u16])
-    requires { ⌜ length (now bytes) ≡ 9248 ⌝ }
+    requires { ⌜ length (now bytes) ≡ stateLength ⌝ }
     requires { ⌜ length (now map) ≡ 4096 ⌝ }
     ensures { λ _. ⌜ now (bytes .exit) ≡ put 1056 (pairs (now (map .entry))) (now (bytes .entry)) ⌝ }
 {
@@ -86,7 +89,7 @@ fn write_map(bytes: &mut [u8], map: &[u16])
 
 // Reads the map.
 fn read_map(bytes: &[u8], map: &mut [u16])
-    requires { ⌜ length (now bytes) ≡ 9248 ⌝ }
+    requires { ⌜ length (now bytes) ≡ stateLength ⌝ }
     requires { ⌜ length (now map) ≡ 4096 ⌝ }
     ensures { λ _. ⌜ now (map .exit) ≡ entries 4096 (drop 1056 (now (bytes .entry))) ⌝ }
 {
@@ -99,7 +102,7 @@ fn read_map(bytes: &[u8], map: &mut [u16])
 
 // Writes a state into a buffer.
 pub fn store(state: State, bytes: &mut [u8])
-    requires { ⌜ length (now bytes) ≡ 9248 ⌝ }
+    requires { ⌜ length (now bytes) ≡ stateLength ⌝ }
     ensures { λ _. ⌜ now (bytes .exit) ≡ stateBytes state ⌝ }
 {
     let number = state.number as usize;
@@ -116,7 +119,7 @@ pub fn store(state: State, bytes: &mut [u8])
 
 // The state in a buffer.
 pub fn load(bytes: &[u8]) -> State
-    requires { ⌜ length (now bytes) ≡ 9248 ⌝ }
+    requires { ⌜ length (now bytes) ≡ stateLength ⌝ }
     ensures { λ r. ⌜ r ≡ bytesState (now (bytes .entry)) ⌝ }
 {
     let status = number_at(bytes, 0);

@@ -10,7 +10,7 @@ use lib.Dec.{eqb}
 use Rattle.geometry.specs.declared.Geometry.{Geometry}
 use Rattle.pages.specs.Layout.{Label, label, labelOf, kindOf, numberWidth}
 use Rattle.bools.proofs.BoolLaws.{unless}
-use Rattle.pages.proofs.LayoutLaws.{whole-width}
+use Rattle.pages.proofs.LayoutLaws.{whole-width, width-zero}
 use Rattle.copies.specs.Blocks.{pageIn, agrees, wholeIn, labelIn, completeTo, aboveTo, isMarked, isComplete, above, markByte}
 use Rattle.summary.specs.Summary.{blankSummary, broken, summed, stepped, wholeStep, markedBy, saysComplete, saysAbove}
 use Rattle.summary.specs.declared.Summary.{Summary}
@@ -209,9 +209,9 @@ module _ (g : Geometry) (block : List ℕ) where
     pub kind-some : labelIn g block 0 .kind ≡ 0 → ⊥
 
   no-kind : wholeIn g block 0 ≡ true → labelIn g block 0 .kind ≡ 0 → ⊥
-  unfolding labelOf numberWidth
+  unfolding labelOf
   no-kind w e =
-      let z : numberWidth (kindOf (g .main) (pageIn g block 0)) ≡ 0 = ap numberWidth e in
+      let z : numberWidth (kindOf (g .main) (pageIn g block 0)) ≡ 0 = ap numberWidth e ∙ width-zero in
       omega (arith, z, whole-width (g .main) (pageIn g block 0) w)
 
   pub complete-label : 2 ≤ g .pages → isComplete g block ≡ true → Labelled (summed g block (g .pages))

@@ -1,31 +1,25 @@
 -- `fill::put_main` meets its contract. Assumes nothing.
 use Prim.Native.Nat.{ℕ, _-_}
 use mathlib.Core.List.{List}
-use mathlib.Core.Path.{refl, _∙_}
+use mathlib.Core.Path.{refl, sym, _∙_}
 use native.Mathlib.Omega.{arith}
 use denote.Ref.{now}
 use lib.ListN.{take, drop, replicate}
 use Rattle.array.specs.Device.{setting}
 use Rattle.bus.specs.Line.{line}
-use Rattle.fill.specs.Fill.{dataSource}
-use Rattle.fill.proofs.MainLaws.{source-given, source-kept, source-none, lent-long, put-read, put-given, put-ones, given-comes, given-main, kept-comes, kept-main, kept-history}
+use Rattle.fill.specs.Fill.{givenMain, dataSource}
+use Rattle.fill.proofs.MainLaws.{source-given, source-kept, source-none, lent-long, put-read, put-ones, given-comes, given-main, kept-comes, kept-main, kept-history}
 use borrow.Author.Needs.{needs}
 use Rattle.fill.proofs.put_main.Statement.{statement}
 use Rattle.fill.proofs.put_main.Tie as tie
 
-sub-copy : tie.Need-sub-copy
-sub-copy c = search needs
+is-given-requires : tie.Need-is-given-requires
+is-given-requires c κs = search needs
 
-part-copy-start : tie.Need-part-copy-start
-part-copy-start c = search needs
-
-part-copy-end : tie.Need-part-copy-end
-part-copy-end c = search needs
-
-copy-requires : tie.Need-copy-requires
-copy-requires c κs =
+put-given-requires : tie.Need-put-given-requires
+put-given-requires c κs =
     let s = c .before .before .before .before .before .before .before .before .before .before in
-    omega (arith, lent-long (s .args .g .main) (now (s .args .page)) (omega (arith, s .pre .1 .1 .0)), s .pre .1 .1 .1 (c .before .if1 .taken))
+    (s .pre .0 .is-valid, (s .pre .1 .0, (sym (c .before .before .is-given .ensures) ∙ c .before .if1 .taken, (s .pre .1 .1 .1, s .pre .1 .1 .0))))
 
 same-length : tie.Need-same-length
 same-length c = search needs
@@ -35,10 +29,10 @@ returns c =
     let s = c .before .before .before .before .before .before .before .before .before .before .before .before .before in
     let set = setting (s .args .g) (now (s .args .mask)) (now (s .args .fates)) in
     let l = line (s .args .from) (now (s .args .array)) (now (s .args .register)) (now (s .args .history)) in
-    let source = dataSource (s .args .g) (s .args .content .old) (s .args .content .place) (now (s .args .bytes)) (s .args .place) in
-    let is = source-given (s .args .g) (s .args .content .old) (s .args .content .place) (now (s .args .bytes)) (s .args .place) (c .before .before .before .before .if1 .taken) in
-    let put = put-given (s .args .g .main) (now (s .args .page)) (omega (arith, s .pre .1 .1 .0)) _ _ (c .before .before .copy .kept .1 .0) (now (s .args .bytes)) (s .pre .1 .1 .1 (c .before .before .before .before .if1 .taken)) (c .before .before .copy .ensures) in
-    (given-comes set (s .args .place) source (now (s .args .bytes)) is l (s .pre .0), (λ t. given-main set (s .args .place) source (now (s .args .bytes)) is (now (s .args .array)) _ put, refl))
+    let source = dataSource (s .args .g) (s .args .content .old) (s .args .content .first) (s .args .content .count) (now (s .args .bytes)) (s .args .place) in
+    let main = givenMain (s .args .g) (s .args .content .first) (now (s .args .bytes)) (s .args .place) in
+    let is = source-given (s .args .g) (s .args .content .old) (s .args .content .first) (s .args .content .count) (now (s .args .bytes)) (s .args .place) (sym (c .before .before .before .before .before .is-given .ensures) ∙ c .before .before .before .before .if1 .taken) in
+    (given-comes set (s .args .place) source main is l (s .pre .0), (λ t. given-main set (s .args .place) source main is (now (s .args .array)) _ (c .before .before .put-given .ensures), refl))
 
 row-of-requires : tie.Need-row-of-requires
 row-of-requires c κs = search needs
@@ -73,8 +67,8 @@ returns-2 c =
     let set = setting (s .args .g) (now (s .args .mask)) (now (s .args .fates)) in
     let l = line (s .args .from) (now (s .args .array)) (now (s .args .register)) (now (s .args .history)) in
     let old = s .args .content .old in
-    let source = dataSource (s .args .g) old (s .args .content .place) (now (s .args .bytes)) (s .args .place) in
-    let is = source-kept (s .args .g) old (s .args .content .place) (now (s .args .bytes)) (s .args .place) (c .before .before .before .before .before .before .before .before .before .before .before .before .before .before .before .before .if1 .left) (c .before .before .before .before .before .before .before .before .before .before .before .before .before .before .if2 .taken) in
+    let source = dataSource (s .args .g) old (s .args .content .first) (s .args .content .count) (now (s .args .bytes)) (s .args .place) in
+    let is = source-kept (s .args .g) old (s .args .content .first) (s .args .content .count) (now (s .args .bytes)) (s .args .place) (sym (c .before .before .before .before .before .before .before .before .before .before .before .before .before .before .before .before .before .is-given .ensures) ∙ c .before .before .before .before .before .before .before .before .before .before .before .before .before .before .before .before .if1 .left) (c .before .before .before .before .before .before .before .before .before .before .before .before .before .before .if2 .taken) in
     let buffer = take (s .args .g .main - 0) (drop 0 (now (s .args .page))) in
     let long = lent-long (s .args .g .main) (now (s .args .page)) (omega (arith, s .pre .1 .1 .0)) in
     let d = c .before .before .before .before .before .before .before .before .read in
@@ -101,8 +95,8 @@ returns-3 c =
     let set = setting (s .args .g) (now (s .args .mask)) (now (s .args .fates)) in
     let l = line (s .args .from) (now (s .args .array)) (now (s .args .register)) (now (s .args .history)) in
     let ones : List ℕ = replicate (s .args .g .main) 255 in
-    let source = dataSource (s .args .g) (s .args .content .old) (s .args .content .place) (now (s .args .bytes)) (s .args .place) in
-    let is = source-none (s .args .g) (s .args .content .old) (s .args .content .place) (now (s .args .bytes)) (s .args .place) (c .before .before .before .before .before .before .if1 .left) (c .before .before .before .before .if2 .left) in
+    let source = dataSource (s .args .g) (s .args .content .old) (s .args .content .first) (s .args .content .count) (now (s .args .bytes)) (s .args .place) in
+    let is = source-none (s .args .g) (s .args .content .old) (s .args .content .first) (s .args .content .count) (now (s .args .bytes)) (s .args .place) (sym (c .before .before .before .before .before .before .before .is-given .ensures) ∙ c .before .before .before .before .before .before .if1 .left) (c .before .before .before .before .if2 .left) in
     let put = put-ones (s .args .g .main) (now (s .args .page)) (omega (arith, s .pre .1 .1 .0)) _ _ (c .before .before .erase-whole .kept .0) (c .before .before .erase-whole .ensures) in
     (given-comes set (s .args .place) source ones is l (s .pre .0), (λ t. given-main set (s .args .place) source ones is (now (s .args .array)) _ put, refl))
 
@@ -110,10 +104,8 @@ pub put-main-spec : {M : Type 1} → statement M
 put-main-spec =
     tie.close
     (tie.spec
-    sub-copy
-    part-copy-start
-    part-copy-end
-    copy-requires
+    is-given-requires
+    put-given-requires
     same-length
     returns
     row-of-requires

@@ -16,7 +16,7 @@ use Rattle.fill_block.proofs.fill_copy.Tie as tie
 abbrev Inv-loop : tie.InvT-loop
 Inv-loop g array₀ register₀ history₀ mask fates block content bytes page₀ b₀ pages place₀ array register history page b place =
     (place ≤ g .pages) × (length array ≡ length array₀) × (length register ≡ length register₀) × (length history ≡ length history₀) × (length page ≡ length page₀)
-    × Filling (setting g mask fates) (line b₀ array₀ register₀ history₀) (line b array register history) block (copy (content .kind) (content .logical) (content .number)) (dataSource g (content .old) (content .place) bytes) place
+    × Filling (setting g mask fates) (line b₀ array₀ register₀ history₀) (line b array register history) block (copy (content .kind) (content .logical) (content .number)) (dataSource g (content .old) (content .first) (content .count) bytes) place
 
 abbrev μ-loop : tie.MeasureT-loop
 μ-loop g array₀ register₀ history₀ mask fates block content bytes page₀ b₀ pages place₀ array register history page b place =
@@ -26,7 +26,7 @@ loop-holds : tie.Need-loop-holds Inv-loop μ-loop
 loop-holds c =
     let s = c .before .before .before .before .before .before .before in
     let k = copy (s .args .content .kind) (s .args .content .logical) (s .args .content .number) in
-    let source = dataSource (s .args .g) (s .args .content .old) (s .args .content .place) (now (s .args .bytes)) in
+    let source = dataSource (s .args .g) (s .args .content .old) (s .args .content .first) (s .args .content .count) (now (s .args .bytes)) in
     (omega arith, refl, refl, refl, refl, fill-begins (setting (s .args .g) (now (s .args .mask)) (now (s .args .fates))) _ (s .args .block) k source (s .pre .0))
 
 fill-page-requires : tie.Need-fill-page-requires Inv-loop μ-loop
@@ -34,7 +34,7 @@ fill-page-requires c κs =
     let s = c .before .before .before .before .before .before .before .before .before .before .before .before .before in
     let f = s .pre .1 .0 in
     let lp = c .before .before .before .before .before .loop in
-    (lp .inv .5 .called, (record { is-valid = f .is-valid; block-below = f .block-below; place-below = c .before .before .before .before .loop-test .taken; width-four = f .width-four; logical-fits = f .logical-fits; number-fits = f .number-fits; page-long = lp .inv .4 ∙ f .page-long }, (lp .inv .5 .in-order, λ e. s .pre .1 .1 (omega (arith, e, c .before .before .before .before .loop-test .taken)))))
+    (lp .inv .5 .called, (record { is-valid = f .is-valid; block-below = f .block-below; place-below = c .before .before .before .before .loop-test .taken; width-some = f .width-some; logical-fits = f .logical-fits; number-fits = f .number-fits; page-long = lp .inv .4 ∙ f .page-long }, (lp .inv .5 .in-order, s .pre .1 .1)))
 
 enum-told : tie.Need-enum-told Inv-loop μ-loop
 enum-told c = search needs
@@ -56,7 +56,7 @@ returns c =
     let s = c .before .before .before .before .before .before .before .before .before .before .before .before .before .before .before .before .before .before .before .before .before .before .before .before in
     let set = setting (s .args .g) (now (s .args .mask)) (now (s .args .fates)) in
     let k = copy (s .args .content .kind) (s .args .content .logical) (s .args .content .number) in
-    let source = dataSource (s .args .g) (s .args .content .old) (s .args .content .place) (now (s .args .bytes)) in
+    let source = dataSource (s .args .g) (s .args .content .old) (s .args .content .first) (s .args .content .count) (now (s .args .bytes)) in
     let lp = c .before .before .before .before .before .before .before .before .before .before .before .before .before .before .before .before .loop in
     fill-stops set _ _ (s .args .block) k source (lp .place) (lp .inv .5) _ (c .before .before .before .before .before .before .before .before .before .before .fill-page .result .outcome) (c .before .before .before .before .before .before .before .before .before .before .fill-page .ensures .0) (c .before .before .before .before .before .before .before .before .before .before .before .before .before .before .before .loop-test .taken) (other-by-tag _ (c .match .keys2))
 
@@ -71,7 +71,7 @@ loop-again c =
     let s = c .before .before .before .before .before .before .before .before .before .before .before .before .before .before .before .before .before .before .before .before .before .before .before .before .before in
     let set = setting (s .args .g) (now (s .args .mask)) (now (s .args .fates)) in
     let k = copy (s .args .content .kind) (s .args .content .logical) (s .args .content .number) in
-    let source = dataSource (s .args .g) (s .args .content .old) (s .args .content .place) (now (s .args .bytes)) in
+    let source = dataSource (s .args .g) (s .args .content .old) (s .args .content .first) (s .args .content .count) (now (s .args .bytes)) in
     let lp = c .before .before .before .before .before .before .before .before .before .before .before .before .before .before .before .before .before .loop in
     let p = passed-by-tag _ (c .before .match .keys1) in (
       omega (arith, c .before .before .before .before .before .before .before .before .before .before .before .before .before .before .before .before .loop-test .taken),
@@ -99,7 +99,7 @@ returns-2 c =
     let s = c .before .before .before .before .before .before .before .before .before in
     let set = setting (s .args .g) (now (s .args .mask)) (now (s .args .fates)) in
     let k = copy (s .args .content .kind) (s .args .content .logical) (s .args .content .number) in
-    let source = dataSource (s .args .g) (s .args .content .old) (s .args .content .place) (now (s .args .bytes)) in
+    let source = dataSource (s .args .g) (s .args .content .old) (s .args .content .first) (s .args .content .count) (now (s .args .bytes)) in
     let lp = c .before .loop in
     fill-ends set _ _ (s .args .block) k source (lp .place) (omega (arith, lp .inv .0)) (lp .inv .5)
 

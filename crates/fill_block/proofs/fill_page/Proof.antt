@@ -35,7 +35,7 @@ returns c =
     let set = setting (s .args .g) (now (s .args .mask)) (now (s .args .fates)) in
     let l = line (s .args .from) (now (s .args .array)) (now (s .args .register)) (now (s .args .history)) in
     let k = copy (s .args .content .kind) (s .args .content .logical) (s .args .content .number) in
-    let source = dataSource (s .args .g) (s .args .content .old) (s .args .content .place) (now (s .args .bytes)) in
+    let source = dataSource (s .args .g) (s .args .content .old) (s .args .content .first) (s .args .content .count) (now (s .args .bytes)) in
     let f = other-by-tag _ (c .match .keys2) in
     (step-stops set (s .args .block) k source (s .args .place) l _ (c .before .before .before .before .before .before .before .erase-for .result .outcome) (c .before .before .before .before .before .before .before .erase-for .ensures .0) f, λ t. absurd (false≢true (sym f ∙ t)))
 
@@ -66,7 +66,7 @@ returns-2 c =
     let set = setting (s .args .g) (now (s .args .mask)) (now (s .args .fates)) in
     let l = line (s .args .from) (now (s .args .array)) (now (s .args .register)) (now (s .args .history)) in
     let k = copy (s .args .content .kind) (s .args .content .logical) (s .args .content .number) in
-    let source = dataSource (s .args .g) (s .args .content .old) (s .args .content .place) (now (s .args .bytes)) in
+    let source = dataSource (s .args .g) (s .args .content .old) (s .args .content .first) (s .args .content .count) (now (s .args .bytes)) in
     let p = passed-by-tag _ (c .before .before .before .before .before .before .before .before .before .before .before .before .before .before .before .match .keys1) in
     let f = other-by-tag _ (c .match2 .keys2) in
     let page = page-stops set (s .args .block) k (s .args .place) (source (s .args .place)) _ _ (c .before .before .before .before .before .before .before .before .before .put-main .result .outcome) (c .before .before .before .before .before .before .before .before .before .put-main .ensures .0) f in
@@ -75,7 +75,7 @@ returns-2 c =
 program-page-requires : tie.Need-program-page-requires
 program-page-requires c κs =
     let f = c .before .before .before .before .before .before .before .before .before .before .before .before .before .before .before .before .before .before .before .before .before .before .before .before .before .before .before .before .before .before .before .before .before .before .before .before .before .before .pre .1 .0 in
-    record { is-valid = f .is-valid; block-below = f .block-below; place-below = f .place-below; width-four = f .width-four; logical-fits = f .logical-fits; number-fits = f .number-fits; page-long = c .before .before .before .before .before .before .before .page .given ∙ f .page-long }
+    record { is-valid = f .is-valid; block-below = f .block-below; place-below = f .place-below; width-some = f .width-some; logical-fits = f .logical-fits; number-fits = f .number-fits; page-long = c .before .before .before .before .before .before .before .page .given ∙ f .page-long }
 
 same-length-8 : tie.Need-same-length-8
 same-length-8 c = c .before .before .before .before .before .before .before .array3 .given ∙ c .before .before .before .before .before .before .before .before .before .before .before .before .before .before .before .before .before .before .before .before .before .before .array2 .given ∙ c .before .before .before .before .before .before .before .before .before .before .before .before .before .before .before .before .before .before .before .before .before .before .before .before .before .before .before .before .before .before .before .before .before .before .before .array .given
@@ -95,12 +95,12 @@ returns-3 c =
     let set = setting (s .args .g) (now (s .args .mask)) (now (s .args .fates)) in
     let l = line (s .args .from) (now (s .args .array)) (now (s .args .register)) (now (s .args .history)) in
     let k = copy (s .args .content .kind) (s .args .content .logical) (s .args .content .number) in
-    let source = dataSource (s .args .g) (s .args .content .old) (s .args .content .place) (now (s .args .bytes)) in
+    let source = dataSource (s .args .g) (s .args .content .old) (s .args .content .first) (s .args .content .count) (now (s .args .bytes)) in
     let d = c .before .before .before .before .before .before .before .before .before .before .before .before .before .before .before .before .before .before .before .before .before .before .before .put-main in
     let p₀ = passed-by-tag _ (c .before .before .before .before .before .before .before .before .before .before .before .before .before .before .before .before .before .before .before .before .before .before .before .before .before .before .before .before .before .match .keys1) in
     let p₁ = passed-by-tag _ (c .before .before .before .before .before .before .before .before .before .before .before .before .before .before .match2 .keys1) in
     let f = s .pre .1 .0 in
-    let fillable : Fillable (s .args .g) (s .args .block) (s .args .place) (s .args .content .kind) (s .args .content .logical) (s .args .content .number) _ = record { is-valid = f .is-valid; block-below = f .block-below; place-below = f .place-below; width-four = f .width-four; logical-fits = f .logical-fits; number-fits = f .number-fits; page-long = c .before .before .before .before .before .before .before .before .before .before .before .before .before .before .before .before .page .given ∙ f .page-long } in
+    let fillable : Fillable (s .args .g) (s .args .block) (s .args .place) (s .args .content .kind) (s .args .content .logical) (s .args .content .number) _ = record { is-valid = f .is-valid; block-below = f .block-below; place-below = f .place-below; width-some = f .width-some; logical-fits = f .logical-fits; number-fits = f .number-fits; page-long = c .before .before .before .before .before .before .before .before .before .before .before .before .before .before .before .before .page .given ∙ f .page-long } in
     let order = subst (λ (x : List ℕ). getD x (s .args .block) 0 ≤ s .args .place) (sym (d .ensures .1 .1)) (c .before .before .before .before .before .before .before .before .before .before .before .before .before .before .before .before .before .before .before .before .before .before .before .before .before .before .before .before .before .before .before .before .before .before .before .before .erase-for .ensures .1 p₀) in
     let page = page-programmed set (s .args .block) k (s .args .place) (source (s .args .place)) _ _ (d .result .outcome) (d .ensures .0) p₁ _ fillable (d .ensures .1 .0 p₁) order _ (c .before .before .before .before .before .before .before .before .program-page .result .outcome) (c .before .before .before .before .before .before .before .before .program-page .ensures .0) (c .before .before .before .before .before .before .before .before .program-page .ensures .1) in
     (step-fills set (s .args .block) k source (s .args .place) l _ (c .before .before .before .before .before .before .before .before .before .before .before .before .before .before .before .before .before .before .before .before .before .before .before .before .before .before .before .before .before .before .before .before .before .before .before .before .erase-for .result .outcome) (c .before .before .before .before .before .before .before .before .before .before .before .before .before .before .before .before .before .before .before .before .before .before .before .before .before .before .before .before .before .before .before .before .before .before .before .before .erase-for .ensures .0) p₀ _ (c .before .before .before .before .before .before .before .before .program-page .result .outcome) page, page-order set (s .args .block) k (s .args .place) (source (s .args .place)) _ _ (d .result .outcome) (d .ensures .0) p₁ _ fillable (d .ensures .1 .0 p₁) order _ (c .before .before .before .before .before .before .before .before .program-page .result .outcome) (c .before .before .before .before .before .before .before .before .program-page .ensures .0) (c .before .before .before .before .before .before .before .before .program-page .ensures .1))

@@ -1,11 +1,12 @@
 -- `fill_block::fill_table` meets its contract. Assumes nothing.
 use Prim.Native.Nat.{ℕ, _-_}
-use mathlib.Core.Path.{refl, ap, _∙_}
+use mathlib.Core.Path.{ap, sym, _∙_}
+use native.Mathlib.Nat.{one-mul}
 use native.Mathlib.Omega.{arith}
 use denote.Ref.{now}
 use lib.ListN.{drop, replicate}
 use Rattle.array.specs.Device.{setting}
-use Rattle.pages.specs.Layout.{numberWidth}
+use Rattle.pages.specs.Layout.{numberWidth, isDataKind, isTableKind}
 use Rattle.copies.specs.Table.{tablePage}
 use Rattle.fill.specs.Fill.{Source, filled, tableCopy}
 use Rattle.progress.proofs.ComesLaws.{comes-as}
@@ -39,12 +40,12 @@ part-fill-copy-end c =
     put-fits (g .main) (replicate 4096 0) (first-room g (c .before .before .before .before .before .before .before .before .before .before .before .before .before .before .pre .0 .is-valid)) (c .before .before .before .before .before .build-first .last .0) (drop (g .main - 0) (replicate 4096 0)) (c .before .before .before .before .before .build-first .kept .0)
 
 fill-copy-requires : tie.Need-fill-copy-requires
-unfolding numberWidth
+unfolding numberWidth isDataKind isTableKind
 fill-copy-requires c κs =
     let s = c .before .before .before .before .before .before .before .before .before .before .before .before .before .before .before .before in
     let g = s .args .g in
     let v = s .pre .0 .is-valid in
-    (s .pre .0, (record { is-valid = v; block-below = s .pre .1 .0; place-below = omega (arith, v .pages-least); width-four = refl; logical-fits = omega arith; number-fits = s .pre .1 .1 .0; page-long = s .pre .1 .1 .1 }, λ h. lent-long (g .main) _ (put-fits (g .main) (replicate 4096 0) (first-room g v) (c .before .before .before .before .before .before .before .build-first .last .0) (drop (g .main - 0) (replicate 4096 0)) (c .before .before .before .before .before .before .before .build-first .kept .0))))
+    (s .pre .0, (record { is-valid = v; block-below = s .pre .1 .0; place-below = omega (arith, v .pages-least); width-some = omega arith; logical-fits = omega arith; number-fits = s .pre .1 .1 .0; page-long = s .pre .1 .1 .1 }, (lent-long (g .main) _ (put-fits (g .main) (replicate 4096 0) (first-room g v) (c .before .before .before .before .before .before .before .build-first .last .0) (drop (g .main - 0) (replicate 4096 0)) (c .before .before .before .before .before .before .before .build-first .kept .0)) ∙ sym (one-mul (g .main)))))
 
 same-length : tie.Need-same-length
 same-length c = search needs
@@ -65,7 +66,7 @@ returns c =
     let set = setting g (now (s .args .mask)) (now (s .args .fates)) in
     let room = first-room g (s .pre .0 .is-valid) in
     let bytes = put-lent (g .main) (replicate 4096 0) room _ _ (c .before .before .before .before .before .before .before .before .before .before .before .before .before .before .before .before .build-first .kept .0) ∙ c .before .before .before .before .before .before .before .before .before .before .before .before .before .before .before .before .build-first .ensures ∙ ap (λ (k : ℕ). tablePage k (g .blocks) (g .logical) (now (s .args .invalid))) (lent-long (g .main) (replicate 4096 0) room) in
-    let source = table-source g 65535 (omega (arith, s .pre .0 .is-valid .blocks-most)) (now (s .args .invalid)) _ bytes in
+    let source = table-source g 65535 (omega (arith, s .pre .0 .is-valid .blocks-most)) (now (s .args .invalid)) _ (lent-long (g .main) _ (put-fits (g .main) (replicate 4096 0) room (c .before .before .before .before .before .before .before .before .before .before .before .before .before .before .before .before .build-first .last .0) (drop (g .main - 0) (replicate 4096 0)) (c .before .before .before .before .before .before .before .before .before .before .before .before .before .before .before .before .build-first .kept .0))) bytes in
     comes-as (λ p. ap (λ (x : ℕ → Source). filled set (s .args .block) (tableCopy (s .args .number)) x p) source) (c .before .before .before .before .before .before .before .before .fill-copy .ensures)
 
 pub fill-table-spec : {M : Type 1} → statement M

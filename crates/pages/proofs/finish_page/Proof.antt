@@ -7,6 +7,7 @@ use borrow.Author.Needs.{needs}
 use lib.ListN.{length, take, length-set}
 use Rattle.pages.specs.Check.{zeroBits}
 use Rattle.pages.proofs.ByteLaws.{finished}
+use Rattle.pages.proofs.LayoutLaws.{width-four}
 use Rattle.pages.proofs.finish_page.Statement.{statement}
 use Rattle.pages.proofs.finish_page.Tie as tie
 
@@ -105,7 +106,7 @@ returns c =
     let counted : count .zero-bits .result ≡ zeroBits (take (a .main + 9) (pair3 .write-pair3 .last .0)) = count .zero-bits .ensures ∙ rw sub-zero in
     finished (a .main) (a .kind) (a .logical) (a .place) (a .number) (count .zero-bits .result) (a .page .now)
     (pair .write-pair .last .0) (pair2 .write-pair2 .last .0) (pair3 .write-pair3 .last .0) (pair4 .write-pair4 .last .0) (fill .fill-ones .last .0)
-    (omega (arith, s .pre)) (s .pre .1 .0) (omega (arith, s .pre))
+    (omega (arith, s .pre)) (width-four (a .kind) (s .pre .1 .0)) (omega (arith, s .pre))
     (pair .write-pair .ensures) (pair2 .write-pair2 .ensures) (pair3 .write-pair3 .ensures) counted (pair4 .write-pair4 .ensures) (fill .fill-ones .ensures)
 
 pub finish-page-spec : {M : Type 1} → statement M

@@ -1,6 +1,6 @@
 -- `found::Found::note_table` meets its contract. Assumes nothing.
 use mathlib.Core.Path.{sym, _∙_}
-use borrow.Author.Tests.{eq-eqb, ne-eqb, not-true, not-false}
+use borrow.Author.Tests.{not-true, not-false}
 use Rattle.found.specs.Found.{tableNoted}
 use borrow.Author.Needs.{needs}
 use Rattle.found.proofs.Found.note_table.Statement.{statement}
@@ -13,22 +13,25 @@ returns : tie.Need-returns
 unfolding tableNoted
 returns c = rw (sym (c .before .is-complete .ensures) ∙ not-true _ (c .if1 .taken))
 
+is-table-requires : tie.Need-is-table-requires
+is-table-requires c κs = search needs
+
 returns-2 : tie.Need-returns-2
 unfolding tableNoted
-returns-2 c = rw (sym (c .before .before .is-complete .ensures) ∙ not-false _ (c .before .if1 .left), ne-eqb _ 84 (c .if2 .taken))
+returns-2 c = rw (sym (c .before .before .before .is-complete .ensures) ∙ not-false _ (c .before .before .if1 .left), sym (c .before .is-table .ensures) ∙ not-true _ (c .if2 .taken))
 
-is-older-requires : tie.Need-is-older-requires
-is-older-requires c κs = search needs
+is-newer-requires : tie.Need-is-newer-requires
+is-newer-requires c κs = search needs
 
 returns-3 : tie.Need-returns-3
 unfolding tableNoted
-returns-3 c = rw (sym (c .before .before .before .before .is-complete .ensures) ∙ not-false _ (c .before .before .before .if1 .left), eq-eqb _ 84 (c .before .before .if2 .left), sym (c .before .is-older .ensures) ∙ not-true _ (c .if3 .taken))
+returns-3 c = rw (sym (c .before .before .before .before .before .is-complete .ensures) ∙ not-false _ (c .before .before .before .before .if1 .left), sym (c .before .before .before .is-table .ensures) ∙ not-false _ (c .before .before .if2 .left), sym (c .before .is-newer .ensures) ∙ not-true _ (c .if3 .taken))
 
 returns-4 : tie.Need-returns-4
 unfolding tableNoted
-returns-4 c = rw (sym (c .before .before .before .before .is-complete .ensures) ∙ not-false _ (c .before .before .before .if1 .left), eq-eqb _ 84 (c .before .before .if2 .left), sym (c .before .is-older .ensures) ∙ not-false _ (c .if3 .left))
+returns-4 c = rw (sym (c .before .before .before .before .before .is-complete .ensures) ∙ not-false _ (c .before .before .before .before .if1 .left), sym (c .before .before .before .is-table .ensures) ∙ not-false _ (c .before .before .if2 .left), sym (c .before .is-newer .ensures) ∙ not-false _ (c .if3 .left))
 
 pub note-table-spec : {M : Type 1} → statement M
 note-table-spec =
     tie.close
-    (tie.spec is-complete-requires returns returns-2 is-older-requires returns-3 returns-4)
+    (tie.spec is-complete-requires returns is-table-requires returns-2 is-newer-requires returns-3 returns-4)

@@ -10,11 +10,14 @@ use Rattle.found.proofs.contents.is_candidate.Tie as tie
 is-counted-requires : tie.Need-is-counted-requires
 is-counted-requires c κs = search needs
 
-mul-if2 : tie.Need-mul-if2
-mul-if2 c = search needs
+mul-is-data : tie.Need-mul-is-data
+mul-is-data c = search needs
 
-element-copy-out-if2 : tie.Need-element-copy-out-if2
-element-copy-out-if2 c = search needs
+element-copy-out-is-data : tie.Need-element-copy-out-is-data
+element-copy-out-is-data c = search needs
+
+is-data-requires : tie.Need-is-data-requires
+is-data-requires c κs = search needs
 
 mul-result : tie.Need-mul-result
 mul-result c = search needs
@@ -24,13 +27,13 @@ element-copy-out-result c = search needs
 
 returns : tie.Need-returns
 returns c =
-    let a = c .before .before .before .before .before .args in
-    candidate-data (contents (now (a .kinds)) (now (a .logicals)) (now (a .numbers))) (now (a .bits)) (a .block) (a .logical) (sym (c .before .before .before .before .is-counted .ensures) ∙ c .before .before .before .if1 .taken) (c .before .if2 .taken)
+    let a = c .before .before .before .before .before .before .args in
+    candidate-data (contents (now (a .kinds)) (now (a .logicals)) (now (a .numbers))) (now (a .bits)) (a .block) (a .logical) (sym (c .before .before .before .before .before .is-counted .ensures) ∙ c .before .before .before .before .if1 .taken) (sym (c .before .before .is-data .ensures) ∙ c .before .if2 .taken)
 
 returns-2 : tie.Need-returns-2
 returns-2 c =
-    let a = c .before .before .before .before .args in
-    candidate-other (contents (now (a .kinds)) (now (a .logicals)) (now (a .numbers))) (now (a .bits)) (a .block) (a .logical) (sym (c .before .before .before .is-counted .ensures) ∙ c .before .before .if1 .taken) (c .if2 .left)
+    let a = c .before .before .before .before .before .args in
+    candidate-other (contents (now (a .kinds)) (now (a .logicals)) (now (a .numbers))) (now (a .bits)) (a .block) (a .logical) (sym (c .before .before .before .before .is-counted .ensures) ∙ c .before .before .before .if1 .taken) (sym (c .before .is-data .ensures) ∙ c .if2 .left)
 
 returns-3 : tie.Need-returns-3
 returns-3 c =
@@ -42,8 +45,9 @@ is-candidate-spec =
     tie.close
     (tie.spec
     is-counted-requires
-    mul-if2
-    element-copy-out-if2
+    mul-is-data
+    element-copy-out-is-data
+    is-data-requires
     mul-result
     element-copy-out-result
     returns
