@@ -11,7 +11,7 @@ use Rattle.geometry.specs.Sizes.{pageSize, blockSize, chipSize}
 use Rattle.cells.specs.Cells.{programmed, weakened, raised}
 use Rattle.cells.specs.Part.{part, put}
 use Rattle.interface.specs.declared.Interface.{Interface}
-use Rattle.interface.specs.Interface.{refused, inPhase, started, rowOfAddress}
+use Rattle.interface.specs.Interface.{refused, inPhase, started, rowOfAddress, readAddressPhase, programDataPhase, eraseAddressPhase, statusPhase}
 
 -- history has a byte for each block: the lowest page that may be programmed, 255 where the last erase did not pass
 pub record Device : Type 0 where
@@ -63,8 +63,8 @@ abbrev pub lengthsFit : Geometry → Device → Bool
 lengthsFit g d = fitting g (length (d .array)) (length (d .register)) (length (d .history))
 
 -- the page and the block at the address, and the array with them replaced
-abbrev pub pageOf : Geometry → Device → List ℕ
-pageOf g d = part (rowAt (d .port) * pageSize g) (pageSize g) (d .array)
+abbrev pub addressedPage : Geometry → Device → List ℕ
+addressedPage g d = part (rowAt (d .port) * pageSize g) (pageSize g) (d .array)
 
 abbrev pub withPage : Geometry → Device → List ℕ → List ℕ
 withPage g d ys = put (rowAt (d .port) * pageSize g) ys (d .array)
@@ -78,9 +78,9 @@ withBlock g d ys = put (blockAt g (d .port) * blockSize g) ys (d .array)
 -- 30h after five address bytes: the page goes to the register
 unfoldable pub readStarted : Setting → Device → Device
 readStarted s d =
-    cond (eqb (d .port .phase) 3)
+    cond (eqb (d .port .phase) readAddressPhase)
     (cond (eqb (d .port .count) 5)
-    (device (started 1 (s .fates) (d .port)) (d .array) (pageOf (s .geometry) d) (d .history))
+    (device (started 1 (s .fates) (d .port)) (d .array) (addressedPage (s .geometry) d) (d .history))
     (illegalCycle d))
     (illegalCycle d)
 
@@ -88,13 +88,13 @@ readStarted s d =
 -- cleared that the data has clear and the mask has set
 unfoldable pub programStarted : Setting → Device → Device
 programStarted s d =
-    cond (eqb (d .port .phase) 6)
+    cond (eqb (d .port .phase) programDataPhase)
     (cond (eqb (d .port .first) 0)
     (cond (eqb (d .port .column) (pageSize (s .geometry)))
     (cond (leb (getD (d .history) (blockAt (s .geometry) (d .port)) 0) (pageAt (s .geometry) (d .port)))
     (device
     (started 2 (s .fates) (d .port))
-    (withPage (s .geometry) d (programmed (pageOf (s .geometry) d) (weakened (d .register) (s .mask))))
+    (withPage (s .geometry) d (programmed (addressedPage (s .geometry) d) (weakened (d .register) (s .mask))))
     (d .register)
     (set (d .history) (blockAt (s .geometry) (d .port)) (pageAt (s .geometry) (d .port) + 1)))
     (illegalCycle d))
@@ -105,7 +105,7 @@ programStarted s d =
 -- D0h after three row bytes: those bits of the block are set that the mask has set
 unfoldable pub eraseStarted : Setting → Device → Device
 eraseStarted s d =
-    cond (eqb (d .port .phase) 5)
+    cond (eqb (d .port .phase) eraseAddressPhase)
     (cond (eqb (d .port .count) 5)
     (device
     (started 3 (s .fates) (d .port))
@@ -117,7 +117,7 @@ eraseStarted s d =
 
 abbrev pub pageLoaded : Interface → Interface
 pageLoaded i =
-    record { phase = 1; count = i .count; address = i .address; first = i .first; column = i .column; operation = i .operation; busy = i .busy; failed = i .failed; loaded = 1; fate = i .fate; illegal = i .illegal }
+    record { phase = statusPhase; count = i .count; address = i .address; first = i .first; column = i .column; operation = i .operation; busy = i .busy; failed = i .failed; loaded = 1; fate = i .fate; illegal = i .illegal }
 
 -- ready is reported: a passed program clears every bit that the data has clear, a passed erase sets every bit of the block
 unfoldable pub completed : Geometry → Device → Device
@@ -125,7 +125,7 @@ completed g d =
     cond (eqb (d .port .operation) 1) (withPort (pageLoaded (d .port)) d)
     (cond (eqb (d .port .failed) 0)
     (cond (eqb (d .port .operation) 2)
-    (device (inPhase 1 (d .port)) (withPage g d (programmed (pageOf g d) (d .register))) (d .register) (d .history))
+    (device (inPhase 1 (d .port)) (withPage g d (programmed (addressedPage g d) (d .register))) (d .register) (d .history))
     (cond (eqb (d .port .operation) 3)
     (device
     (inPhase 1 (d .port))

@@ -16,7 +16,7 @@ use Rattle.geometry.specs.Sizes.{pageSize, blockSize, rowCount, columnBytes, ro
 use Rattle.cells.specs.Cells.{programmed, weakened, raised}
 use Rattle.interface.specs.declared.Interface.{Interface}
 use Rattle.interface.specs.Interface.{beginning, begun, inPhase, readMode, statusMode, outputResumed, plainCommand, shifted, moreAddress, fullAddress, addressFits, latched, addressed, afterReset, started}
-use Rattle.array.specs.Device.{Device, Setting, device, withPort, lengthsFit, rowAt, blockAt, pageAt, pageOf, withPage, blockOf, withBlock, completed, readStarted, programStarted, eraseStarted}
+use Rattle.array.specs.Device.{Device, Setting, device, withPort, lengthsFit, rowAt, blockAt, pageAt, addressedPage, withPage, blockOf, withBlock, completed, readStarted, programStarted, eraseStarted}
 use Rattle.chip.specs.Chip.{exec, commanded, isConfirm, nextColumn, dataTaken, dataGiven, lessBusy, finished, statusRead, confirmable, confirmed}
 use Rattle.chip.specs.Chip.Cycle.{command, address, dataIn, dataOut, status}
 use Rattle.bus.specs.Line.{run}
@@ -180,11 +180,11 @@ module _ (s : Setting) where
   unfolding confirmable
   confirm-allowed d f m r = rw (f, eq-eqb _ _ m, lt-ltb _ _ r)
 
-  pub confirm-read : (d : Device) → lengthsFit (s .geometry) d ≡ true → length (s .mask) ≡ blockSize (s .geometry) → rowAt (d .port) < rowCount (s .geometry) → d .port .phase ≡ 3 → d .port .count ≡ 5 → exec s d (command 48) ≡ device (started 1 (s .fates) (d .port)) (d .array) (pageOf (s .geometry) d) (d .history)
+  pub confirm-read : (d : Device) → lengthsFit (s .geometry) d ≡ true → length (s .mask) ≡ blockSize (s .geometry) → rowAt (d .port) < rowCount (s .geometry) → d .port .phase ≡ 3 → d .port .count ≡ 5 → exec s d (command 48) ≡ device (started 1 (s .fates) (d .port)) (d .array) (addressedPage (s .geometry) d) (d .history)
   unfolding exec commanded isConfirm confirmed readStarted
   confirm-read d f m r p n = rw (confirm-allowed d f m r, eq-eqb _ _ p, eq-eqb _ _ n)
 
-  pub confirm-program : (d : Device) → lengthsFit (s .geometry) d ≡ true → length (s .mask) ≡ blockSize (s .geometry) → rowAt (d .port) < rowCount (s .geometry) → d .port .phase ≡ 6 → d .port .first ≡ 0 → d .port .column ≡ pageSize (s .geometry) → getD (d .history) (blockAt (s .geometry) (d .port)) 0 ≤ pageAt (s .geometry) (d .port) → exec s d (command 16) ≡ device (started 2 (s .fates) (d .port)) (withPage (s .geometry) d (programmed (pageOf (s .geometry) d) (weakened (d .register) (s .mask)))) (d .register) (set (d .history) (blockAt (s .geometry) (d .port)) (pageAt (s .geometry) (d .port) + 1))
+  pub confirm-program : (d : Device) → lengthsFit (s .geometry) d ≡ true → length (s .mask) ≡ blockSize (s .geometry) → rowAt (d .port) < rowCount (s .geometry) → d .port .phase ≡ 6 → d .port .first ≡ 0 → d .port .column ≡ pageSize (s .geometry) → getD (d .history) (blockAt (s .geometry) (d .port)) 0 ≤ pageAt (s .geometry) (d .port) → exec s d (command 16) ≡ device (started 2 (s .fates) (d .port)) (withPage (s .geometry) d (programmed (addressedPage (s .geometry) d) (weakened (d .register) (s .mask)))) (d .register) (set (d .history) (blockAt (s .geometry) (d .port)) (pageAt (s .geometry) (d .port) + 1))
   unfolding exec commanded isConfirm confirmed programStarted
   confirm-program d f m r p n c h =
       rw (confirm-allowed d f m r, eq-eqb _ _ p, eq-eqb _ _ n, eq-eqb _ _ c, le-leb _ _ h)

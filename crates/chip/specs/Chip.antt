@@ -6,7 +6,7 @@ use lib.ListN.{length, getD, set}
 use Rattle.geometry.specs.declared.Geometry.{Geometry}
 use Rattle.geometry.specs.Sizes.{blockSize, rowCount}
 use Rattle.interface.specs.declared.Interface.{Interface}
-use Rattle.interface.specs.Interface.{plainCommand, addressed, statusByte}
+use Rattle.interface.specs.Interface.{plainCommand, addressed, statusByte, readConfirm, programConfirm, eraseConfirm, programDataPhase, outputPhase, statusPhase, busyStatusPhase}
 use Rattle.array.specs.Device.{Device, Setting, device, withPort, illegalCycle, rowAt, lengthsFit, readStarted, programStarted, eraseStarted, completed}
 
 -- one bus cycle
@@ -19,10 +19,11 @@ pub data Cycle : Type 0 where
 
 -- 30h, 10h, D0h
 unfoldable pub isConfirm : ℕ → Bool
-isConfirm code = cond (eqb code 48) true (cond (eqb code 16) true (eqb code 208))
+isConfirm code = cond (eqb code readConfirm) true (cond (eqb code programConfirm) true (eqb code eraseConfirm))
 
 unfoldable pub confirmed : ℕ → Setting → Device → Device
-confirmed code s d = cond (eqb code 48) (readStarted s d) (cond (eqb code 16) (programStarted s d) (eraseStarted s d))
+confirmed code s d =
+    cond (eqb code readConfirm) (readStarted s d) (cond (eqb code programConfirm) (programStarted s d) (eraseStarted s d))
 
 unfoldable pub confirmable : Setting → Device → Bool
 confirmable s d =
@@ -44,7 +45,7 @@ nextColumn i =
 -- a data input cycle: after 80h and its address, up to the last column
 unfoldable pub dataTaken : ℕ → Device → Device
 dataTaken byte d =
-    cond (eqb (d .port .phase) 6)
+    cond (eqb (d .port .phase) programDataPhase)
     (cond (ltb (d .port .column) (length (d .register)))
     (device (nextColumn (d .port)) (d .array) (set (d .register) (d .port .column) byte) (d .history))
     (illegalCycle d))
@@ -53,12 +54,12 @@ dataTaken byte d =
 -- a data output cycle: after 00h with a page in the register, up to the last column
 unfoldable pub dataGiven : Device → Device
 dataGiven d =
-    cond (eqb (d .port .phase) 2)
+    cond (eqb (d .port .phase) outputPhase)
     (cond (ltb (d .port .column) (length (d .register))) (withPort (nextColumn (d .port)) d) (illegalCycle d))
     (illegalCycle d)
 
 unfoldable pub dataByte : Device → ℕ
-dataByte d = cond (eqb (d .port .phase) 2) (getD (d .register) (d .port .column) 0) 0
+dataByte d = cond (eqb (d .port .phase) outputPhase) (getD (d .register) (d .port .column) 0) 0
 
 abbrev pub lessBusy : Interface → Interface
 lessBusy i =
@@ -71,15 +72,15 @@ finished g d =
 -- a status read: after 70h
 unfoldable pub statusRead : Geometry → Device → Device
 statusRead g d =
-    cond (eqb (d .port .phase) 1) d
-    (cond (eqb (d .port .phase) 8)
+    cond (eqb (d .port .phase) statusPhase) d
+    (cond (eqb (d .port .phase) busyStatusPhase)
     (cond (eqb (d .port .busy) 0) (finished g d) (withPort (lessBusy (d .port)) d))
     (illegalCycle d))
 
 unfoldable pub statusShown : Interface → ℕ
 statusShown i =
-    cond (eqb (i .phase) 1) (statusByte 1 (i .failed))
-    (cond (eqb (i .phase) 8) (cond (eqb (i .busy) 0) (statusByte 1 (i .failed)) (statusByte 0 0)) 0)
+    cond (eqb (i .phase) statusPhase) (statusByte 1 (i .failed))
+    (cond (eqb (i .phase) busyStatusPhase) (cond (eqb (i .busy) 0) (statusByte 1 (i .failed)) (statusByte 0 0)) 0)
 
 -- the chip after one more cycle
 unfoldable pub exec : Setting → Device → Cycle → Device

@@ -12,7 +12,7 @@ use Rattle.geometry.proofs.SizeLaws.{row-within, block-within, row-block-below}
 use Rattle.cells.specs.Cells.{programmed, weakened, raised}
 use Rattle.cells.proofs.CellLaws.{length-programmed, length-raised}
 use Rattle.cells.proofs.PartLaws.{length-part, length-put}
-use Rattle.array.specs.Device.{Device, Setting, Fitting, lengthsFit, rowAt, blockAt, pageOf, blockOf, withPage, withBlock, readStarted, programStarted, eraseStarted, completed}
+use Rattle.array.specs.Device.{Device, Setting, Fitting, lengthsFit, rowAt, blockAt, addressedPage, blockOf, withPage, withBlock, readStarted, programStarted, eraseStarted, completed}
 use Rattle.array.proofs.DeviceLaws.{fits}
 use Rattle.chip.specs.Chip.{Cycle, isConfirm, confirmable, confirmed, commanded, dataTaken, dataGiven, finished, statusRead, exec}
 use Rattle.chip.specs.Chip.Cycle.{command, address, dataIn, dataOut, status}
@@ -42,10 +42,10 @@ module _ (g : Geometry) (d : Device) (f : Fitting g (length (d .array)) (length 
       rw (f .array-long)
       (block-within g (f .is-valid) (blockAt g (d .port)) (row-block-below g (f .is-valid) (rowAt (d .port)) on))
 
-  length-page : length (pageOf g d) ≡ length (d .register)
+  length-page : length (addressedPage g d) ≡ length (d .register)
   length-page = length-part (rowAt (d .port) * pageSize g) (pageSize g) (d .array) page-in ∙ sym (f .register-long)
 
-  length-with-page : (ys : List ℕ) → length ys ≡ length (pageOf g d) → length (withPage g d ys) ≡ length (d .array)
+  length-with-page : (ys : List ℕ) → length ys ≡ length (addressedPage g d) → length (withPage g d ys) ≡ length (d .array)
   length-with-page ys e =
       length-put (rowAt (d .port) * pageSize g) ys (d .array)
       (rw (e, length-part (rowAt (d .port) * pageSize g) (pageSize g) (d .array) page-in) page-in)
@@ -63,7 +63,7 @@ module _ (g : Geometry) (d : Device) (f : Fitting g (length (d .array)) (length 
       arms d (eqb (d .port .operation) 1) _ _ (same refl refl refl)
       (arms d (eqb (d .port .failed) 0) _ _
       (arms d (eqb (d .port .operation) 2) _ _
-      (same (length-with-page (programmed (pageOf g d) (d .register)) (length-programmed (pageOf g d) (d .register))) refl refl)
+      (same (length-with-page (programmed (addressedPage g d) (d .register)) (length-programmed (addressedPage g d) (d .register))) refl refl)
       (arms d (eqb (d .port .operation) 3) _ _
       (same (length-with-block (replicate (blockSize g) 255) (length-replicate (blockSize g) 255)) refl (length-set (d .history) (blockAt g (d .port)) 0))
       (same refl refl refl)))
@@ -76,7 +76,7 @@ module _ (s : Setting) (d : Device) where
       let g = s .geometry in
       let f = confirms s d t .0 in
       let on = confirms s d t .1 .1 in
-      let a₁ = length-with-page g d f on (programmed (pageOf g d) (weakened (d .register) (s .mask))) (length-programmed (pageOf g d) (weakened (d .register) (s .mask))) in
+      let a₁ = length-with-page g d f on (programmed (addressedPage g d) (weakened (d .register) (s .mask))) (length-programmed (addressedPage g d) (weakened (d .register) (s .mask))) in
       let a₂ = length-with-block g d f on (raised (blockOf g d) (s .mask)) (length-raised (blockOf g d) (s .mask) ∙ length-block g d f on) in
       search (arms, same, length-page g d f on, a₁, a₂, length-set) depth 12
 

@@ -10,10 +10,10 @@ use Rattle.cells.specs.Part.{put}
 use Rattle.bitmaps.specs.Bitmap.{bitAt, withBit, countBits, clearFrom}
 use Rattle.pages.specs.Check.{zeroBits}
 use Rattle.pages.specs.Layout.{whole, allOnes, storedCheck, countedCheck, kindOf, dataKind, tableKind, numberWidth, isDataKind, isTableKind, labelOf, numberOf, bytesOf, labelBytes, encoded, label}
-use Rattle.copies.specs.Blocks.{isMarked, agrees, completeTo, isComplete, isTable, isData, isCopyOf, aboveTo, above}
+use Rattle.copies.specs.Blocks.{isMarked, agrees, completeTo, isComplete, isTable, isData, isCopyOf, anyTo, greatestTo, hasNumber, greatest}
 use Rattle.copies.specs.Pick.{nothing, at, better, pick, someBelow}
 use Rattle.copies.specs.Table.{tablePage, clearWhere, rightFirst, rightPage, rightTo, rightTable}
-use Rattle.copies.specs.Current.{currentTable, currentCopy, pageOf, reading, aboveAll, nextNumber, filledLast, sharesNumber, clashesAt, clashes, judgeTable, mountAnswer}
+use Rattle.copies.specs.Current.{currentTable, currentCopy, pageOf, reading, greatestBelow, nextNumber, filledLast, sharesNumber, clashesAt, clashes, judgeTable, mountAnswer}
 
 abbrev small : Geometry
 small = record { main = 32; spare = 16; pages = 4; blocks = 4; logical = 2 }
@@ -41,80 +41,80 @@ written bits = tableWith 1 bits ++ (blank ++ (copyWith dataKind 1 2 (replicate 3
 
 -- table page 0 after formatting, number 1, has check 129
 table-check : storedCheck 32 (encoded 16 (label tableKind 0 0 1) (tablePage 32 4 2 (0 ∷ []))) ≡ 129
-unfolding whole allOnes storedCheck countedCheck kindOf numberWidth isDataKind isTableKind labelOf numberOf bytesOf labelBytes encoded zeroBits ones onesIn bitAt withBit countBits isMarked agrees completeTo isComplete isTable isData isCopyOf aboveTo above better pick tablePage clearFrom clearWhere rightFirst rightPage rightTo rightTable currentTable currentCopy pageOf aboveAll nextNumber filledLast someBelow sharesNumber clashesAt clashes judgeTable mountAnswer put
+unfolding whole allOnes storedCheck countedCheck kindOf numberWidth isDataKind isTableKind labelOf numberOf bytesOf labelBytes encoded zeroBits ones onesIn bitAt withBit countBits isMarked agrees completeTo isComplete isTable isData isCopyOf anyTo greatestTo hasNumber greatest better pick tablePage clearFrom clearWhere rightFirst rightPage rightTo rightTable currentTable currentCopy pageOf greatestBelow nextNumber filledLast someBelow sharesNumber clashesAt clashes judgeTable mountAnswer put
 table-check = refl
 
 -- an erased chip has no table
 erased-answer : mountAnswer small (blank ++ (blank ++ (blank ++ blank))) ≡ 4
-unfolding whole allOnes storedCheck countedCheck kindOf numberWidth isDataKind isTableKind labelOf numberOf bytesOf labelBytes encoded zeroBits ones onesIn bitAt withBit countBits isMarked agrees completeTo isComplete isTable isData isCopyOf aboveTo above better pick tablePage clearFrom clearWhere rightFirst rightPage rightTo rightTable currentTable currentCopy pageOf aboveAll nextNumber filledLast someBelow sharesNumber clashesAt clashes judgeTable mountAnswer put
+unfolding whole allOnes storedCheck countedCheck kindOf numberWidth isDataKind isTableKind labelOf numberOf bytesOf labelBytes encoded zeroBits ones onesIn bitAt withBit countBits isMarked agrees completeTo isComplete isTable isData isCopyOf anyTo greatestTo hasNumber greatest better pick tablePage clearFrom clearWhere rightFirst rightPage rightTo rightTable currentTable currentCopy pageOf greatestBelow nextNumber filledLast someBelow sharesNumber clashesAt clashes judgeTable mountAnswer put
 erased-answer = refl
 
 -- a formatted chip is mounted
 formatted-answer : mountAnswer small formatted ≡ 0
-unfolding whole allOnes storedCheck countedCheck kindOf numberWidth isDataKind isTableKind labelOf numberOf bytesOf labelBytes encoded zeroBits ones onesIn bitAt withBit countBits isMarked agrees completeTo isComplete isTable isData isCopyOf aboveTo above better pick tablePage clearFrom clearWhere rightFirst rightPage rightTo rightTable currentTable currentCopy pageOf aboveAll nextNumber filledLast someBelow sharesNumber clashesAt clashes judgeTable mountAnswer put
+unfolding whole allOnes storedCheck countedCheck kindOf numberWidth isDataKind isTableKind labelOf numberOf bytesOf labelBytes encoded zeroBits ones onesIn bitAt withBit countBits isMarked agrees completeTo isComplete isTable isData isCopyOf anyTo greatestTo hasNumber greatest better pick tablePage clearFrom clearWhere rightFirst rightPage rightTo rightTable currentTable currentCopy pageOf greatestBelow nextNumber filledLast someBelow sharesNumber clashesAt clashes judgeTable mountAnswer put
 formatted-answer = refl
 
 -- its table is in block 0
 formatted-table : currentTable small formatted ≡ at 0
-unfolding whole allOnes storedCheck countedCheck kindOf numberWidth isDataKind isTableKind labelOf numberOf bytesOf labelBytes encoded zeroBits ones onesIn bitAt withBit countBits isMarked agrees completeTo isComplete isTable isData isCopyOf aboveTo above better pick tablePage clearFrom clearWhere rightFirst rightPage rightTo rightTable currentTable currentCopy pageOf aboveAll nextNumber filledLast someBelow sharesNumber clashesAt clashes judgeTable mountAnswer put
+unfolding whole allOnes storedCheck countedCheck kindOf numberWidth isDataKind isTableKind labelOf numberOf bytesOf labelBytes encoded zeroBits ones onesIn bitAt withBit countBits isMarked agrees completeTo isComplete isTable isData isCopyOf anyTo greatestTo hasNumber greatest better pick tablePage clearFrom clearWhere rightFirst rightPage rightTo rightTable currentTable currentCopy pageOf greatestBelow nextNumber filledLast someBelow sharesNumber clashesAt clashes judgeTable mountAnswer put
 formatted-table = refl
 
 -- the next number is 2
 formatted-next : nextNumber small formatted ≡ 2
-unfolding whole allOnes storedCheck countedCheck kindOf numberWidth isDataKind isTableKind labelOf numberOf bytesOf labelBytes encoded zeroBits ones onesIn bitAt withBit countBits isMarked agrees completeTo isComplete isTable isData isCopyOf aboveTo above better pick tablePage clearFrom clearWhere rightFirst rightPage rightTo rightTable currentTable currentCopy pageOf aboveAll nextNumber filledLast someBelow sharesNumber clashesAt clashes judgeTable mountAnswer put
+unfolding whole allOnes storedCheck countedCheck kindOf numberWidth isDataKind isTableKind labelOf numberOf bytesOf labelBytes encoded zeroBits ones onesIn bitAt withBit countBits isMarked agrees completeTo isComplete isTable isData isCopyOf anyTo greatestTo hasNumber greatest better pick tablePage clearFrom clearWhere rightFirst rightPage rightTo rightTable currentTable currentCopy pageOf greatestBelow nextNumber filledLast someBelow sharesNumber clashesAt clashes judgeTable mountAnswer put
 formatted-next = refl
 
 -- block 0 was filled last
 formatted-last : filledLast small formatted ≡ at 0
-unfolding whole allOnes storedCheck countedCheck kindOf numberWidth isDataKind isTableKind labelOf numberOf bytesOf labelBytes encoded zeroBits ones onesIn bitAt withBit countBits isMarked agrees completeTo isComplete isTable isData isCopyOf aboveTo above better pick tablePage clearFrom clearWhere rightFirst rightPage rightTo rightTable currentTable currentCopy pageOf aboveAll nextNumber filledLast someBelow sharesNumber clashesAt clashes judgeTable mountAnswer put
+unfolding whole allOnes storedCheck countedCheck kindOf numberWidth isDataKind isTableKind labelOf numberOf bytesOf labelBytes encoded zeroBits ones onesIn bitAt withBit countBits isMarked agrees completeTo isComplete isTable isData isCopyOf anyTo greatestTo hasNumber greatest better pick tablePage clearFrom clearWhere rightFirst rightPage rightTo rightTable currentTable currentCopy pageOf greatestBelow nextNumber filledLast someBelow sharesNumber clashesAt clashes judgeTable mountAnswer put
 formatted-last = refl
 
 -- a copy is current and is read
 written-copy : currentCopy small (written 0) 0 1 ≡ at 2
-unfolding whole allOnes storedCheck countedCheck kindOf numberWidth isDataKind isTableKind labelOf numberOf bytesOf labelBytes encoded zeroBits ones onesIn bitAt withBit countBits isMarked agrees completeTo isComplete isTable isData isCopyOf aboveTo above better pick tablePage clearFrom clearWhere rightFirst rightPage rightTo rightTable currentTable currentCopy pageOf aboveAll nextNumber filledLast someBelow sharesNumber clashesAt clashes judgeTable mountAnswer put
+unfolding whole allOnes storedCheck countedCheck kindOf numberWidth isDataKind isTableKind labelOf numberOf bytesOf labelBytes encoded zeroBits ones onesIn bitAt withBit countBits isMarked agrees completeTo isComplete isTable isData isCopyOf anyTo greatestTo hasNumber greatest better pick tablePage clearFrom clearWhere rightFirst rightPage rightTo rightTable currentTable currentCopy pageOf greatestBelow nextNumber filledLast someBelow sharesNumber clashesAt clashes judgeTable mountAnswer put
 written-copy = refl
 
 -- its page is read
 written-read : reading small (written 0) 0 1 0 ≡ replicate 32 165
-unfolding whole allOnes storedCheck countedCheck kindOf numberWidth isDataKind isTableKind labelOf numberOf bytesOf labelBytes encoded zeroBits ones onesIn bitAt withBit countBits isMarked agrees completeTo isComplete isTable isData isCopyOf aboveTo above better pick tablePage clearFrom clearWhere rightFirst rightPage rightTo rightTable currentTable currentCopy pageOf aboveAll nextNumber filledLast someBelow sharesNumber clashesAt clashes judgeTable mountAnswer put
+unfolding whole allOnes storedCheck countedCheck kindOf numberWidth isDataKind isTableKind labelOf numberOf bytesOf labelBytes encoded zeroBits ones onesIn bitAt withBit countBits isMarked agrees completeTo isComplete isTable isData isCopyOf anyTo greatestTo hasNumber greatest better pick tablePage clearFrom clearWhere rightFirst rightPage rightTo rightTable currentTable currentCopy pageOf greatestBelow nextNumber filledLast someBelow sharesNumber clashesAt clashes judgeTable mountAnswer put
 written-read = refl
 
 -- a logical block without a copy reads FFh
 written-none : reading small (written 0) 0 0 3 ≡ replicate 32 255
-unfolding whole allOnes storedCheck countedCheck kindOf numberWidth isDataKind isTableKind labelOf numberOf bytesOf labelBytes encoded zeroBits ones onesIn bitAt withBit countBits isMarked agrees completeTo isComplete isTable isData isCopyOf aboveTo above better pick tablePage clearFrom clearWhere rightFirst rightPage rightTo rightTable currentTable currentCopy pageOf aboveAll nextNumber filledLast someBelow sharesNumber clashesAt clashes judgeTable mountAnswer put
+unfolding whole allOnes storedCheck countedCheck kindOf numberWidth isDataKind isTableKind labelOf numberOf bytesOf labelBytes encoded zeroBits ones onesIn bitAt withBit countBits isMarked agrees completeTo isComplete isTable isData isCopyOf anyTo greatestTo hasNumber greatest better pick tablePage clearFrom clearWhere rightFirst rightPage rightTo rightTable currentTable currentCopy pageOf greatestBelow nextNumber filledLast someBelow sharesNumber clashesAt clashes judgeTable mountAnswer put
 written-none = refl
 
 -- a copy in a listed block is left aside
 listed-copy : currentCopy small (written 4) 0 1 ≡ nothing
-unfolding whole allOnes storedCheck countedCheck kindOf numberWidth isDataKind isTableKind labelOf numberOf bytesOf labelBytes encoded zeroBits ones onesIn bitAt withBit countBits isMarked agrees completeTo isComplete isTable isData isCopyOf aboveTo above better pick tablePage clearFrom clearWhere rightFirst rightPage rightTo rightTable currentTable currentCopy pageOf aboveAll nextNumber filledLast someBelow sharesNumber clashesAt clashes judgeTable mountAnswer put
+unfolding whole allOnes storedCheck countedCheck kindOf numberWidth isDataKind isTableKind labelOf numberOf bytesOf labelBytes encoded zeroBits ones onesIn bitAt withBit countBits isMarked agrees completeTo isComplete isTable isData isCopyOf anyTo greatestTo hasNumber greatest better pick tablePage clearFrom clearWhere rightFirst rightPage rightTo rightTable currentTable currentCopy pageOf greatestBelow nextNumber filledLast someBelow sharesNumber clashesAt clashes judgeTable mountAnswer put
 listed-copy = refl
 
 -- a table that lists its own block is wrong
 own-block : mountAnswer small (tableWith 1 1 ++ (blank ++ (blank ++ blank))) ≡ 5
-unfolding whole allOnes storedCheck countedCheck kindOf numberWidth isDataKind isTableKind labelOf numberOf bytesOf labelBytes encoded zeroBits ones onesIn bitAt withBit countBits isMarked agrees completeTo isComplete isTable isData isCopyOf aboveTo above better pick tablePage clearFrom clearWhere rightFirst rightPage rightTo rightTable currentTable currentCopy pageOf aboveAll nextNumber filledLast someBelow sharesNumber clashesAt clashes judgeTable mountAnswer put
+unfolding whole allOnes storedCheck countedCheck kindOf numberWidth isDataKind isTableKind labelOf numberOf bytesOf labelBytes encoded zeroBits ones onesIn bitAt withBit countBits isMarked agrees completeTo isComplete isTable isData isCopyOf anyTo greatestTo hasNumber greatest better pick tablePage clearFrom clearWhere rightFirst rightPage rightTo rightTable currentTable currentCopy pageOf greatestBelow nextNumber filledLast someBelow sharesNumber clashesAt clashes judgeTable mountAnswer put
 own-block = refl
 
 -- two complete blocks with one number clash
 one-number : mountAnswer small (tableWith 2 0 ++ (blank ++ (copyWith dataKind 1 2 (replicate 32 165) ++ blank))) ≡ 6
-unfolding whole allOnes storedCheck countedCheck kindOf numberWidth isDataKind isTableKind labelOf numberOf bytesOf labelBytes encoded zeroBits ones onesIn bitAt withBit countBits isMarked agrees completeTo isComplete isTable isData isCopyOf aboveTo above better pick tablePage clearFrom clearWhere rightFirst rightPage rightTo rightTable currentTable currentCopy pageOf aboveAll nextNumber filledLast someBelow sharesNumber clashesAt clashes judgeTable mountAnswer put
+unfolding whole allOnes storedCheck countedCheck kindOf numberWidth isDataKind isTableKind labelOf numberOf bytesOf labelBytes encoded zeroBits ones onesIn bitAt withBit countBits isMarked agrees completeTo isComplete isTable isData isCopyOf anyTo greatestTo hasNumber greatest better pick tablePage clearFrom clearWhere rightFirst rightPage rightTo rightTable currentTable currentCopy pageOf greatestBelow nextNumber filledLast someBelow sharesNumber clashesAt clashes judgeTable mountAnswer put
 one-number = refl
 
 -- of two tables with one number the lower is current
 tie : currentTable small (blank ++ (tableWith 3 0 ++ (tableWith 3 0 ++ blank))) ≡ at 1
-unfolding whole allOnes storedCheck countedCheck kindOf numberWidth isDataKind isTableKind labelOf numberOf bytesOf labelBytes encoded zeroBits ones onesIn bitAt withBit countBits isMarked agrees completeTo isComplete isTable isData isCopyOf aboveTo above better pick tablePage clearFrom clearWhere rightFirst rightPage rightTo rightTable currentTable currentCopy pageOf aboveAll nextNumber filledLast someBelow sharesNumber clashesAt clashes judgeTable mountAnswer put
+unfolding whole allOnes storedCheck countedCheck kindOf numberWidth isDataKind isTableKind labelOf numberOf bytesOf labelBytes encoded zeroBits ones onesIn bitAt withBit countBits isMarked agrees completeTo isComplete isTable isData isCopyOf anyTo greatestTo hasNumber greatest better pick tablePage clearFrom clearWhere rightFirst rightPage rightTo rightTable currentTable currentCopy pageOf greatestBelow nextNumber filledLast someBelow sharesNumber clashesAt clashes judgeTable mountAnswer put
 tie = refl
 
 -- a copy of a logical block that is none clashes
 past-last : mountAnswer small (tableWith 1 0 ++ (blank ++ (copyWith dataKind 2 2 (replicate 32 165) ++ blank))) ≡ 6
-unfolding whole allOnes storedCheck countedCheck kindOf numberWidth isDataKind isTableKind labelOf numberOf bytesOf labelBytes encoded zeroBits ones onesIn bitAt withBit countBits isMarked agrees completeTo isComplete isTable isData isCopyOf aboveTo above better pick tablePage clearFrom clearWhere rightFirst rightPage rightTo rightTable currentTable currentCopy pageOf aboveAll nextNumber filledLast someBelow sharesNumber clashesAt clashes judgeTable mountAnswer put
+unfolding whole allOnes storedCheck countedCheck kindOf numberWidth isDataKind isTableKind labelOf numberOf bytesOf labelBytes encoded zeroBits ones onesIn bitAt withBit countBits isMarked agrees completeTo isComplete isTable isData isCopyOf anyTo greatestTo hasNumber greatest better pick tablePage clearFrom clearWhere rightFirst rightPage rightTo rightTable currentTable currentCopy pageOf greatestBelow nextNumber filledLast someBelow sharesNumber clashesAt clashes judgeTable mountAnswer put
 past-last = refl
 
 -- a block whose last page alone is whole is not complete
 last-page : isComplete small (set (copyWith dataKind 1 2 (replicate 32 165)) 0 167) ≡ false
-unfolding whole allOnes storedCheck countedCheck kindOf numberWidth isDataKind isTableKind labelOf numberOf bytesOf labelBytes encoded zeroBits ones onesIn bitAt withBit countBits isMarked agrees completeTo isComplete isTable isData isCopyOf aboveTo above better pick tablePage clearFrom clearWhere rightFirst rightPage rightTo rightTable currentTable currentCopy pageOf aboveAll nextNumber filledLast someBelow sharesNumber clashesAt clashes judgeTable mountAnswer put
+unfolding whole allOnes storedCheck countedCheck kindOf numberWidth isDataKind isTableKind labelOf numberOf bytesOf labelBytes encoded zeroBits ones onesIn bitAt withBit countBits isMarked agrees completeTo isComplete isTable isData isCopyOf anyTo greatestTo hasNumber greatest better pick tablePage clearFrom clearWhere rightFirst rightPage rightTo rightTable currentTable currentCopy pageOf greatestBelow nextNumber filledLast someBelow sharesNumber clashesAt clashes judgeTable mountAnswer put
 last-page = refl
 
 -- a mark in page 1 is a factory mark
 mark-page-1 : isMarked small (set blank 80 0) ≡ true
-unfolding whole allOnes storedCheck countedCheck kindOf numberWidth isDataKind isTableKind labelOf numberOf bytesOf labelBytes encoded zeroBits ones onesIn bitAt withBit countBits isMarked agrees completeTo isComplete isTable isData isCopyOf aboveTo above better pick tablePage clearFrom clearWhere rightFirst rightPage rightTo rightTable currentTable currentCopy pageOf aboveAll nextNumber filledLast someBelow sharesNumber clashesAt clashes judgeTable mountAnswer put
+unfolding whole allOnes storedCheck countedCheck kindOf numberWidth isDataKind isTableKind labelOf numberOf bytesOf labelBytes encoded zeroBits ones onesIn bitAt withBit countBits isMarked agrees completeTo isComplete isTable isData isCopyOf anyTo greatestTo hasNumber greatest better pick tablePage clearFrom clearWhere rightFirst rightPage rightTo rightTable currentTable currentCopy pageOf greatestBelow nextNumber filledLast someBelow sharesNumber clashesAt clashes judgeTable mountAnswer put
 mark-page-1 = refl

@@ -1,5 +1,5 @@
 -- What one block holds. Each definition takes the block's bytes, so that a block that stays is one equation.
-use Prim.Native.Nat.{ℕ, zero, suc, _+_, _*_, max}
+use Prim.Native.Nat.{ℕ, zero, suc, _*_, max}
 use mathlib.Core.Bool.{Bool, true, false, cond}
 use mathlib.Core.List.{List}
 use lib.Dec.{eqb}
@@ -60,15 +60,22 @@ isData g block = cond (isComplete g block) (isDataKind (labelIn g block 0 .kind)
 unfoldable pub isCopyOf : Geometry → ℕ → List ℕ → Bool
 isCopyOf g logical block = cond (isData g block) (eqb (labelIn g block 0 .logical) logical) false
 
--- one above the greatest number on a whole page among the first n, 0 if there is none
-unfoldable pub aboveTo : Geometry → List ℕ → ℕ → ℕ
-aboveTo g block zero = 0
-aboveTo g block (suc n) =
-    let less = aboveTo g block n in cond (wholeIn g block n) (max less (labelIn g block n .number + 1)) less
+-- whether one of the first n pages is whole, and the greatest number on a whole page among them, 0 if there is none
+unfoldable pub anyTo : Geometry → List ℕ → ℕ → Bool
+anyTo g block zero = false
+anyTo g block (suc n) = let less = anyTo g block n in cond (wholeIn g block n) true less
+
+unfoldable pub greatestTo : Geometry → List ℕ → ℕ → ℕ
+greatestTo g block zero = 0
+greatestTo g block (suc n) =
+    let less = greatestTo g block n in cond (wholeIn g block n) (max less (labelIn g block n .number)) less
 
 -- of a block without a factory mark
-unfoldable pub above : Geometry → List ℕ → ℕ
-above g block = cond (isMarked g block) 0 (aboveTo g block (g .pages))
+unfoldable pub hasNumber : Geometry → List ℕ → Bool
+hasNumber g block = cond (isMarked g block) false (anyTo g block (g .pages))
+
+unfoldable pub greatest : Geometry → List ℕ → ℕ
+greatest g block = cond (isMarked g block) 0 (greatestTo g block (g .pages))
 
 -- the main bytes of a page
 abbrev pub mainIn : Geometry → List ℕ → ℕ → List ℕ

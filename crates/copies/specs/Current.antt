@@ -1,11 +1,11 @@
 -- What is current on an array, the reading of a logical page, and the refusals of a mount.
-use Prim.Native.Nat.{ℕ, zero, suc, max}
+use Prim.Native.Nat.{ℕ, zero, suc, _+_, max}
 use mathlib.Core.Bool.{Bool, true, false, cond, not}
 use mathlib.Core.List.{List}
 use lib.Dec.{eqb, leb}
 use lib.ListN.{replicate}
 use Rattle.geometry.specs.declared.Geometry.{Geometry}
-use Rattle.copies.specs.Blocks.{blockIn, isMarked, isComplete, isTable, isData, isCopyOf, numberIn, labelIn, above, mainIn}
+use Rattle.copies.specs.Blocks.{blockIn, isMarked, isComplete, isTable, isData, isCopyOf, numberIn, labelIn, hasNumber, greatest, mainIn}
 use Rattle.copies.specs.Pick.{Pick, nothing, at, pick, someBelow}
 use Rattle.copies.specs.Table.{lists, rightTable}
 
@@ -34,19 +34,19 @@ pageOf g array p (at b) = mainIn g (blockIn g array b) p
 abbrev pub reading : Geometry → List ℕ → ℕ → ℕ → ℕ → List ℕ
 reading g array table logical p = pageOf g array p (currentCopy g array table logical)
 
--- one above the greatest number on a whole page of an unmarked block below n, 0 if none
-unfoldable pub aboveAll : Geometry → List ℕ → ℕ → ℕ
-aboveAll g array zero = 0
-aboveAll g array (suc n) = max (aboveAll g array n) (above g (blockIn g array n))
+-- the greatest number on any whole page of an unmarked block below n, 0 if none
+unfoldable pub greatestBelow : Geometry → List ℕ → ℕ → ℕ
+greatestBelow g array zero = 0
+greatestBelow g array (suc n) = max (greatestBelow g array n) (greatest g (blockIn g array n))
 
--- the next number, 1 if there is no whole page
+-- the next number: one above the greatest on any whole page of an unmarked block, 1 if none
 unfoldable pub nextNumber : Geometry → List ℕ → ℕ
-nextNumber g array = cond (eqb (aboveAll g array (g .blocks)) 0) 1 (aboveAll g array (g .blocks))
+nextNumber g array = greatestBelow g array (g .blocks) + 1
 
 -- the block filled last: the lowest that holds the greatest number
 unfoldable pub filledLast : Geometry → List ℕ → Pick
 filledLast g array =
-    pick (λ b. cond (eqb (above g (blockIn g array b)) 0) false true) (λ b. above g (blockIn g array b)) (g .blocks)
+    pick (λ b. hasNumber g (blockIn g array b)) (λ b. greatest g (blockIn g array b)) (g .blocks)
 
 -- a complete block that the table does not list
 abbrev pub counts : Geometry → List ℕ → ℕ → ℕ → Bool

@@ -1,5 +1,5 @@
 -- The first round of erases: the blocks that failed, and the numbers on what is left of them.
-use Prim.Native.Nat.{ℕ, zero, suc, max}
+use Prim.Native.Nat.{ℕ, zero, suc, _<_, _^_, max}
 use mathlib.Core.Bool.{Bool, true, false, cond}
 use mathlib.Core.List.{List}
 use mathlib.Core.Path.{_≡_}
@@ -13,7 +13,7 @@ use Rattle.chip.specs.Chip.{Cycle}
 use Rattle.bus.specs.Line.{Line}
 use Rattle.operations.specs.Ends.{Called}
 use Rattle.operations.specs.Trace.{ArrayOperation}
-use Rattle.copies.specs.Blocks.{blockIn, aboveTo}
+use Rattle.copies.specs.Blocks.{blockIn, greatestTo}
 use Rattle.progress.specs.Progress.{Progress, progress}
 use Rattle.block_scan.specs.Pages.{pagesRead}
 use Rattle.progress.specs.Steps.{eraseOn, resumed}
@@ -30,19 +30,19 @@ blockErased s marked b p = cond (isPassed (p .outcome)) (cond (bitAt marked b) p
 unfoldable pub failedAt : Setting → List ℕ → ℕ → Progress → Bool
 failedAt s marked b p = cond (bitAt marked b) false (isFailed (eraseOn s b p .outcome))
 
--- one above the greatest number on a whole page of a block whose erase failed, 0 for any other
-unfoldable pub aboveAt : Setting → List ℕ → ℕ → Progress → ℕ
-aboveAt s marked b p =
-    cond (failedAt s marked b p) (aboveTo (s .geometry) (blockIn (s .geometry) (eraseOn s b p .line .chip .array) b) (s .geometry .pages)) 0
+-- the greatest number on a whole page of a block whose erase failed, 0 if it has none and for any other block
+unfoldable pub greatestAt : Setting → List ℕ → ℕ → Progress → ℕ
+greatestAt s marked b p =
+    cond (failedAt s marked b p) (greatestTo (s .geometry) (blockIn (s .geometry) (eraseOn s b p .line .chip .array) b) (s .geometry .pages)) 0
 
--- the first round of erases: the blocks that failed, and one above the greatest number on a whole page of them
+-- the first round of erases: the blocks that failed, and the greatest number on a whole page of them, 0 if none
 pub record Round : Type 0 where
   pub progress : Progress
   pub invalid : List ℕ
-  pub above : ℕ
+  pub greatest : ℕ
 
 abbrev pub round : Progress → List ℕ → ℕ → Round
-round p invalid above = record { progress = p; invalid = invalid; above = above }
+round p invalid greatest = record { progress = p; invalid = invalid; greatest = greatest }
 
 -- the first n blocks
 unfoldable pub erasedTo : Setting → List ℕ → ℕ → Progress → Round
@@ -51,20 +51,22 @@ erasedTo s marked (suc n) p =
     let r = erasedTo s marked n p in
     round (blockErased s marked n (r .progress))
     (cond (failedAt s marked n (r .progress)) (withBit (r .invalid) n) (r .invalid))
-    (max (r .above) (aboveAt s marked n (r .progress)))
+    (max (r .greatest) (greatestAt s marked n (r .progress)))
 
 -- one block of the first round
-pub record BlockDone (s : Setting) (marked : List ℕ) (l m : Line) (o : Outcome) (block failed above : ℕ) : Type 0 where
+pub record BlockDone (s : Setting) (marked : List ℕ) (l m : Line) (o : Outcome) (block failed greatest : ℕ) : Type 0 where
   pub line-is : (cs : List Cycle) (os : List ArrayOperation) → m ≡ blockErased s marked block (progress l Passed cs os) .line
   pub outcome-is : (cs : List Cycle) (os : List ArrayOperation) → o ≡ blockErased s marked block (progress l Passed cs os) .outcome
   pub next : isPassed o ≡ true → Called s m
   pub failed-is : isPassed o ≡ true → (cs : List Cycle) (os : List ArrayOperation) → failed ≡ cond (failedAt s marked block (progress l Passed cs os)) 1 0
-  pub above-is : isPassed o ≡ true → (cs : List Cycle) (os : List ArrayOperation) → above ≡ aboveAt s marked block (progress l Passed cs os)
+  pub greatest-is : isPassed o ≡ true → (cs : List Cycle) (os : List ArrayOperation) → greatest ≡ greatestAt s marked block (progress l Passed cs os)
+  pub greatest-fits : isPassed o ≡ true → greatest < 256 ^ 4
 
 -- the first round
-pub record RoundDone (s : Setting) (marked : List ℕ) (l m : Line) (o : Outcome) (invalid : List ℕ) (above : ℕ) : Type 0 where
+pub record RoundDone (s : Setting) (marked : List ℕ) (l m : Line) (o : Outcome) (invalid : List ℕ) (greatest : ℕ) : Type 0 where
   pub line-is : (cs : List Cycle) (os : List ArrayOperation) → m ≡ erasedTo s marked (s .geometry .blocks) (progress l Passed cs os) .progress .line
   pub outcome-is : (cs : List Cycle) (os : List ArrayOperation) → o ≡ erasedTo s marked (s .geometry .blocks) (progress l Passed cs os) .progress .outcome
   pub next : isPassed o ≡ true → Called s m
   pub invalid-is : isPassed o ≡ true → (cs : List Cycle) (os : List ArrayOperation) → invalid ≡ erasedTo s marked (s .geometry .blocks) (progress l Passed cs os) .invalid
-  pub above-is : isPassed o ≡ true → (cs : List Cycle) (os : List ArrayOperation) → above ≡ erasedTo s marked (s .geometry .blocks) (progress l Passed cs os) .above
+  pub greatest-is : isPassed o ≡ true → (cs : List Cycle) (os : List ArrayOperation) → greatest ≡ erasedTo s marked (s .geometry .blocks) (progress l Passed cs os) .greatest
+  pub greatest-fits : isPassed o ≡ true → greatest < 256 ^ 4

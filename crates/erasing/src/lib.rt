@@ -14,24 +14,24 @@ ghost use Rattle.operations.specs.Ends.{Called};
 ghost use Rattle.bitmaps.specs.Bitmap.{withBit};
 ghost use Rattle.erasing.specs.Round.{BlockDone, RoundDone};
 
-// The bus after one block of the first round, how its last operation ended, 1 where the erase failed, and then one above
-// the greatest number on a whole page.
+// The bus after one block of the first round, how its last operation ended, 1 where the erase failed, and then the greatest
+// number on a whole page, 0 if there is none.
 struct BlockErased {
     bus: Bus,
     outcome: Outcome,
     failed: usize,
-    above: u64,
+    greatest: u64,
 }
 
 // The end of a block whose erase did not fail.
 fn not_failed(bus: Bus, outcome: Outcome) -> BlockErased
-    ensures { λ r. ⌜ r ≡ record { bus = bus; outcome = outcome; failed = 0; above = 0 } ⌝ }
+    ensures { λ r. ⌜ r ≡ record { bus = bus; outcome = outcome; failed = 0; greatest = 0 } ⌝ }
 {
     BlockErased {
         bus,
         outcome,
         failed: 0,
-        above: 0,
+        greatest: 0,
     }
 }
 
@@ -51,7 +51,7 @@ fn erase_block(
     requires { ⌜ Called (setting g (now mask) (now fates)) (line from (now array) (now register) (now history)) ⌝ }
     requires { ⌜ block < g .blocks ⌝ }
     requires { ⌜ length (now page) ≡ pageSize g ⌝ }
-    ensures { λ r. ⌜ BlockDone (setting g (now (mask .entry)) (now (fates .entry))) (now (marked .entry)) (line from (now (array .entry)) (now (register .entry)) (now (history .entry))) (line (r .bus) (now (array .exit)) (now (register .exit)) (now (history .exit))) (r .outcome) block (r .failed) (r .above) ⌝ }
+    ensures { λ r. ⌜ BlockDone (setting g (now (mask .entry)) (now (fates .entry))) (now (marked .entry)) (line from (now (array .entry)) (now (register .entry)) (now (history .entry))) (line (r .bus) (now (array .exit)) (now (register .exit)) (now (history .exit))) (r .outcome) block (r .failed) (r .greatest) ⌝ }
 {
     if bitmaps::is_set(marked, block) {
         return not_failed(from, Outcome::Passed);
@@ -83,17 +83,17 @@ fn erase_block(
         bus,
         outcome: ended,
         failed: 1,
-        above: summary.above,
+        greatest: summary.greatest,
     }
 }
 
-// The bus after the first round, how its last operation ended, the blocks that failed, and one above the greatest number
-// on a whole page of them.
+// The bus after the first round, how its last operation ended, the blocks that failed, and the greatest number on a whole
+// page of them, 0 if there is none.
 pub struct Erased {
     pub bus: Bus,
     pub outcome: Outcome,
     pub invalid: [u8; 512],
-    pub above: u64,
+    pub greatest: u64,
 }
 
 // Sets the bit of a block whose erase failed.
@@ -130,11 +130,11 @@ pub fn erase_all(
 ) -> Erased
     requires { ⌜ Called (setting g (now mask) (now fates)) (line from (now array) (now register) (now history)) ⌝ }
     requires { ⌜ length (now page) ≡ pageSize g ⌝ }
-    ensures { λ r. ⌜ RoundDone (setting g (now (mask .entry)) (now (fates .entry))) (now (marked .entry)) (line from (now (array .entry)) (now (register .entry)) (now (history .entry))) (line (r .bus) (now (array .exit)) (now (register .exit)) (now (history .exit))) (r .outcome) (r .invalid) (r .above) ⌝ }
+    ensures { λ r. ⌜ RoundDone (setting g (now (mask .entry)) (now (fates .entry))) (now (marked .entry)) (line from (now (array .entry)) (now (register .entry)) (now (history .entry))) (line (r .bus) (now (array .exit)) (now (register .exit)) (now (history .exit))) (r .outcome) (r .invalid) (r .greatest) ⌝ }
 {
     let mut b = from;
     let mut invalid = [0u8; 512];
-    let mut above: u64 = 0;
+    let mut greatest: u64 = 0;
     let mut block: usize = 0;
     let blocks = g.blocks;
     while block < blocks {
@@ -157,17 +157,17 @@ pub fn erase_all(
                 bus: b,
                 outcome,
                 invalid,
-                above,
+                greatest,
             };
         };
         note_failed(&mut invalid, block, done.failed);
-        above = greater(above, done.above);
+        greatest = greater(greatest, done.greatest);
         block += 1;
     }
     Erased {
         bus: b,
         outcome: Outcome::Passed,
         invalid,
-        above,
+        greatest,
     }
 }

@@ -11,17 +11,17 @@ use Rattle.geometry.specs.Sizes.{pageSize}
 use Rattle.pages.specs.Layout.{label, encoded}
 use Rattle.pages.proofs.ByteLaws.{width-le}
 use Rattle.pages.proofs.LayoutLaws.{length-encoded}
-use Rattle.fill.specs.Fill.{copy, pageOf}
+use Rattle.fill.specs.Fill.{copy, copyPage}
 
 -- a page as it is finished
 pub as-page : (g : Geometry) (kind logical number place : ℕ) (page bytes : List ℕ) → length page ≡ pageSize g
-    → bytes ≡ encoded (length page - g .main) (label kind logical place number) (take (g .main) page) → bytes ≡ pageOf g (copy kind logical number) place (take (g .main) page)
+    → bytes ≡ encoded (length page - g .main) (label kind logical place number) (take (g .main) page) → bytes ≡ copyPage g (copy kind logical number) place (take (g .main) page)
 as-page g kind logical number place page bytes h e =
     let spare : length page - g .main ≡ g .spare = omega (arith, h) in
     e ∙ ap (λ (k : ℕ). encoded k (label kind logical place number) (take (g .main) page)) spare
 
 -- it is as long as a page
-pub page-long : (g : Geometry) → Valid g → (kind logical number place : ℕ) (main : List ℕ) → length main ≡ g .main → length (pageOf g (copy kind logical number) place main) ≡ pageSize g
+pub page-long : (g : Geometry) → Valid g → (kind logical number place : ℕ) (main : List ℕ) → length main ≡ g .main → length (copyPage g (copy kind logical number) place main) ≡ pageSize g
 page-long g v kind logical number place main h =
     length-encoded (g .spare) (label kind logical place number) main (omega (arith, width-le kind, v .spare-least)) ∙ ap (λ (k : ℕ). k + g .spare) h
 

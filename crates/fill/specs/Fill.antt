@@ -41,8 +41,8 @@ pub data Source : Type 0 where
   kept : ℕ → Source
 
 -- page n of a copy with these main bytes
-abbrev pub pageOf : Geometry → Copy → ℕ → List ℕ → List ℕ
-pageOf g c n main = encoded (g .spare) (label (c .kind) (c .logical) n (c .number)) main
+abbrev pub copyPage : Geometry → Copy → ℕ → List ℕ → List ℕ
+copyPage g c n main = encoded (g .spare) (label (c .kind) (c .logical) n (c .number)) main
 
 -- the main bytes of page n; those of a kept page are read, main bytes only
 unfoldable pub mainOf : Geometry → List ℕ → ℕ → Source → List ℕ
@@ -56,7 +56,7 @@ mainRead s n (kept old) p = readOn s (rowOf (s .geometry) old n) 0 (s .geometry 
 -- page n is filled; one that is kept is read just before its program
 unfoldable pub pageFilled : Setting → ℕ → Copy → ℕ → Source → Progress → Progress
 pageFilled s block c n source p =
-    programOn s block n (pageOf (s .geometry) c n (mainOf (s .geometry) (p .line .chip .array) n source))
+    programOn s block n (copyPage (s .geometry) c n (mainOf (s .geometry) (p .line .chip .array) n source))
     (mainRead s n source p)
 
 -- the first n pages

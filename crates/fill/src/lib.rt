@@ -16,7 +16,7 @@ ghost use Rattle.polling.specs.Polling.{outcomeOf};
 ghost use Rattle.sequences.specs.Cycles.{programCycles};
 ghost use Rattle.operations.specs.Ends.{Called};
 ghost use Rattle.progress.specs.Steps.{ComesTo};
-ghost use Rattle.fill.specs.Fill.{copy, pageOf, Fillable, mainOf, mainRead, erasedFor, dataSource, isGiven, givenMain};
+ghost use Rattle.fill.specs.Fill.{copy, copyPage, Fillable, mainOf, mainRead, erasedFor, dataSource, isGiven, givenMain};
 
 // What a copy holds beside the bytes that are given: its label, the block of the old copy (none where it is not on the chip),
 // and which pages are given, so many from the first on.
@@ -55,7 +55,7 @@ pub fn program_page(
     page: &mut [u8],
 ) -> Done
     requires { ⌜ Fillable g block place (content .kind) (content .logical) (content .number) (length (now page)) ⌝ }
-    ensures { λ r. ⌜ line (r .bus) (now (array .exit)) (now (register .exit)) (now (history .exit)) ≡ sendAll (setting g (now (mask .entry)) (now (fates .entry))) (line from (now (array .entry)) (now (register .entry)) (now (history .entry))) (programCycles (setting g (now (mask .entry)) (now (fates .entry))) (line from (now (array .entry)) (now (register .entry)) (now (history .entry))) (rowOf g block place) (pageOf g (copy (content .kind) (content .logical) (content .number)) place (take (g .main) (now (page .entry))))) ⌝ }
+    ensures { λ r. ⌜ line (r .bus) (now (array .exit)) (now (register .exit)) (now (history .exit)) ≡ sendAll (setting g (now (mask .entry)) (now (fates .entry))) (line from (now (array .entry)) (now (register .entry)) (now (history .entry))) (programCycles (setting g (now (mask .entry)) (now (fates .entry))) (line from (now (array .entry)) (now (register .entry)) (now (history .entry))) (rowOf g block place) (copyPage g (copy (content .kind) (content .logical) (content .number)) place (take (g .main) (now (page .entry))))) ⌝ }
     ensures { λ r. ⌜ r .outcome ≡ outcomeOf (line (r .bus) (now (array .exit)) (now (register .exit)) (now (history .exit))) ⌝ }
 {
     pages::finish_page(

@@ -19,7 +19,7 @@ use Rattle.operations.specs.Ends.{Called, CanProgram}
 use Rattle.operations.specs.Trace.{ArrayOperation}
 use Rattle.progress.specs.Progress.{Progress, progress}
 use Rattle.polling.proofs.OutcomeLaws.{is-passed, passed-answered}
-use Rattle.fill.specs.Fill.{Copy, Source, Fillable, pageOf, mainOf, mainRead, pageFilled, pagesFilled, filled, erasedFor, stepFilled, stepsFilled}
+use Rattle.fill.specs.Fill.{Copy, Source, Fillable, copyPage, mainOf, mainRead, pageFilled, pagesFilled, filled, erasedFor, stepFilled, stepsFilled}
 use Rattle.progress.specs.Steps.{eraseOn, programOn, ComesTo}
 use Rattle.progress.proofs.ComesLaws.{comes-still, comes-as, comes-on, comes-no-further, program-comes, program-order}
 use Rattle.progress.proofs.StepLaws.{program-stopped}
@@ -28,24 +28,24 @@ use Rattle.fill.proofs.FillLaws.{page-stopped, fill-stopped, steps-are, steps-f
 
 -- a page once its main bytes are there: the request has come to line m with outcome o
 module _ (s : Setting) (block : ℕ) (c : Copy) (n : ℕ) (source : Source) (l m : Line) (o : Outcome) (r : ComesTo s (mainRead s n source) l m o) where
-  page-fills : isPassed o ≡ true → (m' : Line) (o' : Outcome) → ComesTo s (programOn s block n (pageOf (s .geometry) c n (mainOf (s .geometry) (l .chip .array) n source))) m m' o' → ComesTo s (pageFilled s block c n source) l m' o'
+  page-fills : isPassed o ≡ true → (m' : Line) (o' : Outcome) → ComesTo s (programOn s block n (copyPage (s .geometry) c n (mainOf (s .geometry) (l .chip .array) n source))) m m' o' → ComesTo s (pageFilled s block c n source) l m' o'
   unfolding pageFilled
   page-fills t m' o' q =
-      let on = comes-on s (mainRead s n source) (programOn s block n (pageOf (s .geometry) c n (mainOf (s .geometry) (l .chip .array) n source))) l m o r t m' o' q in
+      let on = comes-on s (mainRead s n source) (programOn s block n (copyPage (s .geometry) c n (mainOf (s .geometry) (l .chip .array) n source))) l m o r t m' o' q in
       record { line-is = on .line-is; outcome-is = on .outcome-is; next-called = on .next-called }
 
   pub page-stops : isPassed o ≡ false → ComesTo s (pageFilled s block c n source) l m o
   unfolding pageFilled
   page-stops f =
-      let bytes = pageOf (s .geometry) c n (mainOf (s .geometry) (l .chip .array) n source) in
+      let bytes = copyPage (s .geometry) c n (mainOf (s .geometry) (l .chip .array) n source) in
       let on = comes-no-further s (mainRead s n source) (programOn s block n bytes) l m o r f (program-stopped s block n bytes) in
       record { line-is = on .line-is; outcome-is = on .outcome-is; next-called = on .next-called }
 
   -- its program leaves line m' and outcome o'
   module _ (t : isPassed o ≡ true) (page : List ℕ) (f : Fillable (s .geometry) block n (c .kind) (c .logical) (c .number) (length page)) (main-is : take (s .geometry .main) page ≡ mainOf (s .geometry) (l .chip .array) n source)
-      (in-order : getD (m .chip .history) block 0 ≤ n) (m' : Line) (o' : Outcome) (e : m' ≡ sendAll s m (programCycles s m (rowOf (s .geometry) block n) (pageOf (s .geometry) c n (take (s .geometry .main) page)))) (q : o' ≡ outcomeOf m') where
+      (in-order : getD (m .chip .history) block 0 ≤ n) (m' : Line) (o' : Outcome) (e : m' ≡ sendAll s m (programCycles s m (rowOf (s .geometry) block n) (copyPage (s .geometry) c n (take (s .geometry .main) page)))) (q : o' ≡ outcomeOf m') where
     bytes : List ℕ
-    bytes = pageOf (s .geometry) c n (mainOf (s .geometry) (l .chip .array) n source)
+    bytes = copyPage (s .geometry) c n (mainOf (s .geometry) (l .chip .array) n source)
 
     can-program : CanProgram s m block n bytes
     unfolding bytes
@@ -60,7 +60,7 @@ module _ (s : Setting) (block : ℕ) (c : Copy) (n : ℕ) (source : Source) (l m
 
     sent-is : m' ≡ sendAll s m (programCycles s m (rowOf (s .geometry) block n) bytes)
     unfolding bytes
-    sent-is = e ∙ ap (λ (x : List ℕ). sendAll s m (programCycles s m (rowOf (s .geometry) block n) (pageOf (s .geometry) c n x))) main-is
+    sent-is = e ∙ ap (λ (x : List ℕ). sendAll s m (programCycles s m (rowOf (s .geometry) block n) (copyPage (s .geometry) c n x))) main-is
 
     pub page-programmed : ComesTo s (pageFilled s block c n source) l m' o'
     unfolding bytes

@@ -6,7 +6,7 @@ use polling::Done;
 use polling::Outcome;
 ghost use mathlib.Core.Bool.{true};
 ghost use mathlib.Core.Path.{_≡_};
-ghost use Prim.Native.Nat.{_+_, _*_, _≤_, _<_};
+ghost use Prim.Native.Nat.{_+_, _*_, _≤_, _<_, _^_};
 ghost use lib.ListN.{length, getD};
 ghost use Rattle.geometry.specs.Sizes.{pageSize};
 ghost use Rattle.array.specs.Device.{setting};
@@ -14,6 +14,7 @@ ghost use Rattle.bus.specs.Line.{line};
 ghost use Rattle.polling.specs.Outcomes.{isPassed};
 ghost use Rattle.operations.specs.Ends.{Called};
 ghost use Rattle.progress.specs.Steps.{ComesTo};
+ghost use Rattle.pages.specs.Layout.{numberWidth, tableKind};
 ghost use Rattle.fill.specs.Fill.{copy, Fillable, stepFilled, filled, dataSource, tableFilled};
 
 // Fills one page of a copy, the step of every fill: it ends with one page program.
@@ -141,7 +142,7 @@ pub fn fill_table(
 ) -> Done
     requires { ⌜ Called (setting g (now mask) (now fates)) (line from (now array) (now register) (now history)) ⌝ }
     requires { ⌜ block < g .blocks ⌝ }
-    requires { ⌜ number < 4294967296 ⌝ }
+    requires { ⌜ number < 256 ^ numberWidth tableKind ⌝ }
     requires { ⌜ length (now page) ≡ pageSize g ⌝ }
     ensures { λ r. ⌜ ComesTo (setting g (now (mask .entry)) (now (fates .entry))) (tableFilled (setting g (now (mask .entry)) (now (fates .entry))) block number (now (invalid .entry))) (line from (now (array .entry)) (now (register .entry)) (now (history .entry))) (line (r .bus) (now (array .exit)) (now (register .exit)) (now (history .exit))) (r .outcome) ⌝ }
 {

@@ -31,8 +31,8 @@ pub marks-left : (s : Setting) (l m : Line) (o : Outcome) (marked : List ℕ) �
 marks-left s l m o marked d =
     omega (arith, marks-keep s _ (allowance-kept s _) (s .geometry .blocks) (progress l Passed [] []) refl, ap (λ (x : Line). x .left) (d .line-is [] []))
 
-pub round-left : (s : Setting) (marked : List ℕ) (l m : Line) (o : Outcome) (invalid : List ℕ) (above : ℕ) → RoundDone s marked l m o invalid above → m .left ≤ l .left
-round-left s marked l m o invalid above d =
+pub round-left : (s : Setting) (marked : List ℕ) (l m : Line) (o : Outcome) (invalid : List ℕ) (greatest : ℕ) → RoundDone s marked l m o invalid greatest → m .left ≤ l .left
+round-left s marked l m o invalid greatest d =
     omega (arith, round-keeps s _ (allowance-kept s _) marked (s .geometry .blocks) (progress l Passed [] []) refl, ap (λ (x : Line). x .left) (d .line-is [] []))
 
 -- the end after an operation that did not pass
@@ -69,7 +69,7 @@ module _ (s : Setting) (n : ℕ) (l m : Line) (o : Outcome) (marked : List ℕ) 
         ∙ ap (λ (x : List ℕ). endOfRun n (roundRun s x q)) (marked-is cs os)
         ∙ rw passed
 
-module _ (s : Setting) (n : ℕ) (marked : List ℕ) (l m : Line) (o : Outcome) (invalid : List ℕ) (above : ℕ) (d : RoundDone s marked l m o invalid above) where
+module _ (s : Setting) (n : ℕ) (marked : List ℕ) (l m : Line) (o : Outcome) (invalid : List ℕ) (greatest : ℕ) (d : RoundDone s marked l m o invalid greatest) where
   pub round-stop : isPassed o ≡ false → (a : ℕ) (st : State) → a ≡ stopAnswer o → st ≡ blank 2 → (cs : List Cycle) (os : List ArrayOperation) → endAt n a st m ≡ endOfRun n (roundRun s marked (progress l Passed cs os))
   unfolding roundRun
   round-stop f a st h k cs os =
@@ -77,15 +77,15 @@ module _ (s : Setting) (n : ℕ) (marked : List ℕ) (l m : Line) (o : Outcome) 
       let stops : isPassed (q .outcome) ≡ false = sym (ap isPassed (d .outcome-is cs os)) ∙ f in
       rw stops (stop-is n q m o a st (d .line-is cs os) (d .outcome-is cs os) h k)
 
-  pub round-goes-on : isPassed o ≡ true → (r : Result) → ((cs : List Cycle) (os : List ArrayOperation) → r ≡ endOfRun n (tablesRun s marked invalid above (progress m Passed cs os))) → (cs : List Cycle) (os : List ArrayOperation) → r ≡ endOfRun n (roundRun s marked (progress l Passed cs os))
+  pub round-goes-on : isPassed o ≡ true → (r : Result) → ((cs : List Cycle) (os : List ArrayOperation) → r ≡ endOfRun n (tablesRun s marked invalid greatest (progress m Passed cs os))) → (cs : List Cycle) (os : List ArrayOperation) → r ≡ endOfRun n (roundRun s marked (progress l Passed cs os))
   unfolding roundRun
   round-goes-on t r f cs os =
       let e = erasedTo s marked (s .geometry .blocks) (progress l Passed cs os) in
       let q = e .progress in
       let passed : isPassed (q .outcome) ≡ true = sym (ap isPassed (d .outcome-is cs os)) ∙ t in
       let same : progress m Passed (q .cycles) (q .started) ≡ q = λ i. record { line = d .line-is cs os i; outcome = (sym (is-passed o t) ∙ d .outcome-is cs os) i; cycles = q .cycles; started = q .started } in
-      let all : endOfRun n (tablesRun s marked invalid above (progress m Passed (q .cycles) (q .started))) ≡ endOfRun n (tablesRun s marked (e .invalid) (e .above) q) =
-      λ i. endOfRun n (tablesRun s marked (d .invalid-is t cs os i) (d .above-is t cs os i) (same i)) in
+      let all : endOfRun n (tablesRun s marked invalid greatest (progress m Passed (q .cycles) (q .started))) ≡ endOfRun n (tablesRun s marked (e .invalid) (e .greatest) q) =
+      λ i. endOfRun n (tablesRun s marked (d .invalid-is t cs os i) (d .greatest-is t cs os i) (same i)) in
       f (q .cycles) (q .started) ∙ all ∙ rw passed
 
 -- a formatting ends at the operation that did not pass

@@ -2,7 +2,7 @@
 use Prim.Native.Nat.{ℕ, _+_, _-_}
 use mathlib.Core.Bool.{Bool, cond}
 use mathlib.Core.List.{List, []}
-use lib.Dec.{eqb, ltb}
+use lib.Dec.{ltb}
 use lib.ListN.{replicate}
 use Rattle.geometry.specs.declared.Geometry.{Geometry}
 use Rattle.array.specs.Device.{Device, Setting}
@@ -11,17 +11,18 @@ use Rattle.polling.specs.declared.Outcome.the-variants.{Passed}
 use Rattle.progress.specs.Progress.{Progress, progress, resetOn}
 use Rattle.found.specs.Found.{marksTo}
 use Rattle.choose.specs.Choose.{countPermitted}
-use Rattle.state.specs.State.{blank}
+use Rattle.state.specs.State.{blank, mountedWith, numbersLeft}
 use Rattle.state.specs.declared.State.{State}
 use Rattle.calls.specs.Call.{Result, result, sizedFor, callLine, stopAnswer, endAt}
-use Rattle.tables.specs.Tables.{Tabled, tabled, tablesFilled, numbersLeft}
+use Rattle.tables.specs.Tables.{Tabled, tabled, tablesFilled}
 use Rattle.marks.specs.Marks.{marksRead}
 use Rattle.erasing.specs.Round.{erasedTo}
 
--- the state before the first table: formatting starts at block 0, and no logical block has a copy
+-- the state before the first table: numbers start one above the greatest on a whole page read, at 1 if none, and the search
+-- at block 0; no logical block has a copy
 unfoldable pub firstState : Geometry → List ℕ → List ℕ → ℕ → State
-firstState g marked invalid above =
-    record { status = 1; table = 0; last = g .blocks - 1; number = cond (eqb above 0) 1 above; marked = marked; invalid = invalid; map = replicate 4096 65535 }
+firstState g marked invalid greatest =
+    mountedWith (greatest + 1) 0 (g .blocks - 1) marked invalid (replicate 4096 65535)
 
 -- under N + 2 blocks are unmarked and valid
 unfoldable pub tooFew : Geometry → List ℕ → List ℕ → Bool
@@ -33,18 +34,18 @@ stopped p = tabled p (stopAnswer (p .outcome)) (blank 2)
 
 -- the count of blocks, then table fills
 abbrev pub tablesOf : Setting → List ℕ → List ℕ → ℕ → Progress → Tabled
-tablesOf s marked invalid above p =
-    tablesFilled s (replicate 512 0) (numbersLeft (firstState (s .geometry) marked invalid above)) (firstState (s .geometry) marked invalid above) p
+tablesOf s marked invalid greatest p =
+    tablesFilled s (replicate 512 0) (numbersLeft (firstState (s .geometry) marked invalid greatest)) (firstState (s .geometry) marked invalid greatest) p
 
 unfoldable pub tablesRun : Setting → List ℕ → List ℕ → ℕ → Progress → Tabled
-tablesRun s marked invalid above p =
-    cond (tooFew (s .geometry) marked invalid) (tabled p 8 (blank 2)) (tablesOf s marked invalid above p)
+tablesRun s marked invalid greatest p =
+    cond (tooFew (s .geometry) marked invalid) (tabled p 8 (blank 2)) (tablesOf s marked invalid greatest p)
 
 -- the first round of erases and what follows it
 unfoldable pub roundRun : Setting → List ℕ → Progress → Tabled
 roundRun s marked p =
     let r = erasedTo s marked (s .geometry .blocks) p in
-    cond (isPassed (r .progress .outcome)) (tablesRun s marked (r .invalid) (r .above) (r .progress)) (stopped (r .progress))
+    cond (isPassed (r .progress .outcome)) (tablesRun s marked (r .invalid) (r .greatest) (r .progress)) (stopped (r .progress))
 
 -- the marks and what follows them
 unfoldable pub marksRun : Setting → Progress → Tabled

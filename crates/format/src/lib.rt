@@ -18,28 +18,18 @@ ghost use Rattle.polling.specs.declared.Outcome.the-variants.{Passed};
 ghost use Rattle.operations.specs.Ends.{Called};
 ghost use Rattle.operations.specs.Trace.{ArrayOperation};
 ghost use Rattle.progress.specs.Progress.{progress};
+ghost use Rattle.state.specs.State.{numberEnd};
 ghost use Rattle.calls.specs.Call.{result};
 ghost use Rattle.format.specs.Format.{endOfRun, firstState, tablesRun, roundRun, marksRun, formatting};
 
 // The state before the first table: the search starts at block 0, and no logical block has a copy.
-fn first_state(g: Geometry, marked: [u8; 512], invalid: [u8; 512], above: u64) -> State
+fn first_state(g: Geometry, marked: [u8; 512], invalid: [u8; 512], greatest: u64) -> State
     requires { ⌜ Valid g ⌝ }
-    ensures { λ r. ⌜ r ≡ firstState g marked invalid above ⌝ }
+    requires { ⌜ greatest < numberEnd ⌝ }
+    ensures { λ r. ⌜ r ≡ firstState g marked invalid greatest ⌝ }
 {
     let last = g.blocks - 1;
-    let mut number = above;
-    if above == 0 {
-        number = 1;
-    }
-    State {
-        status: 1,
-        table: 0,
-        last,
-        number,
-        marked,
-        invalid,
-        map: [65535; 4096],
-    }
+    State::mounted_above(greatest, 0, last, marked, invalid, [65535; 4096])
 }
 
 // The count of blocks, and table fills until one passes.
@@ -53,20 +43,21 @@ fn fill_first(
     fates: &[u32],
     marked: [u8; 512],
     invalid: [u8; 512],
-    above: u64,
+    greatest: u64,
     page: &mut [u8],
     allowed: u32,
 ) -> Returned
     requires { ⌜ Called (setting g (now mask) (now fates)) (line from (now array) (now register) (now history)) ⌝ }
     requires { ⌜ length (now page) ≡ pageSize g ⌝ }
     requires { ⌜ from .left ≤ allowed ⌝ }
-    ensures { λ r. ⌜ ((cs : List Cycle) (os : List ArrayOperation) → result (r .answer) (r .state) (device (r .interface) (now (array .exit)) (now (register .exit)) (now (history .exit))) (r .sent) ≡ endOfRun allowed (tablesRun (setting g (now (mask .entry)) (now (fates .entry))) marked invalid above (progress (line from (now (array .entry)) (now (register .entry)) (now (history .entry))) Passed cs os))) ⌝ }
+    requires { ⌜ greatest < numberEnd ⌝ }
+    ensures { λ r. ⌜ ((cs : List Cycle) (os : List ArrayOperation) → result (r .answer) (r .state) (device (r .interface) (now (array .exit)) (now (register .exit)) (now (history .exit))) (r .sent) ≡ endOfRun allowed (tablesRun (setting g (now (mask .entry)) (now (fates .entry))) marked invalid greatest (progress (line from (now (array .entry)) (now (register .entry)) (now (history .entry))) Passed cs os))) ⌝ }
 {
     let held = [0u8; 512];
     if choose::count_permitted(&marked, &invalid, &held, g.blocks) < g.logical + 2 {
         return calls::end(8, State::blank(2), from, allowed);
     }
-    let first = first_state(g, marked, invalid, above);
+    let first = first_state(g, marked, invalid, greatest);
     let tabled = tables::fill_tables(
         from,
         g,
@@ -120,7 +111,7 @@ fn erase_and_fill(
         return calls::end(calls::stop_answer(outcome), State::blank(2), b, allowed);
     };
     let invalid = erased.invalid;
-    let above = erased.above;
+    let greatest = erased.greatest;
     let mut first = [0u8; 4352];
     fill_first(
         b,
@@ -132,7 +123,7 @@ fn erase_and_fill(
         fates,
         marked,
         invalid,
-        above,
+        greatest,
         &mut first[0..size],
         allowed,
     )

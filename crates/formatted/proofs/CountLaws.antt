@@ -13,9 +13,9 @@ use Rattle.bitmaps.specs.Bitmap.{bitAt}
 use Rattle.operations.specs.Trace.{ArrayOperation}
 use Rattle.copies.specs.Blocks.{blockIn, isMarked}
 use Rattle.choose.specs.Choose.{permitted, countPermitted}
-use Rattle.state.proofs.MountedLaws.{blank-clear}
 use Rattle.runs.specs.Run.{failedIn}
 use Rattle.formatted.specs.Formatting.{unfailed}
+use Rattle.bitmaps.proofs.BitmapLaws.{blank-bit}
 
 module _ (g : Geometry) (array : List ℕ) (trace : List ArrayOperation) where
   -- as many as are permitted by bitmaps of the marks and of the failures
@@ -25,7 +25,7 @@ module _ (g : Geometry) (array : List ℕ) (trace : List ArrayOperation) where
   count-unfailed marked invalid zero room m f = refl
   count-unfailed marked invalid (suc n) room m f =
       let less = count-unfailed marked invalid n (omega (arith, room)) (λ b h. m b (omega (arith, h))) (λ b h. f b (omega (arith, h))) in
-      let clear = blank-clear n (omega (arith, room)) in
+      let clear = blank-bit 512 n in
       cases (bitAt marked n)
       (λ t. rw (m n (omega arith), t, less))
       (λ t.

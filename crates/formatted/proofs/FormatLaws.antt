@@ -25,21 +25,22 @@ use Rattle.operations.specs.Trace.{ArrayOperation}
 use Rattle.copies.specs.Blocks.{blockIn, pageIn, isMarked}
 use Rattle.copies.specs.Current.{currentTable, filledLast, nextNumber}
 use Rattle.choose.specs.Choose.{permitted, countPermitted}
-use Rattle.state.specs.State.{blank}
-use Rattle.state.proofs.MountedLaws.{blank-clear}
+use Rattle.state.specs.State.{blank, numbersLeft}
+use Rattle.state.specs.State as state
+use Rattle.state.proofs.NumberLaws.{mounted-told}
 use Rattle.state.specs.declared.State.{State}
 use Rattle.found.specs.Contents.{mapOf}
 use Rattle.found.specs.Found.{bitsAt, marksTo}
 use Rattle.calls.specs.Call.{sizedFor, callLine, stopAnswer}
 use Rattle.calls.proofs.CallLaws.{sizes, stop-answer, stop-cut, stop-silent}
 use Rattle.progress.specs.Progress.{Progress, progress, readOn, resetOn}
-use Rattle.fill.specs.Fill.{tableCopy, tableMain, pageOf}
+use Rattle.fill.specs.Fill.{tableCopy, tableMain, copyPage}
 use Rattle.mount.specs.Mount.{mountedState, blockOf}
 use Rattle.mount.proofs.MountLaws.{mark-bit}
 use Rattle.marks.specs.Marks.{marksRead}
 use Rattle.erasing.specs.Round.{Round, erasedTo}
 use Rattle.erasing.proofs.RoundLaws.{round-stopped}
-use Rattle.tables.specs.Tables.{Tabled, tabled, numbersLeft}
+use Rattle.tables.specs.Tables.{Tabled, tabled}
 use Rattle.format.specs.Format.{firstState, tooFew, stopped, tablesOf, tablesRun, roundRun, marksRun, formatRun}
 use Rattle.runs.specs.Run.{failedIn, NoneFailed, Sound, Unchanged, Spent, readMost, blockOn, Slow, Failing, tableFillMost}
 use Rattle.runs.proofs.PlaceLaws.{page-erased}
@@ -50,6 +51,7 @@ use Rattle.formatted.proofs.TablesLaws.{Ready, Done, Left, tables-leave
 use Rattle.formatted.proofs.RoundLaws.{Rounded, round-leaves}
 use Rattle.formatted.proofs.CountLaws.{count-unfailed, none-unfailed, some-unfailed}
 use Rattle.formatted.specs.Formatting.{Formatted, FormatAnswer, is-worn, is-silent, is-cut, unfailed, roundFrom, roundDone, blockMost, formatMost}
+use Rattle.bitmaps.proofs.BitmapLaws.{blank-bit}
 
 -- how a formatting of chip d ends that may send n cycles, whatever fails or is cut
 pub record FormatLeft (s : Setting) (d : Device) (n : ℕ) (t : Tabled) : Type 0 where
@@ -203,7 +205,7 @@ module _ (s : Setting) (v : Valid (s .geometry)) (mask-bytes : Bytes (s .mask)) 
   -- the first round passed
   module _ (y : isPassed (r .progress .outcome) ≡ true) where
     abbrev first : State
-    first = firstState g marked (r .invalid) (r .above)
+    first = firstState g marked (r .invalid) (r .greatest)
 
     erased-row : (b : ℕ) → b < g .blocks → bitAt marked b ≡ false → bitAt (r .invalid) b ≡ false → blockOn s (r .progress) b ≡ replicate (blockSize g) 255
     erased-row b h = rounded .erased y b h
@@ -218,10 +220,6 @@ module _ (s : Setting) (v : Valid (s .geometry)) (mask-bytes : Bytes (s .mask)) 
         (λ i.
         erased-unmarked g v (blockOn s (r .progress) b) (λ k l. ap (λ (row : List ℕ). pageIn g row k) (erased-row b h f i) ∙ page-erased g k l) ∙ sym f))
 
-    number-above : r .above ≤ first .number
-    unfolding firstState
-    number-above = cases (eqb (r .above) 0) (λ z. rw z (omega (arith, eqb-true (r .above) 0 z))) (λ z. rw z (omega arith))
-
     ready : Ready s (r .progress) first
     unfolding firstState
     ready =
@@ -229,17 +227,18 @@ module _ (s : Setting) (v : Valid (s .geometry)) (mask-bytes : Bytes (s .mask)) 
           passed = y;
           sound = rounded .sound;
           last-below = omega (arith, v .blocks-least);
+          number-some = omega arith;
           invalid-bits = rounded .invalid-bits;
           marks = marks-after;
           erased = erased-row;
-          listed = λ b h m t. omega (arith, rounded .numbers y b h t, number-above);
+          listed = λ b h m t. omega (arith, rounded .numbers y b h t);
           apart = rounded .apart;
           failures = rounded .failures;
           failed-by = rounded .failed-by;
         }
 
     abbrev t : Tabled
-    t = tablesOf s marked (r .invalid) (r .above) (r .progress)
+    t = tablesOf s marked (r .invalid) (r .greatest) (r .progress)
 
     left : Left s (replicate 512 0) first (r .progress) t
     left = tables-leave s mask-bytes (replicate 512 0) (numbersLeft first) first (r .progress) ready (omega arith)
@@ -263,10 +262,10 @@ module _ (s : Setting) (v : Valid (s .geometry)) (mask-bytes : Bytes (s .mask)) 
       state-is =
           let table-is : t .state .table ≡ blockOf (currentTable g after) = sym (ap blockOf (settled.current-is (d .settled))) in
           let last-is : t .state .last ≡ blockOf (filledLast g after) = d .last-is ∙ sym (ap blockOf (settled.last-is (d .settled))) in
-          let number-is : t .state .number ≡ nextNumber g after = d .number-is ∙ sym (settled.next-is (d .settled)) in
+          let number-is : state.nextNumber (t .state) ≡ nextNumber g after = d .number-is ∙ sym (settled.next-is (d .settled)) in
           let invalid-is : t .state .invalid ≡ bitsAt g after (blockOf (currentTable g after)) = sym (settled.bitmap-back (d .settled)) ∙ ap (bitsAt g after) table-is in
           let map-is : t .state .map ≡ mapOf g after (blockOf (currentTable g after)) = d .map-same ∙ sym (settled.map-blank (d .settled)) ∙ ap (mapOf g after) table-is in
-          λ i. record { status = d .status-same i; table = table-is i; last = last-is i; number = number-is i; marked = marked-is i; invalid = invalid-is i; map = map-is i }
+          mounted-told (t .state) (d .status-same) number-is table-is last-is marked-is invalid-is map-is
 
       formats : Formatted g after (t .state)
       formats =
@@ -275,7 +274,7 @@ module _ (s : Setting) (v : Valid (s .geometry)) (mask-bytes : Bytes (s .mask)) 
             lists-are = settled.lists-invalid (d .settled);
             number-next = d .number-is ∙ ap (λ (k : ℕ). k + 1) (sym (settled.number-is (d .settled)));
             table-pages = λ i h.
-                d .settled .table-pages i h ∙ ap (λ (k : ℕ). pageOf g (tableCopy k) i (tableMain g (t .state .invalid) i)) (sym (settled.number-is (d .settled)));
+                d .settled .table-pages i h ∙ ap (λ (k : ℕ). copyPage g (tableCopy k) i (tableMain g (t .state .invalid) i)) (sym (settled.number-is (d .settled)));
             erased = λ b h x m l. d .settled .erased b h x m (sym (settled.lists-invalid (d .settled) b h) ∙ l);
             only-table = λ b h c l. settled.only-table (d .settled) b h c (sym (settled.lists-invalid (d .settled) b h) ∙ l);
             mounts = settled.mounts-well (d .settled);
@@ -301,17 +300,14 @@ module _ (s : Setting) (v : Valid (s .geometry)) (mask-bytes : Bytes (s .mask)) 
         let free : bitAt marked b ≡ false = sym (mark-is b h) ∙ m in
         cases (bitAt (r .invalid) b)
         (λ i. left .failed-kept b (rounded .failures b h ∙ i))
-        (λ i. left .worn-by z b h (rw (free, i, blank-clear b (omega (arith, h, v .blocks-most)))))
+        (λ i. left .worn-by z b h (rw (free, i, blank-bit 512 b)))
 
     -- spent: an erase failed, or a fill
     spent-failing : t .answer ≡ 9 → Failing (s .fates)
     unfolding firstState
     spent-failing z =
         ⊎-elim
-        (λ most.
-        cases (eqb (r .above) 0)
-        (λ e. absurd (omega (arith, rw e at most)))
-        (λ e. rounded .above-by (eqb-false (r .above) 0 e)))
+        (λ most. rounded .greatest-by (λ z. omega (arith, most, z)))
         (λ f. f)
         (left .spent-by z)
 
@@ -336,7 +332,7 @@ module _ (s : Setting) (v : Valid (s .geometry)) (mask-bytes : Bytes (s .mask)) 
     unfolding tooFew
     many-blocks enough less = omega (arith, less, round-count, ltb-false (countPermitted marked (r .invalid) (replicate 512 0) (g .blocks)) (g .logical + 2) enough)
 
-    tables-whole : Whole s p (tablesRun s marked (r .invalid) (r .above) (r .progress))
+    tables-whole : Whole s p (tablesRun s marked (r .invalid) (r .greatest) (r .progress))
     unfolding tablesRun
     tables-whole =
         cases (tooFew g marked (r .invalid))

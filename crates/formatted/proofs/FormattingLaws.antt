@@ -41,9 +41,9 @@ use Rattle.formatted.proofs.CountLaws.{all-unfailed}
 
 -- what every operation keeps, a formatting keeps
 module _ (s : Setting) (P : Progress → Type 0) (k : Kept s P) where
-  tables-run-keeps : (marked invalid : List ℕ) (above : ℕ) (p : Progress) → P p → P (tablesRun s marked invalid above p .progress)
+  tables-run-keeps : (marked invalid : List ℕ) (greatest : ℕ) (p : Progress) → P p → P (tablesRun s marked invalid greatest p .progress)
   unfolding tablesRun
-  tables-run-keeps marked invalid above p h =
+  tables-run-keeps marked invalid greatest p h =
       cases (tooFew (s .geometry) marked invalid) (λ t. rw t h) (λ t. rw t (tables-keep s P k _ _ _ p h))
 
   round-run-keeps : (marked : List ℕ) (p : Progress) → P p → P (roundRun s marked p .progress)
@@ -51,7 +51,7 @@ module _ (s : Setting) (P : Progress → Type 0) (k : Kept s P) where
   round-run-keeps marked p h =
       let r = erasedTo s marked (s .geometry .blocks) p in
       let here = round-keeps s P k marked (s .geometry .blocks) p h in
-      cases (isPassed (r .progress .outcome)) (λ t. rw t (tables-run-keeps marked (r .invalid) (r .above) (r .progress) here)) (λ t. rw t here)
+      cases (isPassed (r .progress .outcome)) (λ t. rw t (tables-run-keeps marked (r .invalid) (r .greatest) (r .progress) here)) (λ t. rw t here)
 
   marks-run-keeps : (p : Progress) → P p → P (marksRun s p .progress)
   unfolding marksRun

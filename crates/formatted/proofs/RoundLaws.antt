@@ -23,23 +23,22 @@ use Rattle.bitmaps.proofs.BitLaws.{bit-set, bit-kept}
 use Rattle.array.specs.Device.{Setting}
 use Rattle.polling.specs.Outcomes.{isPassed, isFailed, isIllegal, isCut, isReadEnd, isSilent}
 use Rattle.operations.specs.Ends.{Called}
-use Rattle.copies.specs.Blocks.{blockIn, markByte, isMarked, aboveTo}
+use Rattle.copies.specs.Blocks.{blockIn, markByte, isMarked, greatestTo}
 use Rattle.copies.proofs.PickLaws.{up-to}
 use Rattle.progress.specs.Progress.{Progress}
 use Rattle.block_scan.specs.Pages.{pagesRead}
 use Rattle.progress.specs.Steps.{eraseOn, resumed}
 use Rattle.polling.proofs.OutcomeLaws.{passed-answered, failed-answered, read-end-unfailed, failed-unpassed, unfailed-end}
 use Rattle.progress.proofs.StepLaws.{erase-stopped}
-use Rattle.erasing.specs.Round.{Round, round, afterErase, blockErased, failedAt, aboveAt, erasedTo}
+use Rattle.erasing.specs.Round.{Round, round, afterErase, blockErased, failedAt, erasedTo, greatestAt}
 use Rattle.runs.specs.Run.{failedIn, NoneFailed, Sound, Unchanged, Erased, Spent, readMost, blockOn, Failing}
 use Rattle.runs.proofs.PlaceLaws.{block-long, page-within}
 use Rattle.runs.proofs.ReadLaws.{pages-unchanged, pages-spend, pages-calm}
 use Rattle.runs.proofs.TraceLaws.{unfailed-none}
 use Rattle.runs.proofs.EraseLaws.{erase-leaves}
 use Rattle.runs.proofs.CopyLaws.{no-mark}
-use Rattle.bitmaps.proofs.BitmapLaws.{Bitmap, bits-none, bits-more, bit-more}
+use Rattle.bitmaps.proofs.BitmapLaws.{Bitmap, bits-none, bits-more, bit-more, blank-bit}
 use Rattle.formatted.specs.Formatting.{blockMost}
-use Rattle.state.proofs.MountedLaws.{blank-clear}
 
 -- a block without a factory mark has none where bits of it are raised
 module _ (g : Geometry) (v : Valid g) (row ms : List ℕ) (long : length row ≡ blockSize g) (bytes : Bytes ms) where
@@ -78,18 +77,18 @@ pub record Rounded (s : Setting) (marked : List ℕ) (p : Progress) (n : ℕ) (r
   pub later : (b : ℕ) → b < s .geometry .blocks → n ≤ b → bitAt (r .invalid) b ≡ false
   pub erased : isPassed (r .progress .outcome) ≡ true → (b : ℕ) → b < n → bitAt marked b ≡ false → bitAt (r .invalid) b ≡ false → blockOn s (r .progress) b ≡ replicate (blockSize (s .geometry)) 255
   pub unmarked : isPassed (r .progress .outcome) ≡ true → (b : ℕ) → b < n → bitAt (r .invalid) b ≡ true → isMarked (s .geometry) (blockOn s (r .progress) b) ≡ false
-  pub numbers : isPassed (r .progress .outcome) ≡ true → (b : ℕ) → b < n → bitAt (r .invalid) b ≡ true → aboveTo (s .geometry) (blockOn s (r .progress) b) (s .geometry .pages) ≤ r .above
+  pub numbers : isPassed (r .progress .outcome) ≡ true → (b : ℕ) → b < n → bitAt (r .invalid) b ≡ true → greatestTo (s .geometry) (blockOn s (r .progress) b) (s .geometry .pages) ≤ r .greatest
   pub spent : Spent p (r .progress) (n * blockMost (s .geometry))
   pub failures : (b : ℕ) → b < s .geometry .blocks → failedIn b (r .progress .started) ≡ bitAt (r .invalid) b
   pub failed-by : (b : ℕ) → b < s .geometry .blocks → failedIn b (r .progress .started) ≡ true → Failing (s .fates)
-  pub above-by : (r .above ≡ 0 → ⊥) → Failing (s .fates)
+  pub greatest-by : (r .greatest ≡ 0 → ⊥) → Failing (s .fates)
 
 module _ (s : Setting) (v : Valid (s .geometry)) (mask-bytes : Bytes (s .mask)) (marked : List ℕ) (p : Progress) (marks : (b : ℕ) → b < s .geometry .blocks → isMarked (s .geometry) (blockOn s p b) ≡ bitAt marked b) where
   next-round : ℕ → Round → Round
   next-round n r =
       round (blockErased s marked n (r .progress))
       (cond (failedAt s marked n (r .progress)) (withBit (r .invalid) n) (r .invalid))
-      (max (r .above) (aboveAt s marked n (r .progress)))
+      (max (r .greatest) (greatestAt s marked n (r .progress)))
 
   one-round : (n : ℕ) → erasedTo s marked (suc n) p ≡ next-round n (erasedTo s marked n p)
   unfolding erasedTo next-round
@@ -100,18 +99,18 @@ module _ (s : Setting) (v : Valid (s .geometry)) (mask-bytes : Bytes (s .mask)) 
     more : suc n * blockMost (s .geometry) ≡ n * blockMost (s .geometry) + blockMost (s .geometry)
     more = suc-mul n (blockMost (s .geometry))
 
-    none-more : max (r .above) 0 ≡ r .above
+    none-more : max (r .greatest) 0 ≡ r .greatest
     none-more = omega arith
 
     stopped-is : isPassed (r .progress .outcome) ≡ false → r ≡ next-round n r
-    unfolding next-round blockErased failedAt aboveAt
+    unfolding next-round blockErased failedAt greatestAt
     stopped-is f =
         let unfailed : isFailed (eraseOn s n (r .progress) .outcome) ≡ false =
         ap (λ (q : Progress). isFailed (q .outcome)) (erase-stopped s n (r .progress) f) ∙ read-end-unfailed (r .progress .outcome) (x .ends) in
         cases (bitAt marked n) (λ t. rw (f, t, none-more)) (λ t. rw (f, t, unfailed, none-more))
 
     marked-is : isPassed (r .progress .outcome) ≡ true → bitAt marked n ≡ true → r ≡ next-round n r
-    unfolding next-round blockErased failedAt aboveAt
+    unfolding next-round blockErased failedAt greatestAt
     marked-is t m = rw (t, m, none-more)
 
     module _ (below : n < s .geometry .blocks) where
@@ -135,11 +134,11 @@ module _ (s : Setting) (v : Valid (s .geometry)) (mask-bytes : Bytes (s .mask)) 
                 up-to (λ k. bitAt marked k ≡ false → bitAt (r .invalid) k ≡ false → blockOn s (r .progress) k ≡ replicate (blockSize (s .geometry)) 255) n b l (x .erased y b) (λ m f. absurd (due why y m));
             unmarked = λ y b l. up-to (λ k. bitAt (r .invalid) k ≡ true → isMarked (s .geometry) (blockOn s (r .progress) k) ≡ false) n b l (x .unmarked y b) unlisted;
             numbers = λ y b l.
-                up-to (λ k. bitAt (r .invalid) k ≡ true → aboveTo (s .geometry) (blockOn s (r .progress) k) (s .geometry .pages) ≤ r .above) n b l (x .numbers y b) unlisted;
+                up-to (λ k. bitAt (r .invalid) k ≡ true → greatestTo (s .geometry) (blockOn s (r .progress) k) (s .geometry .pages) ≤ r .greatest) n b l (x .numbers y b) unlisted;
             spent = omega (arith, x .spent, more);
             failures = x .failures;
             failed-by = x .failed-by;
-            above-by = x .above-by;
+            greatest-by = x .greatest-by;
           }
 
       -- a block that is erased
@@ -170,11 +169,11 @@ module _ (s : Setting) (v : Valid (s .geometry)) (mask-bytes : Bytes (s .mask)) 
 
         -- the erase did not fail
         module _ (f : isFailed (e .outcome) ≡ false) where
-          unfailed-is : round e (r .invalid) (r .above) ≡ next-round n r
-          unfolding next-round blockErased afterErase failedAt aboveAt
+          unfailed-is : round e (r .invalid) (r .greatest) ≡ next-round n r
+          unfolding next-round blockErased afterErase failedAt greatestAt
           unfailed-is = rw (t, free, f, none-more)
 
-          unfailed : Rounded s marked p (suc n) (round e (r .invalid) (r .above))
+          unfailed : Rounded s marked p (suc n) (round e (r .invalid) (r .greatest))
           unfailed =
               record {
                 sound = left .sound;
@@ -191,12 +190,12 @@ module _ (s : Setting) (v : Valid (s .geometry)) (mask-bytes : Bytes (s .mask)) 
                     up-to (λ k. bitAt (r .invalid) k ≡ true → isMarked (s .geometry) (blockOn s e k) ≡ false) n b l
                     (λ h c. ap (isMarked (s .geometry)) (others-before b h) ∙ x .unmarked t b h c) unlisted;
                 numbers = λ y b l.
-                    up-to (λ k. bitAt (r .invalid) k ≡ true → aboveTo (s .geometry) (blockOn s e k) (s .geometry .pages) ≤ r .above) n b l
-                    (λ h c. subst (λ (row : List ℕ). aboveTo (s .geometry) row (s .geometry .pages) ≤ r .above) (sym (others-before b h)) (x .numbers t b h c)) unlisted;
+                    up-to (λ k. bitAt (r .invalid) k ≡ true → greatestTo (s .geometry) (blockOn s e k) (s .geometry .pages) ≤ r .greatest) n b l
+                    (λ h c. subst (λ (row : List ℕ). greatestTo (s .geometry) row (s .geometry .pages) ≤ r .greatest) (sym (others-before b h)) (x .numbers t b h c)) unlisted;
                 spent = omega (arith, x .spent, left .spent, more);
                 failures = λ b h. unfailed-none q e n f (left .failures) b ∙ x .failures b h;
                 failed-by = λ b h z. x .failed-by b h (sym (unfailed-none q e n f (left .failures) b) ∙ z);
-                above-by = x .above-by;
+                greatest-by = x .greatest-by;
               }
 
         -- the erase failed: the pages are read
@@ -205,10 +204,10 @@ module _ (s : Setting) (v : Valid (s .geometry)) (mask-bytes : Bytes (s .mask)) 
           scanned = pagesRead s n (s .geometry .pages) (resumed e)
 
           abbrev most : ℕ
-          most = aboveTo (s .geometry) (blockOn s e n) (s .geometry .pages)
+          most = greatestTo (s .geometry) (blockOn s e n) (s .geometry .pages)
 
-          failed-is : round scanned (withBit (r .invalid) n) (max (r .above) most) ≡ next-round n r
-          unfolding next-round blockErased afterErase failedAt aboveAt
+          failed-is : round scanned (withBit (r .invalid) n) (max (r .greatest) most) ≡ next-round n r
+          unfolding next-round blockErased afterErase failedAt greatestAt
           failed-is = rw (t, free, w)
 
           goes-on : Unchanged s (e .line .chip .array) (e .line .chip .history) (resumed e)
@@ -258,7 +257,7 @@ module _ (s : Setting) (v : Valid (s .geometry)) (mask-bytes : Bytes (s .mask)) 
               ∙ ap (λ (y : Bool). cond y true (cond (eqb n b) true false)) (x .failures b h)
               ∙ bit-more (r .invalid) n b byte-there
 
-          failed : Rounded s marked p (suc n) (round scanned (withBit (r .invalid) n) (max (r .above) most))
+          failed : Rounded s marked p (suc n) (round scanned (withBit (r .invalid) n) (max (r .greatest) most))
           failed =
               record {
                 sound = unchanged .sound;
@@ -277,15 +276,15 @@ module _ (s : Setting) (v : Valid (s .geometry)) (mask-bytes : Bytes (s .mask)) 
                     (λ h c. ap (isMarked (s .geometry)) (same-block b ∙ others-before b h) ∙ x .unmarked t b h (sym (bit-before b h) ∙ c))
                     (λ c. ap (isMarked (s .geometry)) (same-block n) ∙ still-unmarked);
                 numbers = λ y b l.
-                    up-to (λ k. bitAt (withBit (r .invalid) n) k ≡ true → aboveTo (s .geometry) (blockOn s scanned k) (s .geometry .pages) ≤ max (r .above) most) n b l
+                    up-to (λ k. bitAt (withBit (r .invalid) n) k ≡ true → greatestTo (s .geometry) (blockOn s scanned k) (s .geometry .pages) ≤ max (r .greatest) most) n b l
                     (λ h c.
-                    subst (λ (row : List ℕ). aboveTo (s .geometry) row (s .geometry .pages) ≤ max (r .above) most) (sym (same-block b ∙ others-before b h))
+                    subst (λ (row : List ℕ). greatestTo (s .geometry) row (s .geometry .pages) ≤ max (r .greatest) most) (sym (same-block b ∙ others-before b h))
                     (omega (arith, x .numbers t b h (sym (bit-before b h) ∙ c))))
-                    (λ c. subst (λ (row : List ℕ). aboveTo (s .geometry) row (s .geometry .pages) ≤ max (r .above) most) (sym (same-block n)) (omega arith));
+                    (λ c. subst (λ (row : List ℕ). greatestTo (s .geometry) row (s .geometry .pages) ≤ max (r .greatest) most) (sym (same-block n)) (omega arith));
                 spent = omega (arith, x .spent, left .spent, scan-spent, more);
                 failures = failed-bits;
                 failed-by = λ b h z. left .sound .failed-by w;
-                above-by = λ z. left .sound .failed-by w;
+                greatest-by = λ z. left .sound .failed-by w;
               }
 
       round-next : Rounded s marked p (suc n) (next-round n r)
@@ -309,15 +308,15 @@ module _ (s : Setting) (v : Valid (s .geometry)) (mask-bytes : Bytes (s .mask)) 
         marked-kept = λ b l m. refl;
         ahead = λ b l k. refl;
         invalid-bits = bits-none (s .geometry .blocks);
-        apart = λ b l m. blank-clear b (omega (arith, l, v .blocks-most));
-        later = λ b l k. blank-clear b (omega (arith, l, v .blocks-most));
+        apart = λ b l m. blank-bit 512 b;
+        later = λ b l k. blank-bit 512 b;
         erased = λ y b l. absurd (omega (arith, l));
         unmarked = λ y b l. absurd (omega (arith, l));
         numbers = λ y b l. absurd (omega (arith, l));
         spent = omega arith;
-        failures = λ b l. none b ∙ sym (blank-clear b (omega (arith, l, v .blocks-most)));
+        failures = λ b l. none b ∙ sym (blank-bit 512 b);
         failed-by = λ b l z. absurd (false≢true (sym (none b) ∙ z));
-        above-by = λ z. absurd (z refl);
+        greatest-by = λ z. absurd (z refl);
       }
   round-leaves sound ends none (suc n) h =
       subst (Rounded s marked p (suc n)) (sym (one-round n)) (round-next n (erasedTo s marked n p) (round-leaves sound ends none n (omega (arith, h))) (omega (arith, h)))

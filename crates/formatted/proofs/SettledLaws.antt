@@ -1,13 +1,15 @@
 -- On a settled array the table is current, lists what it should, and a mount succeeds. Assumes nothing.
 use Prim.Native.Nat.{ℕ, zero, suc, _+_, _-_, _*_, _/_, _≤_, _<_}
 use mathlib.Core.Bool.{true, false, cond, false≢true}
-use Prim.Native.Nat.{ℕ, zero, suc, _+_, _-_, _*_, _/_, _≤_, _<_, _^_}
+use Prim.Native.Nat.{ℕ, zero, suc, _+_, _-_, _*_, _/_, _≤_, _<_}
+use mathlib.Core.Bool.{true, false, cond, false≢true}
 use mathlib.Core.Bool.{true, false, cond, false≢true}
 use mathlib.Core.List.{List}
 use mathlib.Core.Path.{_≡_, refl, sym, ap, subst, _∙_}
 use native.Mathlib.Omega.{arith}
 use borrow.Table.Steps.{cases}
-use borrow.Author.Tests.{ne-eqb, eqb-true, eqb-false, ltb-true, ltb-false, not-true}
+use borrow.Author.Tests.{eqb-true, eqb-false, ltb-true, ltb-false, not-true}
+use borrow.Author.Tests.{eqb-true, eqb-false, ltb-true, ltb-false, not-true}
 use lib.Dec.{eqb, ltb}
 use lib.ListN.{length, getD, take, replicate, length-append, length-take, length-replicate, getD-replicate, List·getD-append}
 use lib.Seq.{getD-append-add, take-at, length-take-le, getD-take, getD-drop, ext-getD}
@@ -22,9 +24,9 @@ use Rattle.bitmaps.specs.Bitmap.{bitAt, clearFrom, countBits, bitmapBytes}
 use Rattle.pages.specs.Layout.{Label, allOnes, bytesOf, tableKind, isDataKind, isTableKind}
 use Rattle.pages.proofs.LayoutLaws.{bytes-bytesOf, length-bytesOf, allOnes-replicate, table-width}
 use Rattle.pages.proofs.LayoutLaws as kinds
-use Rattle.copies.specs.Blocks.{blockIn, pageIn, mainIn, labelIn, wholeIn, isMarked, agrees, isComplete, completeTo, isTable, isData, isCopyOf, aboveTo, above}
+use Rattle.copies.specs.Blocks.{blockIn, pageIn, mainIn, labelIn, wholeIn, isMarked, agrees, isComplete, completeTo, isTable, isData, isCopyOf, anyTo, greatestTo, hasNumber, greatest}
 use Rattle.copies.specs.Current as current
-use Rattle.copies.specs.Current.{currentTable, currentCopy, filledLast, nextNumber, aboveAll, numberAt, counts, unlisted, sharesNumber, clashesAt, clashes, judgeTable, mountAnswer, reading}
+use Rattle.copies.specs.Current.{currentTable, currentCopy, filledLast, nextNumber, numberAt, counts, unlisted, sharesNumber, clashesAt, clashes, judgeTable, mountAnswer, reading, greatestBelow}
 use Rattle.copies.specs.Pick.{nothing, at}
 use Rattle.copies.specs.Table.{bitmapOf, tablePage, header, lists, clearWhere, rightFirst, rightPage, rightTo, rightTable}
 use Rattle.copies.proofs.PickLaws.{picked-is, none-below}
@@ -32,12 +34,13 @@ use Rattle.table.proofs.TableLaws.{table-right, valid-roomy, later-page, first-
 use Rattle.found.specs.Contents.{entryOf, tabulate, mapOf}
 use Rattle.found.specs.Found.{bitsAt}
 use Rattle.found.proofs.MapLaws.{length-tabulate, getD-tabulate}
-use Rattle.fill.specs.Fill.{tableCopy, tableMain, pageOf}
+use Rattle.fill.specs.Fill.{tableCopy, tableMain, copyPage}
 use Rattle.runs.specs.Run.{Labelled}
-use Rattle.runs.proofs.CopyLaws.{erased-unwhole, erased-above, above-least, copy-label, copy-main, copy-complete, copy-above, copy-unmarked}
+use Rattle.runs.proofs.CopyLaws.{erased-unwhole, erased-greatest, greatest-least, copy-label, copy-main, copy-complete, copy-any, copy-greatest, copy-unmarked}
 use Rattle.geometry.specs.Sizes.{pageSize, chipSize}
-use Rattle.state.specs.State.{blank}
+use Rattle.state.specs.State.{blank, numberEnd}
 use Rattle.bitmaps.proofs.BitmapLaws.{Bitmap}
+use Rattle.tables.proofs.TryLaws.{table-fits}
 
 -- a table under a number lists the invalid blocks; every other unmarked block is erased, or is listed and has no whole
 -- page with that number or a greater one
@@ -47,17 +50,17 @@ pub record Settled (g : Geometry) (array invalid : List ℕ) (table number : ℕ
   pub invalid-bits : Bitmap (g .blocks) invalid
   pub table-below : table < g .blocks
   pub table-valid : bitAt invalid table ≡ false
-  pub number-fits : number < 4294967296
-  pub table-pages : (i : ℕ) → i < g .pages → pageIn g (blockIn g array table) i ≡ pageOf g (tableCopy number) i (tableMain g invalid i)
+  pub number-some : 0 < number
+  pub number-fits : number < numberEnd
+  pub table-pages : (i : ℕ) → i < g .pages → pageIn g (blockIn g array table) i ≡ copyPage g (tableCopy number) i (tableMain g invalid i)
   pub erased : (b : ℕ) → b < g .blocks → (b ≡ table → ⊥) → isMarked g (blockIn g array b) ≡ false → bitAt invalid b ≡ false
       → (i : ℕ) → i < g .pages → pageIn g (blockIn g array b) i ≡ replicate (pageSize g) 255
-  pub listed : (b : ℕ) → b < g .blocks → isMarked g (blockIn g array b) ≡ false → bitAt invalid b ≡ true → aboveTo g (blockIn g array b) (g .pages) ≤ number
+  pub listed : (b : ℕ) → b < g .blocks → isMarked g (blockIn g array b) ≡ false → bitAt invalid b ≡ true → greatestTo g (blockIn g array b) (g .pages) < number
   pub apart : (b : ℕ) → b < g .blocks → isMarked g (blockIn g array b) ≡ true → bitAt invalid b ≡ false
 
 -- main bytes of a table's pages
-pub table-label : (number : ℕ) → number < 4294967296 → Labelled (tableCopy number)
-table-label number h =
-    record { width-some = omega (arith, table-width); kind-byte = omega arith; logical-fits = omega arith; number-fits = subst (λ (w : ℕ). number < 256 ^ w) (sym table-width) h }
+pub table-label : (number : ℕ) → number < numberEnd → Labelled (tableCopy number)
+table-label number h = record { width-some = omega (arith, table-width); kind-byte = omega arith; logical-fits = omega arith; number-fits = table-fits number h }
 
 module _ (g : Geometry) (v : Valid g) (invalid : List ℕ) (bits : Bitmap (g .blocks) invalid) where
   room : 8 + bitmapBytes (g .blocks) ≤ g .main
@@ -155,8 +158,11 @@ module _ {g : Geometry} {array invalid : List ℕ} {table number : ℕ} (r : Set
   table-unmarked : isMarked g (row table) ≡ false
   table-unmarked = copy-unmarked g v (tableCopy number) labelled (tableMain g invalid) main-long main-bytes (row table) (r .table-pages)
 
-  table-above : aboveTo g (row table) (g .pages) ≡ number + 1
-  table-above = copy-above g v (tableCopy number) labelled (tableMain g invalid) main-long main-bytes (row table) (r .table-pages)
+  table-any : anyTo g (row table) (g .pages) ≡ true
+  table-any = copy-any g v (tableCopy number) labelled (tableMain g invalid) main-long main-bytes (row table) (r .table-pages)
+
+  table-greatest : greatestTo g (row table) (g .pages) ≡ number
+  table-greatest = copy-greatest g v (tableCopy number) labelled (tableMain g invalid) main-long main-bytes (row table) (r .table-pages)
 
   table-main : (i : ℕ) → i < g .pages → mainIn g (row table) i ≡ tableMain g invalid i
   table-main = copy-main g v (tableCopy number) labelled (tableMain g invalid) main-long main-bytes (row table) (r .table-pages)
@@ -197,15 +203,15 @@ module _ {g : Geometry} {array invalid : List ℕ} {table number : ℕ} (r : Set
       absurd (false≢true (sym blank ∙ complete-whole b t)))
 
   -- every other block's numbers are lower
-  lower : (b : ℕ) → b < g .blocks → (b ≡ table → ⊥) → isMarked g (row b) ≡ false → aboveTo g (row b) (g .pages) ≤ number
+  lower : (b : ℕ) → b < g .blocks → (b ≡ table → ⊥) → isMarked g (row b) ≡ false → greatestTo g (row b) (g .pages) < number
   lower b h x m =
       cases (bitAt invalid b)
       (λ t. r .listed b h m t)
-      (λ f. omega (arith, erased-above g v (row b) (r .erased b h x m f)))
+      (λ f. omega (arith, r .number-some, erased-greatest g v (row b) (r .erased b h x m f)))
 
   lower-complete : (b : ℕ) → b < g .blocks → (b ≡ table → ⊥) → isComplete g (row b) ≡ true → numberAt g array b < number
   lower-complete b h x t =
-      omega (arith, lower b h x (complete-parts b t .0), above-least g (row b) (g .pages) 0 zero-below (complete-whole b t))
+      omega (arith, lower b h x (complete-parts b t .0), greatest-least g (row b) (g .pages) 0 zero-below (complete-whole b t))
 
   pub number-is : numberAt g array table ≡ number
   number-is = ap (λ (l : Label). l .number) table-first
@@ -234,53 +240,53 @@ module _ {g : Geometry} {array invalid : List ℕ} {table number : ℕ} (r : Set
       }))
 
   -- the numbers of unmarked blocks
-  above-table : above g (row table) ≡ number + 1
-  unfolding above
-  above-table = rw table-unmarked table-above
+  table-has : hasNumber g (row table) ≡ true
+  unfolding hasNumber
+  table-has = rw table-unmarked table-any
 
-  above-other : (b : ℕ) → b < g .blocks → (b ≡ table → ⊥) → above g (row b) ≤ number
-  unfolding above
-  above-other b h x = cases (isMarked g (row b)) (λ t. rw t (omega arith)) (λ f. rw f (lower b h x f))
+  greatest-table : greatest g (row table) ≡ number
+  unfolding greatest
+  greatest-table = rw table-unmarked table-greatest
 
-  above-test : (b : ℕ) → cond (eqb (above g (row b)) 0) false true ≡ true → 0 < above g (row b)
-  above-test b t = cases (eqb (above g (row b)) 0) (λ z. absurd (false≢true (sym (rw z) ∙ t))) (λ z. omega (arith, eqb-false (above g (row b)) 0 z))
+  greatest-other : (b : ℕ) → b < g .blocks → (b ≡ table → ⊥) → greatest g (row b) < number
+  unfolding greatest
+  greatest-other b h x = cases (isMarked g (row b)) (λ t. rw t (r .number-some)) (λ f. rw f (lower b h x f))
 
   pub last-is : filledLast g array ≡ at table
   unfolding filledLast
   last-is =
-      sym (picked-is (λ b. cond (eqb (above g (row b)) 0) false true) (λ b. above g (row b)) (g .blocks) (at table)
+      sym (picked-is (λ b. hasNumber g (row b)) (λ b. greatest g (row b)) (g .blocks) (at table)
       (record {
         below = r .table-below;
-        passes = rw (ne-eqb (above g (row table)) 0 (λ z. omega (arith, z, above-table)));
+        passes = table-has;
         greatest = λ k h t.
             cases (eqb k table)
-            (λ e. omega (arith, ap (λ (b : ℕ). above g (row b)) (eqb-true k table e)))
-            (λ e. omega (arith, above-table, above-other k h (eqb-false k table e)));
-        lowest = λ k h t. omega (arith, above-table, above-other k (omega (arith, h, r .table-below)) (λ e. omega (arith, e, h)));
+            (λ e. omega (arith, ap (λ (b : ℕ). greatest g (row b)) (eqb-true k table e)))
+            (λ e. omega (arith, greatest-table, greatest-other k h (eqb-false k table e)));
+        lowest = λ k h t. omega (arith, greatest-table, greatest-other k (omega (arith, h, r .table-below)) (λ e. omega (arith, e, h)));
       }))
 
-  all-most : (n : ℕ) → n ≤ g .blocks → aboveAll g array n ≤ number + 1
-  unfolding aboveAll
+  all-most : (n : ℕ) → n ≤ g .blocks → greatestBelow g array n ≤ number
+  unfolding greatestBelow
   all-most zero h = omega arith
   all-most (suc n) h =
       let less = all-most n (omega (arith, h)) in
       cases (eqb n table)
-      (λ e. omega (arith, less, ap (λ (b : ℕ). above g (row b)) (eqb-true n table e), above-table))
-      (λ e. omega (arith, less, above-other n (omega (arith, h)) (eqb-false n table e)))
+      (λ e. omega (arith, less, ap (λ (b : ℕ). greatest g (row b)) (eqb-true n table e), greatest-table))
+      (λ e. omega (arith, less, greatest-other n (omega (arith, h)) (eqb-false n table e)))
 
-  all-least : (n b : ℕ) → b < n → above g (row b) ≤ aboveAll g array n
-  unfolding aboveAll
+  all-least : (n b : ℕ) → b < n → greatest g (row b) ≤ greatestBelow g array n
+  unfolding greatestBelow
   all-least zero b h = absurd (omega (arith, h))
   all-least (suc n) b h =
       cases (eqb b n)
-      (λ e. omega (arith, ap (λ (k : ℕ). above g (row k)) (eqb-true b n e)))
+      (λ e. omega (arith, ap (λ (k : ℕ). greatest g (row k)) (eqb-true b n e)))
       (λ e. omega (arith, all-least n b (omega (arith, h, eqb-false b n e))))
 
   pub next-is : nextNumber g array ≡ number + 1
   unfolding nextNumber
   next-is =
-      let e : aboveAll g array (g .blocks) ≡ number + 1 = omega (arith, all-most (g .blocks) (omega arith), all-least (g .blocks) table (r .table-below), above-table) in
-      rw (ne-eqb (aboveAll g array (g .blocks)) 0 (λ z. omega (arith, z, e))) e
+      omega (arith, all-most (g .blocks) (omega arith), all-least (g .blocks) table (r .table-below), greatest-table)
 
   -- no data copy is current
   table-no-data : isData g (row table) ≡ false

@@ -1,5 +1,5 @@
 -- Table fills until one passes, on a chip whose permitted blocks are erased. Assumes nothing.
-use Prim.Native.Nat.{ℕ, zero, suc, _+_, _-_, _*_, _/_, _≤_, _<_}
+use Prim.Native.Nat.{ℕ, zero, suc, _+_, _*_, _/_, _≤_, _<_}
 use mathlib.Core.Bool.{Bool, true, false, cond, true≢false, false≢true}
 use mathlib.Core.List.{List}
 use mathlib.Core.Logic.{⊎-elim}
@@ -22,16 +22,17 @@ use Rattle.array.specs.Device.{Setting}
 use Rattle.polling.specs.Outcomes.{isPassed, isFailed, isIllegal, isCut, isSilent}
 use Rattle.operations.specs.Ends.{Called}
 use Rattle.pages.specs.Over.{Over}
-use Rattle.copies.specs.Blocks.{pageIn, isMarked, aboveTo}
+use Rattle.copies.specs.Blocks.{pageIn, isMarked, greatestTo}
+use Rattle.bools.proofs.BoolLaws.{and-none, one-true}
 use Rattle.choose.specs.Choose.{permitted, chosen, countPermitted}
-use Rattle.state.specs.State.{blank, withNumber, withInvalid, withTable}
+use Rattle.state.specs.State.{blank, nextNumber, numberEnd, numbersLeft, taken, withInvalid, withTable}
 use Rattle.state.specs.declared.State.{State}
 use Rattle.choose.specs.declared.Choice.{Choice}
 use Rattle.choose.specs.declared.Choice.the-variants.{Block, Worn}
 use Rattle.choose.proofs.ChooseLaws as choose
 use Rattle.calls.specs.Call.{answerFor, stateFor}
 use Rattle.progress.specs.Progress.{Progress}
-use Rattle.fill.specs.Fill.{tableCopy, tableSource, tableMain, tableFilled, pageOf}
+use Rattle.fill.specs.Fill.{tableCopy, tableSource, tableMain, tableFilled, copyPage}
 use Rattle.progress.specs.Steps.{resumed}
 use Rattle.calls.proofs.CallLaws.{stop-answer, stop-least, answer-silent, answer-cut, answer-passed, answer-stopped}
 use Rattle.tables.proofs.AfterLaws.{after-passed, after-failed}
@@ -41,13 +42,12 @@ use Rattle.runs.specs.Run.{failedIn, Sound, Meant, from-caller, Filled, Spent, 
 use Rattle.runs.proofs.TraceLaws.{unfailed-none}
 use Rattle.runs.proofs.PlaceLaws.{page-erased}
 use Rattle.runs.proofs.FillLaws.{fill-given, over-erased}
-use Rattle.runs.proofs.CopyLaws.{copy-long, copy-bytes, copy-unmarked, raised-above, raised-unmarked}
+use Rattle.runs.proofs.CopyLaws.{copy-long, copy-bytes, copy-unmarked, raised-greatest, raised-unmarked}
 use Rattle.bitmaps.proofs.BitmapLaws.{Bitmap, bits-more, bit-more}
 use Rattle.cells.proofs.CellLaws.{raised-erased}
 use Rattle.formatted.proofs.SettledLaws.{Settled, table-label, table-long, table-bytes}
 use Rattle.choose.proofs.ChooseLaws.{by-choice, permitted-parts, permitted-other, count-less}
 use Rattle.polling.specs.declared.Outcome.{Outcome}
-use Rattle.bools.proofs.BoolLaws.{and-none, one-true}
 use Rattle.formatted.specs.Formatting.{FormatAnswer, is-done, is-worn, is-spent, is-silent, is-cut}
 
 -- before a table fill: every unmarked block is erased, or is invalid and has only lower numbers
@@ -55,10 +55,11 @@ pub record Ready (s : Setting) (p : Progress) (st : State) : Type 0 where
   pub passed : isPassed (p .outcome) ≡ true
   pub sound : Sound s p
   pub last-below : st .last < s .geometry .blocks
+  pub number-some : 0 < nextNumber st
   pub invalid-bits : Bitmap (s .geometry .blocks) (st .invalid)
   pub marks : (b : ℕ) → b < s .geometry .blocks → isMarked (s .geometry) (blockOn s p b) ≡ bitAt (st .marked) b
   pub erased : (b : ℕ) → b < s .geometry .blocks → bitAt (st .marked) b ≡ false → bitAt (st .invalid) b ≡ false → blockOn s p b ≡ replicate (blockSize (s .geometry)) 255
-  pub listed : (b : ℕ) → b < s .geometry .blocks → bitAt (st .marked) b ≡ false → bitAt (st .invalid) b ≡ true → aboveTo (s .geometry) (blockOn s p b) (s .geometry .pages) ≤ st .number
+  pub listed : (b : ℕ) → b < s .geometry .blocks → bitAt (st .marked) b ≡ false → bitAt (st .invalid) b ≡ true → greatestTo (s .geometry) (blockOn s p b) (s .geometry .pages) < nextNumber st
   pub apart : (b : ℕ) → b < s .geometry .blocks → bitAt (st .marked) b ≡ true → bitAt (st .invalid) b ≡ false
   pub failures : (b : ℕ) → b < s .geometry .blocks → failedIn b (p .started) ≡ bitAt (st .invalid) b
   pub failed-by : (b : ℕ) → b < s .geometry .blocks → failedIn b (p .started) ≡ true → Failing (s .fates)
@@ -66,7 +67,7 @@ pub record Ready (s : Setting) (p : Progress) (st : State) : Type 0 where
 -- after a table fill that passed
 pub record Done (s : Setting) (st : State) (q : Progress) (next : State) : Type 0 where
   pub number : ℕ
-  pub number-is : next .number ≡ number + 1
+  pub number-is : nextNumber next ≡ number + 1
   pub status-same : next .status ≡ st .status
   pub last-is : next .last ≡ next .table
   pub marked-same : next .marked ≡ st .marked
@@ -100,7 +101,7 @@ pub record Left (s : Setting) (held : List ℕ) (st : State) (p : Progress) (t :
   pub done : t .answer ≡ 0 → Done s st (t .progress) (t .state)
   pub spent : Spent p (t .progress) (countPermitted (st .marked) (st .invalid) held (s .geometry .blocks) * tableFillMost (s .geometry))
 
-module _ (s : Setting) (mask-bytes : Bytes (s .mask)) (st : State) (p : Progress) (r : Ready s p st) (number-fits : st .number < 4294967296) where
+module _ (s : Setting) (mask-bytes : Bytes (s .mask)) (st : State) (p : Progress) (r : Ready s p st) (number-fits : nextNumber st < numberEnd) where
   called : Called s (p .line)
   called = r .sound .called (passed-answered (p .outcome) (r .passed))
 
@@ -110,10 +111,10 @@ module _ (s : Setting) (mask-bytes : Bytes (s .mask)) (st : State) (p : Progress
   -- the fill of block b, which is permitted
   module _ (b : ℕ) (below : b < s .geometry .blocks) (unmarked : bitAt (st .marked) b ≡ false) (unlisted : bitAt (st .invalid) b ≡ false) where
     abbrev q : Progress
-    q = tableFilled s b (st .number) (st .invalid) p
+    q = tableFilled s b (nextNumber st) (st .invalid) p
 
     abbrev pages : ℕ → List ℕ
-    pages i = pageOf (s .geometry) (tableCopy (st .number)) i (tableMain (s .geometry) (st .invalid) i)
+    pages i = copyPage (s .geometry) (tableCopy (nextNumber st)) i (tableMain (s .geometry) (st .invalid) i)
 
     main-long : (i : ℕ) → i < s .geometry .pages → length (tableMain (s .geometry) (st .invalid) i) ≡ s .geometry .main
     main-long = table-long (s .geometry) v (st .invalid) (r .invalid-bits)
@@ -122,17 +123,17 @@ module _ (s : Setting) (mask-bytes : Bytes (s .mask)) (st : State) (p : Progress
     main-bytes = table-bytes (s .geometry) v (st .invalid) (r .invalid-bits)
 
     page-bytes : (i : ℕ) → i < s .geometry .pages → Bytes (pages i)
-    page-bytes = copy-bytes (s .geometry) v (tableCopy (st .number)) (table-label (st .number) number-fits) (tableMain (s .geometry) (st .invalid)) main-long main-bytes
+    page-bytes = copy-bytes (s .geometry) v (tableCopy (nextNumber st)) (table-label (nextNumber st) number-fits) (tableMain (s .geometry) (st .invalid)) main-long main-bytes
 
     page-long : (i : ℕ) → i < s .geometry .pages → length (pages i) ≡ pageSize (s .geometry)
-    page-long = copy-long (s .geometry) v (tableCopy (st .number)) (table-label (st .number) number-fits) (tableMain (s .geometry) (st .invalid)) main-long main-bytes
+    page-long = copy-long (s .geometry) v (tableCopy (nextNumber st)) (table-label (nextNumber st) number-fits) (tableMain (s .geometry) (st .invalid)) main-long main-bytes
 
-    meant : Meant s (p .line .chip .array) b (tableCopy (st .number)) (tableSource (s .geometry) (st .invalid)) pages
+    meant : Meant s (p .line .chip .array) b (tableCopy (nextNumber st)) (tableSource (s .geometry) (st .invalid)) pages
     meant = record { long = page-long; bytes = page-bytes; provides = λ i h. from-caller (tableMain (s .geometry) (st .invalid) i) }
 
     left : Filled s p q b pages (s .geometry .pages) (tableFillMost (s .geometry))
     unfolding sourceMost
-    left = fill-given s p b below (tableCopy (st .number)) (tableSource (s .geometry) (st .invalid)) pages meant mask-bytes given-all (r .passed) called
+    left = fill-given s p b below (tableCopy (nextNumber st)) (tableSource (s .geometry) (st .invalid)) pages meant mask-bytes given-all (r .passed) called
       where
         given-all : (i : ℕ) → i < s .geometry .pages → sourceMost (s .geometry) (tableSource (s .geometry) (st .invalid) i) ≤ programMost (s .geometry)
         given-all i h = omega arith
@@ -172,10 +173,10 @@ module _ (s : Setting) (mask-bytes : Bytes (s .mask)) (st : State) (p : Progress
           cases (eqb c b)
           (λ e.
           subst (λ (k : ℕ). isMarked (s .geometry) (blockOn s q k) ≡ bitAt (st .marked) k) (sym (eqb-true c b e))
-          (copy-unmarked (s .geometry) v (tableCopy (st .number)) (table-label (st .number) number-fits) (tableMain (s .geometry) (st .invalid)) main-long main-bytes (blockOn s q b) (left .done y) ∙ sym unmarked))
+          (copy-unmarked (s .geometry) v (tableCopy (nextNumber st)) (table-label (nextNumber st) number-fits) (tableMain (s .geometry) (st .invalid)) main-long main-bytes (blockOn s q b) (left .done y) ∙ sym unmarked))
           (λ e. marks-other c h (eqb-false c b e))
 
-      settles : Settled (s .geometry) (q .line .chip .array) (st .invalid) b (st .number)
+      settles : Settled (s .geometry) (q .line .chip .array) (st .invalid) b (nextNumber st)
       settles =
           record {
             is-valid = v;
@@ -183,20 +184,21 @@ module _ (s : Setting) (mask-bytes : Bytes (s .mask)) (st : State) (p : Progress
             invalid-bits = r .invalid-bits;
             table-below = below;
             table-valid = unlisted;
+            number-some = r .number-some;
             number-fits = number-fits;
             table-pages = left .done y;
             erased = λ c h x m f i l.
                 ap (λ (row : List ℕ). pageIn (s .geometry) row i) (left .others c h x ∙ r .erased c h (sym (marks-other c h x) ∙ m) f) ∙ page-erased (s .geometry) i l;
             listed = λ c h m t.
                 let x = off-listed c t in
-                subst (λ (row : List ℕ). aboveTo (s .geometry) row (s .geometry .pages) ≤ st .number) (sym (left .others c h x)) (r .listed c h (sym (marks-other c h x) ∙ m) t);
+                subst (λ (row : List ℕ). greatestTo (s .geometry) row (s .geometry .pages) < nextNumber st) (sym (left .others c h x)) (r .listed c h (sym (marks-other c h x) ∙ m) t);
             apart = λ c h m. r .apart c h (sym (marks-passed c h) ∙ m);
           }
 
-      done-so : Done s st q (withTable b (withNumber (st .number + 1) st))
+      done-so : Done s st q (withTable b (taken st))
       done-so =
           record {
-            number = st .number;
+            number = nextNumber st;
             number-is = refl;
             status-same = refl;
             last-is = refl;
@@ -214,29 +216,29 @@ module _ (s : Setting) (mask-bytes : Bytes (s .mask)) (st : State) (p : Progress
       unpassed = failed-unpassed (q .outcome) w
 
       abbrev next : State
-      next = withInvalid b (withNumber (st .number + 1) st)
+      next = withInvalid b (taken st)
 
       marks-failed : (c : ℕ) → c < s .geometry .blocks → isMarked (s .geometry) (blockOn s q c) ≡ bitAt (st .marked) c
       marks-failed c h =
           cases (eqb c b)
           (λ e.
           subst (λ (k : ℕ). isMarked (s .geometry) (blockOn s q k) ≡ bitAt (st .marked) k) (sym (eqb-true c b e))
-          (raised-unmarked (s .geometry) v (tableCopy (st .number)) (table-label (st .number) number-fits) (tableMain (s .geometry) (st .invalid)) main-long main-bytes (blockOn s q b) (over unpassed) ∙ sym unmarked))
+          (raised-unmarked (s .geometry) v (tableCopy (nextNumber st)) (table-label (nextNumber st) number-fits) (tableMain (s .geometry) (st .invalid)) main-long main-bytes (blockOn s q b) (over unpassed) ∙ sym unmarked))
           (λ e. marks-other c h (eqb-false c b e))
 
       byte-there : b / 8 < length (st .invalid)
       byte-there = omega (arith, below, v .blocks-most, r .invalid-bits .long)
 
-      listed-failed : (c : ℕ) → c < s .geometry .blocks → bitAt (st .marked) c ≡ false → bitAt (withBit (st .invalid) b) c ≡ true → aboveTo (s .geometry) (blockOn s q c) (s .geometry .pages) ≤ st .number + 1
+      listed-failed : (c : ℕ) → c < s .geometry .blocks → bitAt (st .marked) c ≡ false → bitAt (withBit (st .invalid) b) c ≡ true → greatestTo (s .geometry) (blockOn s q c) (s .geometry .pages) < nextNumber st + 1
       listed-failed c h m t =
           cases (eqb c b)
           (λ e.
-          subst (λ (k : ℕ). aboveTo (s .geometry) (blockOn s q k) (s .geometry .pages) ≤ st .number + 1) (sym (eqb-true c b e))
-          (raised-above (s .geometry) v (tableCopy (st .number)) (table-label (st .number) number-fits) (tableMain (s .geometry) (st .invalid)) main-long main-bytes (blockOn s q b) (over unpassed)))
+          subst (λ (k : ℕ). greatestTo (s .geometry) (blockOn s q k) (s .geometry .pages) < nextNumber st + 1) (sym (eqb-true c b e))
+          (raised-greatest (s .geometry) v (tableCopy (nextNumber st)) (table-label (nextNumber st) number-fits) (tableMain (s .geometry) (st .invalid)) main-long main-bytes (blockOn s q b) (over unpassed)))
           (λ e.
           let x = eqb-false c b e in
           let before = r .listed c h m (sym (bit-kept (st .invalid) b c x) ∙ t) in
-          subst (λ (row : List ℕ). aboveTo (s .geometry) row (s .geometry .pages) ≤ st .number + 1) (sym (left .others c h x)) (omega (arith, before)))
+          subst (λ (row : List ℕ). greatestTo (s .geometry) row (s .geometry .pages) < nextNumber st + 1) (sym (left .others c h x)) (omega (arith, before)))
 
       off-next : (c : ℕ) → bitAt (withBit (st .invalid) b) c ≡ false → c ≡ b → ⊥
       off-next c f e = true≢false (sym (bit-set (st .invalid) b byte-there) ∙ ap (bitAt (withBit (st .invalid) b)) (sym e) ∙ f)
@@ -248,6 +250,7 @@ module _ (s : Setting) (mask-bytes : Bytes (s .mask)) (st : State) (p : Progress
             passed = refl;
             sound = record { legal = left .sound .legal; known = refl; used-up = λ c. absurd (false≢true c); silent-by = λ c. absurd (false≢true c); failed-by = λ c. absurd (false≢true c); called = λ a. left .sound .called (failed-answered (q .outcome) w) };
             last-below = r .last-below;
+            number-some = omega arith;
             invalid-bits = bits-more (s .geometry .blocks) (st .invalid) b (v .blocks-most) below (r .invalid-bits);
             marks = marks-failed;
             erased = λ c h m f.
@@ -286,7 +289,7 @@ module _ (s : Setting) (mask-bytes : Bytes (s .mask)) (held : List ℕ) where
   unfolding tablesFilled after-try
   one-try k st p = refl
 
-  module _ (k : ℕ) (st : State) (p : Progress) (r : Ready s p st) (number-fits : st .number < 4294967296) where
+  module _ (k : ℕ) (st : State) (p : Progress) (r : Ready s p st) (number-fits : nextNumber st < numberEnd) where
     abbrev choice : Choice
     choice = chosen (st .marked) (st .invalid) held (s .geometry .blocks) (st .last)
 
@@ -328,13 +331,13 @@ module _ (s : Setting) (mask-bytes : Bytes (s .mask)) (held : List ℕ) where
       free : (bitAt (st .marked) b ≡ false) × (bitAt (st .invalid) b ≡ false)
       free = permitted-parts (st .marked) (st .invalid) held b (chosen-is .passes)
 
-      abbrev taken : State
-      taken = withNumber (st .number + 1) st
+      abbrev numbered : State
+      numbered = taken st
 
       abbrev ended : Progress
-      ended = tableFilled s b (st .number) (st .invalid) p
+      ended = tableFilled s b (nextNumber st) (st .invalid) p
 
-      block-left : Filled s p ended b (λ i. pageOf (s .geometry) (tableCopy (st .number)) i (tableMain (s .geometry) (st .invalid) i)) (s .geometry .pages) (tableFillMost (s .geometry))
+      block-left : Filled s p ended b (λ i. copyPage (s .geometry) (tableCopy (nextNumber st)) i (tableMain (s .geometry) (st .invalid) i)) (s .geometry .pages) (tableFillMost (s .geometry))
       block-left = left s mask-bytes st p r number-fits b below (free .0) (free .1)
 
       bit-room : b / 8 < length (st .invalid)
@@ -354,11 +357,11 @@ module _ (s : Setting) (mask-bytes : Bytes (s .mask)) (held : List ℕ) where
       kept-marked : (c : ℕ) → c < s .geometry .blocks → bitAt (st .marked) c ≡ true → blockOn s ended c ≡ blockOn s p c
       kept-marked c h t = block-left .others c h (off-marked s mask-bytes st p r number-fits b below (free .0) (free .1) c t)
 
-      failed-is : isFailed (ended .outcome) ≡ true → tablesFilled s held k (withInvalid b taken) (resumed ended) ≡ after-try k (tryBlock s st p (Block b))
+      failed-is : isFailed (ended .outcome) ≡ true → tablesFilled s held k (withInvalid b numbered) (resumed ended) ≡ after-try k (tryBlock s st p (Block b))
       unfolding after-try tryBlock
-      failed-is w = rw w (ap (λ (x : State). tablesFilled s held k x (resumed ended)) (sym (after-failed b taken (ended .outcome) w)))
+      failed-is w = rw w (ap (λ (x : State). tablesFilled s held k x (resumed ended)) (sym (after-failed b numbered (ended .outcome) w)))
 
-      ended-is : isFailed (ended .outcome) ≡ false → endedBy ended (afterFill b (ended .outcome) taken) ≡ after-try k (tryBlock s st p (Block b))
+      ended-is : isFailed (ended .outcome) ≡ false → endedBy ended (afterFill b (ended .outcome) numbered) ≡ after-try k (tryBlock s st p (Block b))
       unfolding after-try tryBlock
       ended-is f = rw f
 
@@ -379,7 +382,7 @@ module _ (s : Setting) (mask-bytes : Bytes (s .mask)) (held : List ℕ) where
           (λ f. absurd (false≢true (sym (block-left .failures c ∙ rw (y, f) (and-none (eqb b c))) ∙ t))))
 
       -- the fills that follow a failed one
-      goes-on : isFailed (ended .outcome) ≡ true → (t : Tabled) → Left s held (withInvalid b taken) (resumed ended) t → Left s held st p t
+      goes-on : isFailed (ended .outcome) ≡ true → (t : Tabled) → Left s held (withInvalid b numbered) (resumed ended) t → Left s held st p t
       goes-on w t x =
           record {
             sound = x .sound;
@@ -413,7 +416,7 @@ module _ (s : Setting) (mask-bytes : Bytes (s .mask)) (held : List ℕ) where
             spent = omega (arith, x .spent, block-left .spent, one-less, one-fill);
           }
 
-      ends-so : isFailed (ended .outcome) ≡ false → Left s held st p (endedBy ended (afterFill b (ended .outcome) taken))
+      ends-so : isFailed (ended .outcome) ≡ false → Left s held st p (endedBy ended (afterFill b (ended .outcome) numbered))
       ends-so f =
           record {
             sound = block-left .sound;
@@ -425,24 +428,24 @@ module _ (s : Setting) (mask-bytes : Bytes (s .mask)) (held : List ℕ) where
             failed-kept = failed-before;
             failed-by = failed-since;
             used-up = λ z. block-left .sound .used-up (answer-cut (ended .outcome) z);
-            stopped = answer-stopped (ended .outcome) (afterFill b (ended .outcome) taken);
+            stopped = answer-stopped (ended .outcome) (afterFill b (ended .outcome) numbered);
             marked-kept = kept-marked;
             done = λ z.
                 let y = answer-passed (ended .outcome) z in
-                let state-is : stateFor (ended .outcome) (afterFill b (ended .outcome) taken) ≡ withTable b taken = rw y (after-passed b taken (ended .outcome) y) in
+                let state-is : stateFor (ended .outcome) (afterFill b (ended .outcome) numbered) ≡ withTable b numbered = rw y (after-passed b numbered (ended .outcome) y) in
                 subst (Done s st ended) (sym state-is) (done-so s mask-bytes st p r number-fits b below (free .0) (free .1) y);
             spent = omega (arith, block-left .spent, one-less, one-fill);
           }
 
-      filled-so : ((st' : State) (p' : Progress) → Ready s p' st' → k ≡ 4294967296 - st' .number → Left s held st' p' (tablesFilled s held k st' p')) → suc k ≡ 4294967296 - st .number
+      filled-so : ((st' : State) (p' : Progress) → Ready s p' st' → k ≡ numbersLeft st' → Left s held st' p' (tablesFilled s held k st' p')) → suc k ≡ numbersLeft st
           → Left s held st p (after-try k (tryBlock s st p (Block b)))
       filled-so less h =
           cases (isFailed (ended .outcome))
           (λ w. subst (Left s held st p) (failed-is w)
-          (goes-on w _ (less (withInvalid b taken) (resumed ended) (ready-next s mask-bytes st p r number-fits b below (free .0) (free .1) w) (omega (arith, h)))))
+          (goes-on w _ (less (withInvalid b numbered) (resumed ended) (ready-next s mask-bytes st p r number-fits b below (free .0) (free .1) w) (omega (arith, h)))))
           (λ f. subst (Left s held st p) (ended-is f) (ends-so f))
 
-  pub tables-leave : (k : ℕ) (st : State) (p : Progress) → Ready s p st → k ≡ 4294967296 - st .number → Left s held st p (tablesFilled s held k st p)
+  pub tables-leave : (k : ℕ) (st : State) (p : Progress) → Ready s p st → k ≡ numbersLeft st → Left s held st p (tablesFilled s held k st p)
   unfolding tablesFilled
   tables-leave zero st p r h =
       record {
@@ -461,7 +464,7 @@ module _ (s : Setting) (mask-bytes : Bytes (s .mask)) (held : List ℕ) where
         spent = omega arith;
       }
   tables-leave (suc k) st p r h =
-      let fits : st .number < 4294967296 = omega (arith, h) in
+      let fits : nextNumber st < numberEnd = omega (arith, h) in
       subst (Left s held st p) (sym (one-try k st p))
       (by-choice (chosen (st .marked) (st .invalid) held (s .geometry .blocks) (st .last))
       (λ e. subst (λ (t : Tried). Left s held st p (after-try k t)) (sym (try-is k st p r fits Worn e)) (worn k st p r fits e))

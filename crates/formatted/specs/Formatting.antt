@@ -23,7 +23,7 @@ use Rattle.calls.specs.Call.{Result, sizedFor, callLine}
 use Rattle.progress.specs.Progress.{Progress, progress, resetOn}
 use Rattle.marks.specs.Marks.{marksRead}
 use Rattle.erasing.specs.Round.{Round, erasedTo}
-use Rattle.fill.specs.Fill.{tableCopy, tableMain, pageOf}
+use Rattle.fill.specs.Fill.{tableCopy, tableMain, copyPage}
 use Rattle.format.specs.Format.{formatRun}
 use Rattle.mount.specs.Mount.{mountedState}
 use Rattle.runs.specs.Replay.{Replayed}
@@ -37,7 +37,7 @@ pub record Formatted (g : Geometry) (array : List ℕ) (st : State) : Type 0 whe
   pub lists-are : (b : ℕ) → b < g .blocks → lists g (blockIn g array (st .table)) b ≡ bitAt (st .invalid) b
   pub number-next : st .number ≡ numberAt g array (st .table) + 1
   pub table-pages : (i : ℕ) → i < g .pages
-      → pageIn g (blockIn g array (st .table)) i ≡ pageOf g (tableCopy (numberAt g array (st .table))) i (tableMain g (st .invalid) i)
+      → pageIn g (blockIn g array (st .table)) i ≡ copyPage g (tableCopy (numberAt g array (st .table))) i (tableMain g (st .invalid) i)
   pub erased : (b : ℕ) → b < g .blocks → (b ≡ st .table → ⊥) → isMarked g (blockIn g array b) ≡ false → lists g (blockIn g array (st .table)) b ≡ false
       → (i : ℕ) → i < g .pages → pageIn g (blockIn g array b) i ≡ replicate (pageSize g) 255
   pub only-table : (b : ℕ) → b < g .blocks → isComplete g (blockIn g array b) ≡ true → lists g (blockIn g array (st .table)) b ≡ false → b ≡ st .table

@@ -1,24 +1,26 @@
 -- What was found is what the definitions say of the array: marks, the greatest number, the current table. Assumes nothing.
-use Prim.Native.Nat.{ℕ, zero, suc, max, _≤_, _<_}
+use Prim.Native.Nat.{ℕ, zero, suc, _*_, _≤_, _<_, _^_}
 use mathlib.Core.Bool.{Bool, true, false, cond}
 use mathlib.Core.List.{List}
-use mathlib.Core.Logic.{_⊎_, inl, inr}
+use mathlib.Core.Logic.{_⊎_, inl, inr, ⊎-elim}
 use mathlib.Core.Path.{_≡_, refl, sym, ap, ap₂, subst, _∙_}
 use native.Mathlib.Omega.{arith}
 use borrow.Table.Steps.{cases}
-use borrow.Author.Tests.{eq-eqb, ne-eqb, lt-ltb, le-ltb, eqb-true, eqb-false, ltb-true, ltb-false}
+use borrow.Author.Tests.{eq-eqb, ne-eqb, ltb-true, ltb-false}
 use lib.Dec.{eqb, ltb}
 use Rattle.geometry.specs.declared.Geometry.{Geometry}
 use Rattle.bools.proofs.BoolLaws.{both}
+use Rattle.geometry.specs.Sizes.{blockSize}
+use Rattle.cells.specs.Bytes.{Bytes}
+use Rattle.cells.proofs.PartLaws.{bytes-part}
 use Rattle.pages.specs.Layout.{isTableKind}
-use Rattle.pages.proofs.LayoutLaws.{positive}
-use Rattle.copies.specs.Blocks.{blockIn, isMarked, isComplete, isTable, above}
-use Rattle.copies.specs.Current.{numberAt, aboveAll}
-use Rattle.copies.specs.Pick.{Pick, nothing, at, better, pick}
-use Rattle.summary.specs.Summary.{saysComplete, saysAbove}
+use Rattle.copies.specs.Blocks.{blockIn, isMarked, isComplete, isTable, hasNumber, greatest}
+use Rattle.copies.specs.Current.{numberAt, greatestBelow}
+use Rattle.copies.specs.Pick.{nothing, at, better, pick}
+use Rattle.summary.specs.Summary.{saysComplete, saysNumber}
 use Rattle.summary.specs.declared.Summary.{Summary}
-use Rattle.summary.proofs.BlockLaws.{says-complete, says-above, says-marked, complete-label}
-use Rattle.found.specs.Found.{markNoted, aboveNoted, isNewer, withTable, tableNoted, noted, foundTo, summaryAt, rightAt, bitsAt, marksTo}
+use Rattle.summary.proofs.BlockLaws.{says-complete, says-number, says-greatest, none-greatest, greatest-fits, says-marked, complete-label}
+use Rattle.found.specs.Found.{markNoted, isGreater, withGreatest, greatestNoted, isNewer, withTable, tableNoted, noted, foundTo, summaryAt, rightAt, bitsAt, marksTo}
 use Rattle.found.specs.declared.Found.{Found}
 
 -- what both arms of a test have
@@ -35,6 +37,10 @@ module _ {X : Type 0} (b : ℕ) (s : Summary) (right : ℕ) (bits : List ℕ) (f
       (arms view (view f) (isTableKind (s .kind)) _ f (arms view (view f) (isNewer s f) _ f e refl) refl)
       refl
 
+  greatest-keeps : view (withGreatest b s f) ≡ view f → view (greatestNoted b s f) ≡ view f
+  unfolding greatestNoted
+  greatest-keeps e = arms view (view f) (saysNumber s) _ f (arms view (view f) (isGreater s f) _ f e refl) refl
+
 zero-test : (m : Bool) (x : Found) (y : Found) → cond (eqb (cond m 1 0) 0) x y ≡ cond m y x
 zero-test true x y = refl
 zero-test false x y = refl
@@ -44,118 +50,139 @@ marked-arms : (m : Bool) (x y : Found) → cond m x y .marked ≡ cond m (x .mar
 marked-arms true x y = refl
 marked-arms false x y = refl
 
-more-is : (a b : ℕ) (x y : Found) → x .above ≡ b → y .above ≡ a → cond (ltb a b) x y .above ≡ max a b
-more-is a b x y p q =
-    cases (ltb a b)
-    (λ t. rw t (p ∙ omega (arith, ltb-true a b t)))
-    (λ t. rw t (q ∙ omega (arith, ltb-false a b t)))
-
--- the greater of two counts, and its place
-last-is : (a b : ℕ) (x y : Found) (k n : ℕ) → x .last ≡ n → y .last ≡ k → cond (ltb a b) x y .last ≡ cond (ltb a b) n k
-last-is a b x y k n p q = cases (ltb a b) (λ t. rw t p) (λ t. rw t q)
-
--- the pick by a count that a block may lack, where the greatest so far is a, at block l
-module _ (count : ℕ → ℕ) (n a l : ℕ) where
-  -- the place of either
-  place : (b : Bool) → cond b (at n) (at l) ≡ at (cond b n l)
-  place true = refl
-  place false = refl
-
-  counted-next : (o : Pick) → o ≡ cond (eqb a 0) nothing (at l) → (0 < a → count l ≡ a)
-      → cond (cond (eqb (count n) 0) false true) (better count n o) o ≡ cond (eqb (max a (count n)) 0) nothing (at (cond (ltb a (count n)) n l))
-  unfolding better
-  counted-next o e greatest =
-      cases (eqb (count n) 0)
-      (λ z.
-      let none = eqb-true (count n) 0 z in
-      let same : max a (count n) ≡ a = omega (arith, none) in
-      let less : ltb a (count n) ≡ false = le-ltb a (count n) (omega (arith, none)) in
-      rw (z, same, less) e)
-      (λ z.
-      let some = eqb-false (count n) 0 z in
-      let more : eqb (max a (count n)) 0 ≡ false = ne-eqb (max a (count n)) 0 (λ x. some (omega (arith, x))) in
-      cases (eqb a 0)
-      (λ y.
-      let zero-is = eqb-true a 0 y in
-      let less : ltb a (count n) ≡ true = lt-ltb a (count n) (omega (arith, zero-is, positive (count n) z)) in
-      let empty : o ≡ nothing = e ∙ rw y in
-      rw (z, more, less) (ap (better count n) empty))
-      (λ y.
-      let held = greatest (positive a y) in
-      let full : o ≡ at l = e ∙ rw y in
-      rw (z, more) (ap (better count n) full ∙ rw held (place (ltb a (count n))))))
-
 module _ (g : Geometry) (two : 2 ≤ g .pages) (array : List ℕ) where
   pub found-marked : (n : ℕ) → foundTo g array n .marked ≡ marksTo g array n
-  unfolding foundTo marksTo noted aboveNoted markNoted
+  unfolding foundTo marksTo noted markNoted
   found-marked zero = refl
   found-marked (suc n) =
       let f = foundTo g array n in
       let s = summaryAt g array n in
-      table-keeps n s (rightAt g array n) (bitsAt g array n) (aboveNoted n s (markNoted n s f)) (λ x. x .marked) refl
-      ∙ arms (λ x. x .marked) (markNoted n s f .marked) (ltb (markNoted n s f .above) (saysAbove s)) _ (markNoted n s f) refl refl
+      table-keeps n s (rightAt g array n) (bitsAt g array n) (greatestNoted n s (markNoted n s f)) (λ x. x .marked) refl
+      ∙ greatest-keeps n s (rightAt g array n) (bitsAt g array n) (markNoted n s f) (λ x. x .marked) refl
       ∙ rw (says-marked g (blockIn g array n) two, zero-test (isMarked g (blockIn g array n)), marked-arms (isMarked g (blockIn g array n)), found-marked n)
 
-  mark-keeps-above : (n : ℕ) (s : Summary) (f : Found) → markNoted n s f .above ≡ f .above
-  unfolding markNoted
-  mark-keeps-above n s f = arms (λ x. x .above) (f .above) (eqb (s .marked) 0) f _ refl refl
+-- what is known of the greatest number
+pub record Most : Type 0 where
+  pub any : ℕ
+  pub greatest : ℕ
+  pub last : ℕ
 
-  mark-keeps-last : (n : ℕ) (s : Summary) (f : Found) → markNoted n s f .last ≡ f .last
-  unfolding markNoted
-  mark-keeps-last n s f = arms (λ x. x .last) (f .last) (eqb (s .marked) 0) f _ refl refl
+abbrev pub most : Found → Most
+most f = record { any = f .any; greatest = f .greatest; last = f .last }
 
-  pub found-above : (n : ℕ) → foundTo g array n .above ≡ aboveAll g array n
-  unfolding foundTo aboveAll noted aboveNoted
-  found-above zero = refl
-  found-above (suc n) =
-      let f = foundTo g array n in
-      let s = summaryAt g array n in
-      let m = markNoted n s f in
-      table-keeps n s (rightAt g array n) (bitsAt g array n) (aboveNoted n s m) (λ x. x .above) refl
-      ∙ more-is (m .above) (saysAbove s) _ m refl refl
-      ∙ rw (mark-keeps-above n s f, found-above n, says-above g (blockIn g array n) two)
-
-  -- the last block: picked, and its greatest number
-  pub record Lasts (n : ℕ) : Type 0 where
-    pub picked : pick (λ b. cond (eqb (above g (blockIn g array b)) 0) false true) (λ b. above g (blockIn g array b)) n ≡ cond (eqb (aboveAll g array n) 0) nothing (at (foundTo g array n .last))
-    pub greatest : 0 < aboveAll g array n → above g (blockIn g array (foundTo g array n .last)) ≡ aboveAll g array n
-
-  last-next : (n : ℕ) → foundTo g array (suc n) .last ≡ cond (ltb (aboveAll g array n) (above g (blockIn g array n))) n (foundTo g array n .last)
-  unfolding foundTo noted aboveNoted
-  last-next n =
-      let f = foundTo g array n in
-      let s = summaryAt g array n in
-      let m = markNoted n s f in
-      table-keeps n s (rightAt g array n) (bitsAt g array n) (aboveNoted n s m) (λ x. x .last) refl
-      ∙ last-is (m .above) (saysAbove s) _ m (f .last) n refl (mark-keeps-last n s f)
-      ∙ rw (mark-keeps-above n s f, found-above n, says-above g (blockIn g array n) two)
-
-  greatest-next : (n : ℕ) (a l : ℕ) → (0 < a → above g (blockIn g array l) ≡ a) → 0 < max a (above g (blockIn g array n))
-      → above g (blockIn g array (cond (ltb a (above g (blockIn g array n))) n l)) ≡ max a (above g (blockIn g array n))
-  greatest-next n a l h some =
-      cases (ltb a (above g (blockIn g array n)))
-      (λ t. rw t (omega (arith, ltb-true a (above g (blockIn g array n)) t)))
-      (λ t. rw t (h (omega (arith, some, ltb-false a (above g (blockIn g array n)) t)) ∙ omega (arith, ltb-false a (above g (blockIn g array n)) t)))
-
-  pub lasts : (n : ℕ) → Lasts n
-  unfolding pick aboveAll foundTo
-  lasts zero = record { picked = refl; greatest = λ h. absurd (omega (arith, h)) }
-  lasts (suc n) =
-      let r = lasts n in
-      record {
-        picked = counted-next (λ b. above g (blockIn g array b)) n (aboveAll g array n) (foundTo g array n .last) _ (r .picked) (r .greatest)
-            ∙ ap (λ (x : ℕ). cond (eqb (max (aboveAll g array n) (above g (blockIn g array n))) 0) nothing (at x)) (sym (last-next n));
-        greatest = λ h. ap (λ (x : ℕ). above g (blockIn g array x)) (last-next n) ∙ greatest-next n (aboveAll g array n) (foundTo g array n .last) (r .greatest) h;
-      }
-
--- where no number was found the last block is 0
 module _ (g : Geometry) (two : 2 ≤ g .pages) (array : List ℕ) where
-  pub last-none : (n : ℕ) → aboveAll g array n ≡ 0 → foundTo g array n .last ≡ 0
-  unfolding foundTo aboveAll
-  last-none zero h = refl
-  last-none (suc n) h =
-      let less : ltb (aboveAll g array n) (above g (blockIn g array n)) ≡ false = le-ltb (aboveAll g array n) (above g (blockIn g array n)) (omega (arith, h)) in
-      last-next g two array n ∙ rw less (last-none n (omega (arith, h)))
+  -- a number was found: the greatest, and the block picked for it
+  pub record Numbered (n : ℕ) (m : Most) : Type 0 where
+    pub any-one : m .any ≡ 1
+    pub picked : pick (λ b. hasNumber g (blockIn g array b)) (λ b. greatest g (blockIn g array b)) n ≡ at (m .last)
+    pub greatest-is : m .greatest ≡ greatest g (blockIn g array (m .last))
+    pub greatest-below : m .greatest ≡ greatestBelow g array n
+
+  pub record Unnumbered (n : ℕ) (m : Most) : Type 0 where
+    pub any-none : m .any ≡ 0
+    pub picked : pick (λ b. hasNumber g (blockIn g array b)) (λ b. greatest g (blockIn g array b)) n ≡ nothing
+    pub greatest-none : m .greatest ≡ 0
+    pub last-none : m .last ≡ 0
+    pub below-none : greatestBelow g array n ≡ 0
+
+  -- block n has no number
+  other-most : (n : ℕ) (m : Most) → hasNumber g (blockIn g array n) ≡ false → Unnumbered n m ⊎ Numbered n m → Unnumbered (suc n) m ⊎ Numbered (suc n) m
+  unfolding pick greatestBelow
+  other-most n m t (inl u) =
+      inl (record { any-none = u .any-none; picked = rw t (u .picked); greatest-none = u .greatest-none; last-none = u .last-none; below-none = omega (arith, u .below-none, none-greatest g (blockIn g array n) t) })
+  other-most n m t (inr r) =
+      inr (record { any-one = r .any-one; picked = rw t (r .picked); greatest-is = r .greatest-is; greatest-below = omega (arith, r .greatest-below, none-greatest g (blockIn g array n) t) })
+
+  -- block n has one
+  module _ (n : ℕ) (t : hasNumber g (blockIn g array n) ≡ true) (number : ℕ) (number-n : number ≡ greatest g (blockIn g array n)) where
+    abbrev newest : Most
+    newest = record { any = 1; greatest = number; last = n }
+
+    -- by whether it is greater than the one before
+    beyond : (m : Most) → Numbered n m → (b : Bool) → ltb (m .greatest) number ≡ b → Unnumbered (suc n) (cond b newest m) ⊎ Numbered (suc n) (cond b newest m)
+    unfolding pick better greatestBelow
+    beyond m r true e =
+        let less : ltb (greatest g (blockIn g array (m .last))) (greatest g (blockIn g array n)) ≡ true = sym (ap₂ ltb (r .greatest-is) number-n) ∙ e in
+        inr (record {
+          any-one = refl;
+          picked = rw t (ap (better (λ b. greatest g (blockIn g array b)) n) (r .picked) ∙ rw less);
+          greatest-is = number-n;
+          greatest-below = omega (arith, number-n, r .greatest-below, ltb-true (m .greatest) number e);
+        })
+    beyond m r false e =
+        let less : ltb (greatest g (blockIn g array (m .last))) (greatest g (blockIn g array n)) ≡ false = sym (ap₂ ltb (r .greatest-is) number-n) ∙ e in
+        inr (record {
+          any-one = r .any-one;
+          picked = rw t (ap (better (λ b. greatest g (blockIn g array b)) n) (r .picked) ∙ rw less);
+          greatest-is = r .greatest-is;
+          greatest-below = omega (arith, number-n, r .greatest-below, ltb-false (m .greatest) number e);
+        })
+
+    number-most : (m : Most) → Unnumbered n m ⊎ Numbered n m → Unnumbered (suc n) (cond (cond (eqb (m .any) 0) true (ltb (m .greatest) number)) newest m) ⊎ Numbered (suc n) (cond (cond (eqb (m .any) 0) true (ltb (m .greatest) number)) newest m)
+    unfolding pick better greatestBelow
+    number-most m (inl u) =
+        rw (eq-eqb (m .any) 0 (u .any-none))
+        (inr (record { any-one = refl; picked = rw t (ap (better (λ b. greatest g (blockIn g array b)) n) (u .picked)); greatest-is = number-n; greatest-below = omega (arith, number-n, u .below-none) }))
+    number-most m (inr r) =
+        let some : eqb (m .any) 0 ≡ false = ne-eqb (m .any) 0 (λ x. omega (arith, x, r .any-one)) in
+        rw some (beyond m r (ltb (m .greatest) number) refl)
+
+  most-arms : (b : Bool) (x y : Found) → most (cond b x y) ≡ cond b (most x) (most y)
+  most-arms true x y = refl
+  most-arms false x y = refl
+
+  mark-keeps : (n : ℕ) (s : Summary) (f : Found) → most (markNoted n s f) ≡ most f
+  unfolding markNoted
+  mark-keeps n s f = arms most (most f) (eqb (s .marked) 0) f _ refl refl
+
+  -- a note of block n that has a number, and of one that has none
+  most-noted : (n : ℕ) (s : Summary) (f : Found) → saysNumber s ≡ true
+      → most (greatestNoted n s f) ≡ cond (cond (eqb (f .any) 0) true (ltb (f .greatest) (s .greatest))) (record { any = 1; greatest = s .greatest; last = n }) (most f)
+  unfolding greatestNoted
+  most-noted n s f t = rw t (most-arms (isGreater s f) (withGreatest n s f) f)
+
+  most-not : (n : ℕ) (s : Summary) (f : Found) → saysNumber s ≡ false → greatestNoted n s f ≡ f
+  unfolding greatestNoted
+  most-not n s f t = rw t
+
+  most-next : (n : ℕ) (f : Found) → Unnumbered n (most f) ⊎ Numbered n (most f)
+      → Unnumbered (suc n) (most (greatestNoted n (summaryAt g array n) f)) ⊎ Numbered (suc n) (most (greatestNoted n (summaryAt g array n) f))
+  most-next n f r =
+      let s = summaryAt g array n in
+      let said = says-number g (blockIn g array n) two in
+      cases (hasNumber g (blockIn g array n))
+      (λ t.
+      subst (λ (m : Most). Unnumbered (suc n) m ⊎ Numbered (suc n) m) (sym (most-noted n s f (said ∙ t)))
+      (number-most n t (s .greatest) (says-greatest g (blockIn g array n) two t) (most f) r))
+      (λ t.
+      subst (λ (x : Found). Unnumbered (suc n) (most x) ⊎ Numbered (suc n) (most x)) (sym (most-not n s f (said ∙ t))) (other-most n (most f) t r))
+
+  -- after the first n blocks: no number, or the greatest and the block picked for it
+  pub most-found : (n : ℕ) → Unnumbered n (most (foundTo g array n)) ⊎ Numbered n (most (foundTo g array n))
+  unfolding foundTo noted pick greatestBelow
+  most-found zero = inl (record { any-none = refl; picked = refl; greatest-none = refl; last-none = refl; below-none = refl })
+  most-found (suc n) =
+      let s = summaryAt g array n in
+      let f = foundTo g array n in
+      let m = markNoted n s f in
+      subst (λ (x : Most). Unnumbered (suc n) x ⊎ Numbered (suc n) x)
+      (sym (table-keeps n s (rightAt g array n) (bitsAt g array n) (greatestNoted n s m) most refl))
+      (most-next n m (subst (λ (x : Most). Unnumbered n x ⊎ Numbered n x) (sym (mark-keeps n s f)) (most-found n)))
+
+  pub found-greatest : (n : ℕ) → foundTo g array n .greatest ≡ greatestBelow g array n
+  found-greatest n = ⊎-elim (λ u. u .greatest-none ∙ sym (u .below-none)) (λ r. r .greatest-below) (most-found n)
+
+  -- on an array of bytes
+  below-fits : Bytes array → (n : ℕ) → greatestBelow g array n < 256 ^ 4
+  unfolding greatestBelow greatest
+  below-fits b zero = omega arith
+  below-fits b (suc n) =
+      let less = below-fits b n in
+      let here = greatest-fits g (blockIn g array n) (bytes-part (n * blockSize g) (blockSize g) array b) (g .pages) in
+      cases (isMarked g (blockIn g array n)) (λ t. rw t (omega (arith, less))) (λ t. rw t (omega (arith, less, here)))
+
+  pub found-fits : Bytes array → (n : ℕ) → foundTo g array n .greatest < 256 ^ 4
+  found-fits b n = subst (λ (k : ℕ). k < 256 ^ 4) (sym (found-greatest n)) (below-fits b n)
 
 -- what is known of the current table
 pub record Kept : Type 0 where
@@ -215,12 +242,10 @@ module _ (g : Geometry) (two : 2 ≤ g .pages) (array : List ℕ) where
         rw some (against k c (ltb (k .number) number) refl)
 
   -- what the other notes leave of the table
-  others-keep : (n : ℕ) (s : Summary) (f : Found) → kept (aboveNoted n s (markNoted n s f)) ≡ kept f
-  unfolding aboveNoted markNoted
+  others-keep : (n : ℕ) (s : Summary) (f : Found) → kept (greatestNoted n s (markNoted n s f)) ≡ kept f
+  unfolding markNoted
   others-keep n s f =
-      let m = markNoted n s f in
-      let marks : kept m ≡ kept f = arms kept (kept f) (eqb (s .marked) 0) f _ refl refl in
-      arms kept (kept f) (ltb (m .above) (saysAbove s)) _ m marks marks
+      greatest-keeps n s (rightAt g array n) (bitsAt g array n) (markNoted n s f) kept refl ∙ arms kept (kept f) (eqb (s .marked) 0) f _ refl refl
 
   kept-arms : (b : Bool) (x y : Found) → kept (cond b x y) ≡ cond b (kept x) (kept y)
   kept-arms true x y = refl
@@ -275,7 +300,7 @@ module _ (g : Geometry) (two : 2 ≤ g .pages) (array : List ℕ) where
       let s = summaryAt g array n in
       let f = foundTo g array n in
       let same = others-keep n s f in
-      table-next n (aboveNoted n s (markNoted n s f)) (subst (λ (k : Kept). Missing n k ⊎ Chosen n k) (sym same) (table-found n))
+      table-next n (greatestNoted n s (markNoted n s f)) (subst (λ (k : Kept). Missing n k ⊎ Chosen n k) (sym same) (table-found n))
 
 -- the table kept is a block scanned
 module _ (g : Geometry) (array : List ℕ) where
@@ -284,16 +309,16 @@ module _ (g : Geometry) (array : List ℕ) where
   small-arms false x y p q = q
 
   pub table-small : (n : ℕ) → n ≤ 4096 → foundTo g array n .table < 4096
-  unfolding foundTo noted tableNoted aboveNoted markNoted
+  unfolding foundTo noted tableNoted greatestNoted markNoted
   table-small zero h = omega arith
   table-small (suc n) h =
       let s = summaryAt g array n in
       let f = foundTo g array n in
       let m = markNoted n s f in
-      let a = aboveNoted n s m in
+      let a = greatestNoted n s m in
       let less = table-small n (omega (arith, h)) in
       let marked : m .table < 4096 = small-arms (eqb (s .marked) 0) f _ less less in
-      let counted : a .table < 4096 = small-arms (ltb (m .above) (saysAbove s)) _ m marked marked in
+      let counted : a .table < 4096 = small-arms (saysNumber s) _ m (small-arms (isGreater s m) (withGreatest n s m) m marked marked) marked in
       small-arms (saysComplete s) _ a
       (small-arms (isTableKind (s .kind)) _ a (small-arms (isNewer s a) (withTable n s (rightAt g array n) (bitsAt g array n) a) a (omega (arith, h)) counted) counted)
       counted

@@ -9,27 +9,31 @@ use Rattle.bitmaps.specs.Bitmap.{withBit}
 use Rattle.cells.specs.Part.{put}
 use Rattle.pages.specs.Layout.{isTableKind}
 use Rattle.copies.specs.Blocks.{blockIn, mainIn, isMarked}
-use Rattle.summary.specs.Summary.{summed, saysComplete, saysAbove}
+use Rattle.summary.specs.Summary.{summed, saysComplete, saysNumber}
 use Rattle.copies.specs.Table.{bitmapOf, rightTo}
 use Rattle.summary.specs.declared.Summary.{Summary}
 use Rattle.found.specs.declared.Found.{Found}
 
 abbrev pub blankFound : Found
 blankFound =
-    record { above = 0; last = 0; tables = 0; table = 0; number = 0; right = 0; bits = replicate 512 0; marked = replicate 512 0 }
+    record { any = 0; greatest = 0; last = 0; tables = 0; table = 0; number = 0; right = 0; bits = replicate 512 0; marked = replicate 512 0 }
 
 -- a factory mark
 unfoldable pub markNoted : ℕ → Summary → Found → Found
 markNoted b s f =
     cond (eqb (s .marked) 0) f
-    (record { above = f .above; last = f .last; tables = f .tables; table = f .table; number = f .number; right = f .right; bits = f .bits; marked = withBit (f .marked) b })
+    (record { any = f .any; greatest = f .greatest; last = f .last; tables = f .tables; table = f .table; number = f .number; right = f .right; bits = f .bits; marked = withBit (f .marked) b })
 
--- a greater number than before
-unfoldable pub aboveNoted : ℕ → Summary → Found → Found
-aboveNoted b s f =
-    cond (ltb (f .above) (saysAbove s))
-    (record { above = saysAbove s; last = b; tables = f .tables; table = f .table; number = f .number; right = f .right; bits = f .bits; marked = f .marked })
-    f
+-- a number that is the first, or greater than those before
+abbrev pub isGreater : Summary → Found → Bool
+isGreater s f = cond (eqb (f .any) 0) true (ltb (f .greatest) (s .greatest))
+
+abbrev pub withGreatest : ℕ → Summary → Found → Found
+withGreatest b s f =
+    record { any = 1; greatest = s .greatest; last = b; tables = f .tables; table = f .table; number = f .number; right = f .right; bits = f .bits; marked = f .marked }
+
+unfoldable pub greatestNoted : ℕ → Summary → Found → Found
+greatestNoted b s f = cond (saysNumber s) (cond (isGreater s f) (withGreatest b s f) f) f
 
 -- a complete table that is the first, or has a greater number than the one before
 abbrev pub isNewer : Summary → Found → Bool
@@ -37,14 +41,14 @@ isNewer s f = cond (eqb (f .tables) 0) true (ltb (f .number) (s .number))
 
 abbrev pub withTable : ℕ → Summary → ℕ → List ℕ → Found → Found
 withTable b s right bits f =
-    record { above = f .above; last = f .last; tables = 1; table = b; number = s .number; right = right; bits = bits; marked = f .marked }
+    record { any = f .any; greatest = f .greatest; last = f .last; tables = 1; table = b; number = s .number; right = right; bits = bits; marked = f .marked }
 
 unfoldable pub tableNoted : ℕ → Summary → ℕ → List ℕ → Found → Found
 tableNoted b s right bits f =
     cond (saysComplete s) (cond (isTableKind (s .kind)) (cond (isNewer s f) (withTable b s right bits f) f) f) f
 
 unfoldable pub noted : ℕ → Summary → ℕ → List ℕ → Found → Found
-noted b s right bits f = tableNoted b s right bits (aboveNoted b s (markNoted b s f))
+noted b s right bits f = tableNoted b s right bits (greatestNoted b s (markNoted b s f))
 
 -- the summary, the test for a table, and the bitmap of a block of the array
 abbrev pub summaryAt : Geometry → List ℕ → ℕ → Summary

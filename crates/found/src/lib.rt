@@ -2,16 +2,15 @@
 pub mod contents;
 
 use summary::Summary;
-ghost use mathlib.Core.Bool.{cond};
 ghost use mathlib.Core.Path.{_≡_};
-ghost use lib.Dec.{eqb};
 ghost use Prim.Native.Nat.{_<_};
-ghost use Rattle.found.specs.Found.{blankFound, markNoted, aboveNoted, isNewer, tableNoted, noted};
+ghost use Rattle.found.specs.Found.{blankFound, markNoted, isGreater, greatestNoted, isNewer, tableNoted, noted};
 
 // What the blocks scanned so far told, but for their copies.
 pub struct Found {
-    // One above the greatest number on a whole page, 0 if there was none, and the lowest block that holds it.
-    pub above: u64,
+    // 1 if a page was whole; the greatest number on one, 0 if none was, and the lowest block that holds it.
+    pub any: usize,
+    pub greatest: u64,
     pub last: usize,
     // 1 if a complete table was found; the block and number of the current one, whether its pages are right, its bitmap.
     pub tables: usize,
@@ -29,7 +28,8 @@ impl Found {
         ensures { λ r. ⌜ r ≡ blankFound ⌝ }
     {
         Self {
-            above: 0,
+            any: 0,
+            greatest: 0,
             last: 0,
             tables: 0,
             table: 0,
@@ -55,16 +55,32 @@ impl Found {
         self
     }
 
-    // After a block's greatest number.
-    fn note_above(mut self, block: usize, summary: Summary) -> Self
-        ensures { λ r. ⌜ r ≡ aboveNoted block summary self ⌝ }
+    // Whether the greatest number of this summary is the first, or greater than those before.
+    fn is_greater(self, summary: Summary) -> bool
+        ensures { λ r. ⌜ r ≡ isGreater summary self ⌝ }
     {
-        let above = summary.numbers_above();
-        let most = self.above;
-        if most < above {
-            self.above = above;
-            self.last = block;
+        let any = self.any;
+        if any == 0 {
+            return true;
         }
+        let greatest = self.greatest;
+        let greater = summary.greatest;
+        greatest < greater
+    }
+
+    // After a block's greatest number.
+    fn note_greatest(mut self, block: usize, summary: Summary) -> Self
+        ensures { λ r. ⌜ r ≡ greatestNoted block summary self ⌝ }
+    {
+        if !summary.has_number() {
+            return self;
+        }
+        if !self.is_greater(summary) {
+            return self;
+        }
+        self.any = 1;
+        self.greatest = summary.greatest;
+        self.last = block;
         self
     }
 
@@ -109,18 +125,7 @@ impl Found {
         ensures { λ r. ⌜ r ≡ noted block summary right bits self ⌝ }
     {
         let marked = self.note_mark(block, summary);
-        let counted = marked.note_above(block, summary);
+        let counted = marked.note_greatest(block, summary);
         counted.note_table(block, summary, right, bits)
-    }
-
-    // The next number, 1 if there was no whole page.
-    pub fn next_number(self) -> u64
-        ensures { λ r. ⌜ r ≡ cond (eqb (self .above) 0) 1 (self .above) ⌝ }
-    {
-        let above = self.above;
-        if above == 0 {
-            return 1;
-        }
-        above
     }
 }

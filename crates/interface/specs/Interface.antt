@@ -9,9 +9,64 @@ use Rattle.geometry.specs.Limits.{valid}
 use Rattle.geometry.specs.Sizes.{pageSize, rowCount}
 use Rattle.interface.specs.declared.Interface.{Interface}
 
+-- the phases. In the first three a new operation is taken: ready, status shown, data output
+abbrev pub readyPhase : ℕ
+readyPhase = 0
+
+abbrev pub statusPhase : ℕ
+statusPhase = 1
+
+abbrev pub outputPhase : ℕ
+outputPhase = 2
+
+-- address bytes are awaited
+abbrev pub readAddressPhase : ℕ
+readAddressPhase = 3
+
+abbrev pub programAddressPhase : ℕ
+programAddressPhase = 4
+
+abbrev pub eraseAddressPhase : ℕ
+eraseAddressPhase = 5
+
+abbrev pub programDataPhase : ℕ
+programDataPhase = 6
+
+-- busy, and busy with the status shown
+abbrev pub busyPhase : ℕ
+busyPhase = 7
+
+abbrev pub busyStatusPhase : ℕ
+busyStatusPhase = 8
+
+-- the commands: FFh, 70h, 00h, 80h, 60h, and the confirm cycles 30h, 10h, D0h
+abbrev pub resetCode : ℕ
+resetCode = 255
+
+abbrev pub statusCode : ℕ
+statusCode = 112
+
+abbrev pub readCode : ℕ
+readCode = 0
+
+abbrev pub programCode : ℕ
+programCode = 128
+
+abbrev pub eraseCode : ℕ
+eraseCode = 96
+
+abbrev pub readConfirm : ℕ
+readConfirm = 48
+
+abbrev pub programConfirm : ℕ
+programConfirm = 16
+
+abbrev pub eraseConfirm : ℕ
+eraseConfirm = 208
+
 abbrev pub poweredOn : Interface
 poweredOn =
-    record { phase = 0; count = 0; address = 0; first = 0; column = 0; operation = 0; busy = 0; failed = 0; loaded = 0; fate = 0; illegal = 0 }
+    record { phase = readyPhase; count = 0; address = 0; first = 0; column = 0; operation = 0; busy = 0; failed = 0; loaded = 0; fate = 0; illegal = 0 }
 
 -- the same interface after a cycle that was answered illegal
 abbrev pub refused : Interface → Interface
@@ -25,7 +80,7 @@ inPhase p i =
 -- FFh, taken in every phase (3.15): status E0h, no page in the register
 abbrev pub afterReset : Interface → Interface
 afterReset i =
-    record { phase = 0; count = 0; address = 0; first = 0; column = 0; operation = 0; busy = 0; failed = 0; loaded = 0; fate = i .fate; illegal = i .illegal }
+    record { phase = readyPhase; count = 0; address = 0; first = 0; column = 0; operation = 0; busy = 0; failed = 0; loaded = 0; fate = i .fate; illegal = i .illegal }
 
 -- the first cycle of an operation, from the ready, status or data output phase
 abbrev pub beginning : ℕ → ℕ → Interface → Interface
@@ -33,28 +88,31 @@ beginning p n i =
     record { phase = p; count = n; address = 0; first = i .first; column = i .column; operation = i .operation; busy = i .busy; failed = i .failed; loaded = 0; fate = i .fate; illegal = i .illegal }
 
 unfoldable pub begun : ℕ → ℕ → Interface → Interface
-begun p n i = cond (leb (i .phase) 2) (beginning p n i) (refused i)
+begun p n i = cond (leb (i .phase) outputPhase) (beginning p n i) (refused i)
 
 -- 70h (3.11): when ready, and while busy
 unfoldable pub statusMode : Interface → Interface
 statusMode i =
-    cond (leb (i .phase) 2) (inPhase 1 i) (cond (eqb (i .phase) 7) (inPhase 8 i) (cond (eqb (i .phase) 8) i (refused i)))
+    cond (leb (i .phase) outputPhase) (inPhase statusPhase i)
+    (cond (eqb (i .phase) busyPhase) (inPhase busyStatusPhase i) (cond (eqb (i .phase) busyStatusPhase) i (refused i)))
 
 -- 00h where the register holds a page (3.1, 3.11): data output from the present column
 abbrev pub outputResumed : Interface → Interface
 outputResumed i =
-    record { phase = 2; count = i .count; address = i .address; first = i .column; column = i .column; operation = i .operation; busy = i .busy; failed = i .failed; loaded = i .loaded; fate = i .fate; illegal = i .illegal }
+    record { phase = outputPhase; count = i .count; address = i .address; first = i .column; column = i .column; operation = i .operation; busy = i .busy; failed = i .failed; loaded = i .loaded; fate = i .fate; illegal = i .illegal }
 
 -- 00h
 unfoldable pub readMode : Interface → Interface
-readMode i = cond (leb (i .phase) 2) (cond (eqb (i .loaded) 1) (outputResumed i) (beginning 3 0 i)) (refused i)
+readMode i =
+    cond (leb (i .phase) outputPhase) (cond (eqb (i .loaded) 1) (outputResumed i) (beginning readAddressPhase 0 i)) (refused i)
 
 -- the commands that start no array operation: FFh, 70h, 00h, 80h, 60h
 unfoldable pub plainCommand : ℕ → Interface → Interface
 plainCommand code i =
-    cond (eqb code 255) (afterReset i)
-    (cond (eqb code 112) (statusMode i)
-    (cond (eqb code 0) (readMode i) (cond (eqb code 128) (begun 4 0 i) (cond (eqb code 96) (begun 5 2 i) (refused i)))))
+    cond (eqb code resetCode) (afterReset i)
+    (cond (eqb code statusCode) (statusMode i)
+    (cond (eqb code readCode) (readMode i)
+    (cond (eqb code programCode) (begun programAddressPhase 0 i) (cond (eqb code eraseCode) (begun eraseAddressPhase 2 i) (refused i)))))
 
 -- the row and the column of a full address register
 abbrev pub rowOfAddress : ℕ → ℕ
@@ -77,7 +135,7 @@ moreAddress a i =
 
 -- the phase after the last address byte
 abbrev pub afterAddress : ℕ → ℕ
-afterAddress p = cond (eqb p 4) 6 p
+afterAddress p = cond (eqb p programAddressPhase) programDataPhase p
 
 abbrev pub fullAddress : ℕ → Interface → Interface
 fullAddress a i =
@@ -93,11 +151,11 @@ latched g byte i =
 -- an address cycle. After 00h with a page in the register the first address byte starts another read
 unfoldable pub addressed : Geometry → ℕ → Interface → Interface
 addressed g byte i =
-    cond (eqb (i .phase) 3) (latched g byte i)
-    (cond (eqb (i .phase) 4) (latched g byte i)
-    (cond (eqb (i .phase) 5) (latched g byte i)
-    (cond (eqb (i .phase) 2)
-    (cond (eqb (i .first) (i .column)) (latched g byte (beginning 3 0 i)) (refused i))
+    cond (eqb (i .phase) readAddressPhase) (latched g byte i)
+    (cond (eqb (i .phase) programAddressPhase) (latched g byte i)
+    (cond (eqb (i .phase) eraseAddressPhase) (latched g byte i)
+    (cond (eqb (i .phase) outputPhase)
+    (cond (eqb (i .first) (i .column)) (latched g byte (beginning readAddressPhase 0 i)) (refused i))
     (refused i))))
 
 -- fate words: bits 0 to 15 count the busy status reads, bit 16 says failed; past the list's end 0
@@ -120,7 +178,7 @@ failedFor operation word = cond (eqb operation 1) 0 (failedOf word)
 -- after the confirm cycle of an array operation (1 read, 2 program, 3 erase)
 unfoldable pub started : ℕ → List ℕ → Interface → Interface
 started operation fates i =
-    record { phase = 7; count = i .count; address = i .address; first = i .first; column = i .column; operation = operation; busy = busyOf (fateWord fates (i .fate)); failed = failedFor operation (fateWord fates (i .fate)); loaded = 0; fate = nextFate fates (i .fate); illegal = i .illegal }
+    record { phase = busyPhase; count = i .count; address = i .address; first = i .first; column = i .column; operation = operation; busy = busyOf (fateWord fates (i .fate)); failed = failedFor operation (fateWord fates (i .fate)); loaded = 0; fate = nextFate fates (i .fate); illegal = i .illegal }
 
 -- 80h busy, E0h passed, E1h failed
 unfoldable pub statusByte : ℕ → ℕ → ℕ

@@ -1,2 +1,4 @@
 pub mod PageReadLaws
 pub mod JoinedLaws
+pub mod UnreadyLaws
+pub mod IndependentLaws

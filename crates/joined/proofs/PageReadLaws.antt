@@ -34,7 +34,7 @@ use Rattle.refusals.proofs.RefusalLaws.{Accepted, by-refusal}
 use Rattle.reading.proofs.RefusalLaws.{read-refuses-geometry, read-refuses-unmounted, read-refuses-logical, read-refuses-page, read-refuses-length}
 use Rattle.fetching.specs.Fetching.{ReadResult, readResult, pageProgress, readingBlock}
 use Rattle.reading.specs.Reading.{readingPage}
-use Rattle.reading.proofs.ReadingLaws.{Gives, no-copy, one-copy, read-ends, read-legal, read-gives}
+use Rattle.reading.proofs.ReadingLaws.{Gives, no-copy, one-copy, request-ends, read-legal, read-gives}
 use Rattle.reading.proofs.SentLaws.{read-sent-most}
 use Rattle.runs.specs.Run.{Unchanged}
 use Rattle.runs.specs.Replay.{Replayed}
@@ -94,7 +94,7 @@ module _ (s : Setting) (d : Device) (n : ℕ) (state : State) (logical page : �
   read-silent z =
       cases (eqb entry none)
       (λ e. absurd (omega (arith, z, none-answer (eqb-true entry none e))))
-      (λ e. slow-word (sym (read-ends s d n state logical page buffer a ready (eqb-false entry none e) .answer-is) ∙ z))
+      (λ e. slow-word (sym (request-ends s d n state logical page buffer a ready (eqb-false entry none e) .answer-is) ∙ z))
 
   -- cut: all cycles were sent
   start-unchanged : Unchanged s (d .array) (d .history) (progress (callLine d n) Passed [] [])
@@ -109,7 +109,7 @@ module _ (s : Setting) (d : Device) (n : ℕ) (state : State) (logical page : �
 
   entry-below : (entry ≡ none → ⊥) → entry < s .geometry .blocks
   entry-below x =
-      mounted-facts state (s .geometry .blocks) (s .geometry .logical) (v .blocks-most) (omega (arith, v .logical-most, v .blocks-most)) (a .is-mounted)
+      mounted-facts state (s .geometry .blocks) (s .geometry .logical) (v .blocks-most) (a .is-mounted)
       .copy-below logical (a .logical-below) x
 
   block-unchanged : (b : ℕ) → b < s .geometry .blocks → Unchanged s (d .array) (d .history) (pageProgress s d n b page)
@@ -161,7 +161,7 @@ module _ (s : Setting) (d : Device) (n : ℕ) (state : State) (logical page : �
       answered-zero x = ⊎-elim (λ z. z) (λ y. absurd (⊎-elim heard uncut y)) (read-legal s d n state logical page buffer a ready x)
 
       passed : (entry ≡ none → ⊥) → readEnd s (callLine d n) (s .geometry .main) .outcome ≡ Passed
-      passed x = is-passed _ (answer-passed _ (sym (read-ends s d n state logical page buffer a ready x .answer-is) ∙ answered-zero x))
+      passed x = is-passed _ (answer-passed _ (sym (request-ends s d n state logical page buffer a ready x .answer-is) ∙ answered-zero x))
 
       none-gives : entry ≡ none → currentCopy (s .geometry) (d .array) table logical ≡ nothing → Gives s d state (reading (s .geometry) (d .array) table logical page) r
       unfolding pageOf

@@ -1,1 +1,3 @@
+pub mod Independent
 pub mod Reads
+pub mod Unready

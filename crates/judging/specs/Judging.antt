@@ -1,11 +1,12 @@
 -- The answer and the state of a mount, from what a scan found.
-use Prim.Native.Nat.{ℕ}
+use Prim.Native.Nat.{ℕ, _+_}
 use mathlib.Core.Bool.{cond}
 use lib.Dec.{eqb}
 use lib.ListN.{replicate}
 use Rattle.geometry.specs.declared.Geometry.{Geometry}
 use Rattle.bitmaps.specs.Bitmap.{bitAt, neverBoth}
 use Rattle.copies.specs.Pick.{someBelow}
+use Rattle.state.specs.State.{mountedWith}
 use Rattle.state.specs.declared.State.{State}
 use Rattle.found.specs.Contents.{Contents, clashing, mapTo}
 use Rattle.found.specs.declared.Found.{Found}
@@ -22,12 +23,5 @@ judgedBy g f c =
 -- the state that a mount answered 0 gives
 abbrev pub stateOf : Geometry → Found → Contents → State
 stateOf g f c =
-    record {
-      status = 1;
-      table = f .table;
-      last = f .last;
-      number = cond (eqb (f .above) 0) 1 (f .above);
-      marked = f .marked;
-      invalid = f .bits;
-      map = mapTo c (f .bits) (g .blocks) (g .logical) (replicate 4096 65535) (g .blocks);
-    }
+    mountedWith (f .greatest + 1) (f .table) (f .last) (f .marked) (f .bits)
+    (mapTo c (f .bits) (g .blocks) (g .logical) (replicate 4096 65535) (g .blocks))

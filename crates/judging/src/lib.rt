@@ -5,6 +5,7 @@ use state::State;
 ghost use mathlib.Core.Path.{_≡_};
 ghost use Prim.Native.Nat.{_<_};
 ghost use Rattle.geometry.specs.Limits.{Valid};
+ghost use Rattle.state.specs.State.{numberEnd};
 ghost use Rattle.found.specs.Contents.{contents};
 ghost use Rattle.judging.specs.Judging.{judgedBy, stateOf};
 
@@ -51,6 +52,7 @@ pub fn mounted_state(
     numbers: &[u64; 4096],
 ) -> State
     requires { ⌜ Valid g ⌝ }
+    requires { ⌜ found .greatest < numberEnd ⌝ }
     ensures { λ r. ⌜ r ≡ stateOf g found (contents (now (kinds .entry)) (now (logicals .entry)) (now (numbers .entry))) ⌝ }
 {
     let bits = found.bits;
@@ -65,13 +67,5 @@ pub fn mounted_state(
         g.logical,
         &mut map,
     );
-    State {
-        status: 1,
-        table: found.table,
-        last: found.last,
-        number: found.next_number(),
-        marked,
-        invalid: bits,
-        map,
-    }
+    State::mounted_above(found.greatest, found.table, found.last, marked, bits, map)
 }

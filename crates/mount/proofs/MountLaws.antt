@@ -1,12 +1,12 @@
 -- What a mount makes of a scan is what the definitions on the array say. Assumes nothing.
-use Prim.Native.Nat.{ℕ, zero, suc, _≤_, _<_}
+use Prim.Native.Nat.{ℕ, zero, suc, _+_, _≤_, _<_}
 use mathlib.Core.Bool.{Bool, true, false, cond}
 use mathlib.Core.List.{List}
 use mathlib.Core.Logic.{⊎-elim}
 use mathlib.Core.Path.{_≡_, refl, sym, ap, _∙_}
 use native.Mathlib.Omega.{arith}
 use borrow.Table.Steps.{cases}
-use borrow.Author.Tests.{eq-eqb, ne-eqb, eqb-true}
+use borrow.Author.Tests.{eq-eqb, ne-eqb}
 use lib.Dec.{eqb}
 use lib.ListN.{length, replicate, length-set, length-replicate}
 use Rattle.geometry.specs.declared.Geometry.{Geometry}
@@ -15,18 +15,19 @@ use Rattle.geometry.specs.Sizes.{chipSize}
 use Rattle.bitmaps.specs.Bitmap.{bitAt, byteOf, withBit, neverBoth}
 use Rattle.bitmaps.proofs.BitLaws.{bit-set, bit-kept}
 use Rattle.copies.specs.Blocks.{blockIn, isMarked, isTable, mainIn}
-use Rattle.copies.specs.Current.{numberAt, aboveAll, nextNumber, currentTable, filledLast, judgeTable, mountAnswer}
+use Rattle.copies.specs.Current.{numberAt, nextNumber, currentTable, filledLast, judgeTable, mountAnswer}
 use Rattle.copies.specs.Pick.{Pick, nothing, at, pick, Picked, someBelow}
 use Rattle.copies.specs.Table.{bitmapOf, clearWhere, rightTo, rightTable}
 use Rattle.copies.proofs.PickLaws.{pick-is, up-to}
-use Rattle.state.proofs.MountedLaws.{blank-clear}
+use Rattle.state.specs.State.{mountedWith}
 use Rattle.found.specs.Contents.{Contents, contents, contentsTo, clashing, mapTo, mapOf}
 use Rattle.found.specs.Found.{foundTo, bitsAt, rightAt, marksTo}
-use Rattle.found.proofs.FoundLaws.{found-marked, found-above, lasts, last-none, Kept, kept, Chosen, Missing, table-found}
+use Rattle.found.proofs.FoundLaws.{found-marked, found-greatest, most-found, Kept, kept, Chosen, Missing, table-found}
 use Rattle.found.proofs.ToldLaws.{Told, told, bit-is, clash-same}
 use Rattle.found.proofs.MapLaws.{map-is}
 use Rattle.judging.specs.Judging.{judgedBy, stateOf}
 use Rattle.mount.specs.Mount.{blockOf, mountedState}
+use Rattle.bitmaps.proofs.BitmapLaws.{blank-bit}
 
 -- what tells picks apart
 unfoldable placeIn : Pick → ℕ
@@ -59,7 +60,7 @@ module _ (g : Geometry) (array : List ℕ) where
   -- below n that of the mark, from n on none
   pub mark-later : (n b : ℕ) → n ≤ b → b < 4096 → bitAt (marksTo g array n) b ≡ false
   unfolding marksTo
-  mark-later zero b h r = blank-clear b r
+  mark-later zero b h r = blank-bit 512 b
   mark-later (suc n) b h r =
       cases (isMarked g (blockIn g array n))
       (λ t. rw t (bit-kept (marksTo g array n) n b (λ e. omega (arith, e, h)) ∙ mark-later n b (omega (arith, h)) r))
@@ -154,13 +155,11 @@ module _ (g : Geometry) (v : Valid g) (array : List ℕ) (long : length array �
   last-is : blockOf (filledLast g array) ≡ foundTo g array (g .blocks) .last
   unfolding filledLast blockOf
   last-is =
-      cases (eqb (aboveAll g array (g .blocks)) 0)
-      (λ z. rw (lasts g two array (g .blocks) .picked, z) (sym (last-none g two array (g .blocks) (eqb-true (aboveAll g array (g .blocks)) 0 z))))
-      (λ z. rw (lasts g two array (g .blocks) .picked, z))
+      ⊎-elim (λ u. rw (u .picked) (sym (u .last-none))) (λ r. rw (r .picked)) (most-found g two array (g .blocks))
 
-  number-is : cond (eqb (foundTo g array (g .blocks) .above) 0) 1 (foundTo g array (g .blocks) .above) ≡ nextNumber g array
+  number-is : foundTo g array (g .blocks) .greatest + 1 ≡ nextNumber g array
   unfolding nextNumber
-  number-is = rw (found-above g two array (g .blocks))
+  number-is = ap (λ (k : ℕ). k + 1) (found-greatest g two array (g .blocks))
 
   state-found : Chosen g two array (g .blocks) (kept (foundTo g array (g .blocks))) → stateOf g (foundTo g array (g .blocks)) all ≡ mountedState g array
   unfolding mountedState blockOf
@@ -173,7 +172,7 @@ module _ (g : Geometry) (v : Valid g) (array : List ℕ) (long : length array �
       ap (λ (x : List ℕ). mapTo all x (g .blocks) (g .logical) (replicate 4096 65535) (g .blocks)) (c .bits-are)
       ∙ map-is g v array long all all-told (f .table) (table-below (f .table) here)
       ∙ ap (mapOf g array) t in
-      λ i. record { status = 1; table = t i; last = sym last-is i; number = number-is i; marked = found-marked g two array (g .blocks) i; invalid = bits i; map = map i }
+      λ i. mountedWith (number-is i) (t i) (sym last-is i) (found-marked g two array (g .blocks) i) (bits i) (map i)
 
   -- without a table there is no state
   missing-answer : Missing g two array (g .blocks) (kept (foundTo g array (g .blocks))) → mountAnswer g array ≡ 4

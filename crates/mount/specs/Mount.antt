@@ -10,7 +10,7 @@ use Rattle.polling.specs.Outcomes.{isPassed}
 use Rattle.polling.specs.declared.Outcome.the-variants.{Passed}
 use Rattle.copies.specs.Current.{currentTable, filledLast, nextNumber, mountAnswer}
 use Rattle.copies.specs.Pick.{Pick, nothing, at}
-use Rattle.state.specs.State.{blank}
+use Rattle.state.specs.State.{blank, mountedWith}
 use Rattle.state.specs.declared.State.{State}
 use Rattle.found.specs.Contents.{mapOf}
 use Rattle.found.specs.Found.{bitsAt, marksTo}
@@ -26,15 +26,9 @@ blockOf (at b) = b
 -- the state that a mount answered 0 gives
 unfoldable pub mountedState : Geometry → List ℕ → State
 mountedState g array =
-    record {
-      status = 1;
-      table = blockOf (currentTable g array);
-      last = blockOf (filledLast g array);
-      number = nextNumber g array;
-      marked = marksTo g array (g .blocks);
-      invalid = bitsAt g array (blockOf (currentTable g array));
-      map = mapOf g array (blockOf (currentTable g array));
-    }
+    mountedWith (nextNumber g array) (blockOf (currentTable g array)) (blockOf (filledLast g array)) (marksTo g array (g .blocks))
+    (bitsAt g array (blockOf (currentTable g array)))
+    (mapOf g array (blockOf (currentTable g array)))
 
 -- by the answer: not mounted, and 0 in all other fields, for 4 to 6
 unfoldable pub stateAfter : Geometry → List ℕ → ℕ → State

@@ -17,7 +17,7 @@ use Rattle.bools.proofs.BoolLaws.{both, unless}
 use Rattle.cells.specs.Part.{put}
 use Rattle.bitmaps.specs.Bitmap.{bitAt, bitIn, byteOf, placeOf, clearFrom, countBits, bitmapBytes}
 use Rattle.pages.specs.Layout.{labelOf, allOnes, dataKind, tableKind, isDataKind, isTableKind}
-use Rattle.copies.specs.Blocks.{blockIn, pageIn, mainIn, labelIn, isMarked, isComplete, isTable, isData, isCopyOf, completeTo, above}
+use Rattle.copies.specs.Blocks.{blockIn, pageIn, mainIn, labelIn, isMarked, isComplete, isTable, isData, isCopyOf, completeTo, hasNumber, greatest}
 use Rattle.copies.specs.Current.{currentTable, currentCopy, filledLast, nextNumber, numberAt, unlisted, judgeTable, mountAnswer}
 use Rattle.copies.specs.Pick.{Pick, nothing, at, Picked, pick}
 use Rattle.copies.specs.Table.{bitmapOf, fieldOf, lists, clearWhere, rightFirst, rightPage, rightTo, rightTable}
@@ -203,8 +203,8 @@ module _ (g : Geometry) (v : Valid g) (array : List ℕ) (long : length array �
   last-on-chip : blockOf (filledLast g array) < g .blocks
   unfolding filledLast
   last-on-chip =
-      pick-below (λ b. cond (eqb (above g (row b)) 0) false true) (λ b. above g (row b)) (g .blocks) (omega (arith, v .blocks-least)) _
-      (pick-is (λ b. cond (eqb (above g (row b)) 0) false true) (λ b. above g (row b)) (g .blocks))
+      pick-below (λ b. hasNumber g (row b)) (λ b. greatest g (row b)) (g .blocks) (omega (arith, v .blocks-least)) _
+      (pick-is (λ b. hasNumber g (row b)) (λ b. greatest g (row b)) (g .blocks))
 
   -- the entries of the map
   abbrev copyTest : ℕ → ℕ → Bool
@@ -284,7 +284,7 @@ module _ (g : Geometry) (v : Valid g) (array : List ℕ) (long : length array �
   counts-mounted : mounted (mountedState g array) (g .blocks) (g .logical) ≡ true
   counts-mounted =
       subst (λ (s : State). mounted s (g .blocks) (g .logical) ≡ true) (sym state-found)
-      (mounted-holds found (g .blocks) (g .logical) (v .blocks-most) logical-few facts)
+      (mounted-holds found (g .blocks) (g .logical) (v .blocks-most) facts)
 
 -- a state that is handed out with 0 counts as mounted
 pub mounted-state : (g : Geometry) → Valid g → (array : List ℕ) → length array ≡ chipSize g → mountAnswer g array ≡ 0 → mounted (mountedState g array) (g .blocks) (g .logical) ≡ true

@@ -9,7 +9,7 @@ use Rattle.geometry.specs.Limits.{Valid}
 use Rattle.geometry.specs.Sizes.{pageSize, blockSize, chipSize, rowCount, rowOf}
 use Rattle.cells.specs.Cells.{programmed, weakened, raised}
 use Rattle.cells.specs.Part.{part, put}
-use Rattle.interface.specs.Interface.{fateWord, nextFate, busyOf, failedFor}
+use Rattle.interface.specs.Interface.{fateWord, nextFate, busyOf, failedFor, resetCode, outputPhase}
 use Rattle.array.specs.Device.{Setting, Device}
 use Rattle.bus.specs.Line.{Line, sendAll, statusOut}
 use Rattle.polling.specs.Polling.{outcomeOf, endedAs}
@@ -24,7 +24,7 @@ pub record Called (s : Setting) (l : Line) : Type 0 where
   pub register-long : length (l .chip .register) ≡ pageSize (s .geometry)
   pub history-long : length (l .chip .history) ≡ s .geometry .blocks
   pub mask-long : length (s .mask) ≡ blockSize (s .geometry)
-  pub ready : l .chip .port .phase ≤ 2
+  pub ready : l .chip .port .phase ≤ outputPhase
   pub legal : l .chip .port .illegal ≡ 0
   pub uncut : l .cut ≡ 0
 
@@ -184,4 +184,4 @@ endOfReset s l =
 
 -- the byte of its status read, after FFh and 70h: 0 where it is not sent
 unfoldable pub resetStatus : Setting → Line → ℕ
-resetStatus s l = statusOut (sendAll s l (confirmCycles 255))
+resetStatus s l = statusOut (sendAll s l (confirmCycles resetCode))

@@ -9,6 +9,7 @@ use Rattle.bus.specs.Line.{Line, sendAll, sent, goesOn}
 use Rattle.polling.specs.Polling.{outcomeOf}
 use Rattle.sequences.specs.Cycles.{readAddress, programData, eraseAddress, confirmedCycles, readCycles, programCycles, eraseCycles}
 use Rattle.polling.specs.declared.Outcome.{Outcome}
+use Rattle.interface.specs.Interface.{readConfirm, programConfirm, eraseConfirm}
 
 -- kind: 1 read, 2 program, 3 erase. bytes: the data of a program. before: the array when the confirm cycle came
 pub record ArrayOperation : Type 0 where
@@ -35,13 +36,13 @@ startedBy s l first code kind row bytes =
     []
 
 abbrev pub readStarts : Setting → Line → ℕ → ℕ → List ArrayOperation
-readStarts s l row column = startedBy s l (readAddress row column) 48 1 row []
+readStarts s l row column = startedBy s l (readAddress row column) readConfirm 1 row []
 
 abbrev pub programStarts : Setting → Line → ℕ → List ℕ → List ArrayOperation
-programStarts s l row bytes = startedBy s l (programData row bytes) 16 2 row bytes
+programStarts s l row bytes = startedBy s l (programData row bytes) programConfirm 2 row bytes
 
 abbrev pub eraseStarts : Setting → Line → ℕ → List ArrayOperation
-eraseStarts s l row = startedBy s l (eraseAddress row) 208 3 row []
+eraseStarts s l row = startedBy s l (eraseAddress row) eraseConfirm 3 row []
 
 -- the cycles that an operation sent
 abbrev pub readSends : Setting → Line → ℕ → ℕ → ℕ → List Cycle

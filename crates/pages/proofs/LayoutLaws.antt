@@ -1,7 +1,7 @@
 -- Laws of the layout of a page: what is encoded reads back, and a page with raised bits is whole only if none was raised. Assumes nothing.
 use Prim.Native.Nat.{ℕ, zero, suc, _+_, _-_, _*_, _/_, _≤_, _<_, _^_}
 use mathlib.Core.Bool.{Bool, true, false, cond, true≢false}
-use mathlib.Core.List.{List, _∷_, _++_, append-assoc}
+use mathlib.Core.List.{List, [], _∷_, _++_, append-assoc}
 use mathlib.Core.Logic.{_⊎_, inl, inr, ⊎-elim}
 use mathlib.Core.Path.{_≡_, refl, sym, ap, ap₂, subst, _∙_}
 use native.Mathlib.Nat.{pow-suc}
@@ -11,7 +11,7 @@ use lib.Dec.{eqb}
 use lib.ListN.{length, getD, take, drop, replicate, length-append, length-replicate, take-append-drop}
 use lib.Seq.{take-at, drop-at, take-append-seam, drop-append-seam, getD-drop, drop-drop}
 use Rattle.cells.specs.Bytes.{Bytes}
-use Rattle.cells.proofs.CellLaws.{bytes-append, bytes-replicate}
+use Rattle.cells.proofs.CellLaws.{bytes-append, bytes-replicate, bytes-drop}
 use Rattle.bools.proofs.BoolLaws.{both, unless}
 use Rattle.pages.specs.Check.{zeroBits}
 use Rattle.pages.specs.Layout.{Label, label, Fits, dataKind, tableKind, isDataKind, isTableKind, numberWidth, checkAt, restAt, bytesOf, numberOf, labelBytes, encoded, spareOf, kindOf, widthOf, labelOf, allOnes, storedCheck, countedCheck, whole}
@@ -26,6 +26,13 @@ numberOf-bytesOf zero n h = omega arith
 numberOf-bytesOf (suc w) n h =
     let less : n / 256 < 256 ^ w = omega (arith, pow-suc 256 w) in
     omega (arith, numberOf-bytesOf w (n / 256) less)
+
+-- the number of some bytes fits them
+pub numberOf-fits : (w : ℕ) (xs : List ℕ) → Bytes xs → numberOf (take w xs) < 256 ^ w
+unfolding numberOf
+numberOf-fits zero xs b = omega arith
+numberOf-fits (suc w) [] b = omega (arith, pow-suc 256 w, numberOf-fits w [] b)
+numberOf-fits (suc w) (x ∷ xs) b = omega (arith, pow-suc 256 w, b 0, numberOf-fits w xs (λ i. b (suc i)))
 
 pub length-bytesOf : (w n : ℕ) → length (bytesOf w n) ≡ w
 unfolding bytesOf
@@ -77,6 +84,16 @@ data-width = refl
 pub table-width : numberWidth tableKind ≡ 4
 unfolding numberWidth isDataKind isTableKind
 table-width = refl
+
+-- the number on a page of bytes has four of them
+pub number-fits : (main : ℕ) (p : List ℕ) → Bytes p → labelOf main p .number < 256 ^ 4
+unfolding labelOf
+number-fits main p b =
+    let fits = numberOf-fits (widthOf main p) (drop 5 (drop main p)) (bytes-drop 5 (drop main p) (bytes-drop main p b)) in
+    ⊎-elim
+    (λ e. omega (arith, subst (λ (w : ℕ). numberOf (take (widthOf main p) (drop 5 (drop main p))) < 256 ^ w) e fits))
+    (λ e. subst (λ (w : ℕ). numberOf (take (widthOf main p) (drop 5 (drop main p))) < 256 ^ w) e fits)
+    (width-cases (kindOf main p))
 
 pub length-labelBytes : (l : Label) → length (labelBytes l) ≡ 5 + numberWidth (l .kind)
 unfolding labelBytes bytesOf

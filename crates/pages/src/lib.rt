@@ -121,7 +121,6 @@ pub fn place_of(page: &[u8], main: usize) -> usize
 pub fn number_of(page: &[u8], main: usize) -> u64
     requires { ⌜ Sized main (now page) ⌝ }
     ensures { λ r. ⌜ r ≡ labelOf main (now (page .entry)) .number ⌝ }
-    ensures { λ r. ⌜ r < 4294967296 ⌝ }
 {
     let width = number_width(kind_of(page, main));
     if width == 0 {

@@ -10,10 +10,11 @@ use Rattle.chip.specs.Chip.Cycle.{status}
 use Rattle.bus.specs.Line.{Line, send, goesOn}
 use Rattle.polling.specs.declared.Outcome.{Outcome}
 use Rattle.polling.specs.declared.Outcome.the-variants.{Passed, Failed, Silent, Cut, Illegal}
+use Rattle.interface.specs.Interface.{busyStatusPhase}
 
 -- after a status read: busy still, and nothing refused
 unfoldable pub waiting : Device → Bool
-waiting d = cond (eqb (d .port .phase) 8) (eqb (d .port .illegal) 0) false
+waiting d = cond (eqb (d .port .phase) busyStatusPhase) (eqb (d .port .illegal) 0) false
 
 -- how many status reads are sent, at most n, until one reports ready
 unfoldable pub polls : Setting → ℕ → Device → ℕ
@@ -28,7 +29,7 @@ unfoldable pub outcomeOf : Line → Outcome
 outcomeOf l =
     cond (eqb (l .cut) 0)
     (cond (eqb (l .chip .port .illegal) 0)
-    (cond (eqb (l .chip .port .phase) 8) Silent (cond (eqb (l .chip .port .failed) 0) Passed Failed))
+    (cond (eqb (l .chip .port .phase) busyStatusPhase) Silent (cond (eqb (l .chip .port .failed) 0) Passed Failed))
     Illegal)
     Cut
 
@@ -49,5 +50,5 @@ polled s zero l = l
 polled s (suc n) l =
     let more = polled s n (send s l status) in
     cond (goesOn (send s l status))
-    (cond (eqb (send s l status .chip .port .phase) 8) more (send s l status))
+    (cond (eqb (send s l status .chip .port .phase) busyStatusPhase) more (send s l status))
     (send s l status)

@@ -55,7 +55,7 @@ module _ (s : Setting) (d : Device) (n : ℕ) (state : State) (logical page : �
       module _ (full : block ≡ none → ⊥) where
         pub block-below : block < s .geometry .blocks
         block-below =
-            let m = mounted-facts state (s .geometry .blocks) (s .geometry .logical) (is-valid .blocks-most) (omega (arith, is-valid .logical-most, is-valid .blocks-most)) (not-refused .is-mounted) in
+            let m = mounted-facts state (s .geometry .blocks) (s .geometry .logical) (is-valid .blocks-most) (not-refused .is-mounted) in
             omega (arith, entry, m .copy-below logical (not-refused .logical-below) (λ z. full (entry ∙ z)))
 
         pub ends-read : {r : ReadResult} → r ≡ readingBlock s d n state block page buffer → r ≡ readingPage s d n state logical page buffer

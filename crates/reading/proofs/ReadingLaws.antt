@@ -188,8 +188,8 @@ module _ (s : Setting) (d : Device) (n : ℕ) (state : State) (logical page : �
             }
 
     -- a read with a copy, whatever the fate words and the allowance
-    pub read-ends : (entry ≡ none → ⊥) → Ends s d n state (readingPage s d n state logical page buffer)
-    read-ends x =
+    pub request-ends : (entry ≡ none → ⊥) → Ends s d n state (readingPage s d n state logical page buffer)
+    request-ends x =
         subst (Ends s d n state) (sym (one-copy x)) (block-ends entry (block-below s d n state logical page buffer 0 unrefused refl entry refl x))
 
     -- no cycle is answered illegal, so the answer is 0, 10 or 11
@@ -197,7 +197,7 @@ module _ (s : Setting) (d : Device) (n : ℕ) (state : State) (logical page : �
         → (readingPage s d n state logical page buffer .returned .answer ≡ 0) ⊎ ((readingPage s d n state logical page buffer .returned .answer ≡ 10) ⊎ (readingPage s d n state logical page buffer .returned .answer ≡ 11))
     unfolding readEnd isPassed isSilent isCut stopAnswer
     read-legal x =
-        let e = read-ends x .answer-is in
+        let e = request-ends x .answer-is in
         cases (ltb n (readTotal s (start .chip) (s .geometry .main)))
         (λ t. inr (inr (e ∙ rw t)))
         (λ t. cases (ltb (busyOf (wordFor s (start .chip))) 256) (λ u. inl (e ∙ rw (t, u))) (λ u. inr (inl (e ∙ rw (t, u)))))

@@ -4,7 +4,7 @@ use geometry::Geometry;
 use interface::Interface;
 use libc::STDOUT_FILENO;
 use state::State;
-ghost use Prim.Native.Nat.{_<_, _≤_};
+ghost use Prim.Native.Nat.{_≤_};
 
 // The allowance that cuts nothing.
 const UNCUT: u32 = 4294967295;

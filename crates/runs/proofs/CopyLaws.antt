@@ -1,5 +1,5 @@
 -- Blocks by their pages: one that holds a copy, one that holds a copy with bits raised, an erased one. Assumes nothing.
-use Prim.Native.Nat.{ℕ, zero, suc, _+_, _*_, _≤_, _<_}
+use Prim.Native.Nat.{ℕ, zero, suc, _+_, _-_, _*_, _≤_, _<_}
 use mathlib.Core.Bool.{true, false, false≢true}
 use mathlib.Core.List.{List}
 use mathlib.Core.Path.{_≡_, refl, sym, ap, ap₂, subst, _∙_}
@@ -20,34 +20,40 @@ use Rattle.pages.specs.Over.{Over}
 use Rattle.pages.proofs.LayoutLaws.{encoded-whole, encoded-label, encoded-first, encoded-main, bytes-encoded, raised-whole-any, erased-not-whole}
 use Rattle.pages.proofs.ByteLaws.{width-le}
 use Rattle.pages.proofs.OverLaws.{over-getD, over-bytes-to}
-use Rattle.copies.specs.Blocks.{pageIn, wholeIn, labelIn, mainIn, markByte, isMarked, agrees, completeTo, isComplete, aboveTo}
-use Rattle.fill.specs.Fill.{Copy, pageOf}
+use Rattle.copies.specs.Blocks.{pageIn, wholeIn, labelIn, mainIn, markByte, isMarked, agrees, completeTo, isComplete, anyTo, greatestTo}
+use Rattle.fill.specs.Fill.{Copy, copyPage}
 use Rattle.fill.proofs.PageLaws.{page-long}
 use Rattle.runs.specs.Run.{Labelled}
 
 -- numbers on whole pages are below some number
-pub above-most : (g : Geometry) (row : List ℕ) (k n : ℕ) → ((i : ℕ) → i < n → wholeIn g row i ≡ true → labelIn g row i .number < k) → aboveTo g row n ≤ k
-unfolding aboveTo
-above-most g row k zero f = omega arith
-above-most g row k (suc n) f =
-    let less = above-most g row k n (λ i h. f i (omega (arith, h))) in
+pub greatest-most : (g : Geometry) (row : List ℕ) (k n : ℕ) → 0 < k → ((i : ℕ) → i < n → wholeIn g row i ≡ true → labelIn g row i .number < k) → greatestTo g row n < k
+unfolding greatestTo
+greatest-most g row k zero z f = z
+greatest-most g row k (suc n) z f =
+    let less = greatest-most g row k n z (λ i h. f i (omega (arith, h))) in
     cases (wholeIn g row n)
     (λ t. rw t (omega (arith, less, f n (omega arith) t)))
     (λ t. rw t less)
 
 -- the number of a whole page
-pub above-least : (g : Geometry) (row : List ℕ) (n i : ℕ) → i < n → wholeIn g row i ≡ true → labelIn g row i .number + 1 ≤ aboveTo g row n
-unfolding aboveTo
-above-least g row zero i h t = absurd (omega (arith, h))
-above-least g row (suc n) i h t =
+pub greatest-least : (g : Geometry) (row : List ℕ) (n i : ℕ) → i < n → wholeIn g row i ≡ true → labelIn g row i .number ≤ greatestTo g row n
+unfolding greatestTo
+greatest-least g row zero i h t = absurd (omega (arith, h))
+greatest-least g row (suc n) i h t =
     cases (eqb i n)
     (λ e.
     let j = eqb-true i n e in
     let here : wholeIn g row n ≡ true = ap (wholeIn g row) (sym j) ∙ t in
     rw here (omega (arith, ap (λ (k : ℕ). labelIn g row k .number) j)))
     (λ e.
-    let less = above-least g row n i (omega (arith, h, eqb-false i n e)) t in
+    let less = greatest-least g row n i (omega (arith, h, eqb-false i n e)) t in
     cases (wholeIn g row n) (λ u. rw u (omega (arith, less))) (λ u. rw u less))
+
+-- page 0 is whole
+pub any-first : (g : Geometry) (row : List ℕ) (n : ℕ) → wholeIn g row 0 ≡ true → anyTo g row (suc n) ≡ true
+unfolding anyTo
+any-first g row zero t = rw t
+any-first g row (suc n) t = cases (wholeIn g row (suc n)) (λ u. rw u) (λ u. rw u (any-first g row n t))
 
 -- a block whose first two pages have FFh in the mark's place
 pub no-mark : (g : Geometry) (row : List ℕ) → markByte g row 0 ≡ 255 → markByte g row 1 ≡ 255 → isMarked g row ≡ false
@@ -59,8 +65,8 @@ module _ (g : Geometry) (v : Valid g) (row : List ℕ) (erased : (i : ℕ) → i
   pub erased-unwhole : (i : ℕ) → i < g .pages → wholeIn g row i ≡ false
   erased-unwhole i h = ap (whole (g .main)) (erased i h) ∙ erased-not-whole (g .main) (pageSize g)
 
-  pub erased-above : aboveTo g row (g .pages) ≤ 0
-  erased-above = above-most g row 0 (g .pages) (λ i h t. absurd (false≢true (sym (erased-unwhole i h) ∙ t)))
+  pub erased-greatest : greatestTo g row (g .pages) < 1
+  erased-greatest = greatest-most g row 1 (g .pages) (omega arith) (λ i h t. absurd (false≢true (sym (erased-unwhole i h) ∙ t)))
 
   erased-byte : (i : ℕ) → i < g .pages → markByte g row i ≡ 255
   erased-byte i h = ap (λ (x : List ℕ). getD x (g .main) 0) (erased i h) ∙ getD-replicate (pageSize g) (g .main) 255 0 (omega (arith, v .spare-least))
@@ -71,7 +77,7 @@ module _ (g : Geometry) (v : Valid g) (row : List ℕ) (erased : (i : ℕ) → i
 -- the pages of a copy
 module _ (g : Geometry) (v : Valid g) (c : Copy) (fits : Labelled c) (main : ℕ → List ℕ) (long : (i : ℕ) → i < g .pages → length (main i) ≡ g .main) (bytes : (i : ℕ) → i < g .pages → Bytes (main i)) where
   abbrev pub pages : ℕ → List ℕ
-  pages i = pageOf g c i (main i)
+  pages i = copyPage g c i (main i)
 
   abbrev labelAt : ℕ → Label
   labelAt i = label (c .kind) (c .logical) i (c .number)
@@ -142,10 +148,15 @@ module _ (g : Geometry) (v : Valid g) (c : Copy) (fits : Labelled c) (main : ℕ
     unfolding isComplete
     copy-complete = rw copy-unmarked (all-agree (g .pages) (omega arith))
 
-    pub copy-above : aboveTo g row (g .pages) ≡ c .number + 1
-    copy-above =
-        let first = above-least g row (g .pages) 0 (omega (arith, v .pages-least)) (copy-whole 0 (omega (arith, v .pages-least))) in
-        let most = above-most g row (c .number + 1) (g .pages) (λ i h t. omega (arith, ap (λ (x : Label). x .number) (copy-label i h))) in
+    pub copy-any : anyTo g row (g .pages) ≡ true
+    copy-any =
+        let e : suc (g .pages - 1) ≡ g .pages = omega (arith, v .pages-least) in
+        ap (anyTo g row) (sym e) ∙ any-first g row (g .pages - 1) (copy-whole 0 (omega (arith, v .pages-least)))
+
+    pub copy-greatest : greatestTo g row (g .pages) ≡ c .number
+    copy-greatest =
+        let first = greatest-least g row (g .pages) 0 (omega (arith, v .pages-least)) (copy-whole 0 (omega (arith, v .pages-least))) in
+        let most = greatest-most g row (c .number + 1) (g .pages) (omega arith) (λ i h t. omega (arith, ap (λ (x : Label). x .number) (copy-label i h))) in
         omega (arith, first, most, ap (λ (x : Label). x .number) (copy-label 0 (omega (arith, v .pages-least))))
 
   -- a block that holds its pages with bits raised
@@ -161,8 +172,8 @@ module _ (g : Geometry) (v : Valid g) (c : Copy) (fits : Labelled c) (main : ℕ
         ap (λ (x : List ℕ). labelOf (g .main) x .number) (raised-same i h t)
         ∙ by-main (λ (k : ℕ). labelOf k (pages i) .number ≡ c .number) i h (ap (λ (x : Label). x .number) (encoded-label (g .spare) (labelAt i) (main i) (label-fits i h) spare-enough))
 
-    pub raised-above : aboveTo g row (g .pages) ≤ c .number + 1
-    raised-above = above-most g row (c .number + 1) (g .pages) (λ i h t. omega (arith, raised-number i h t))
+    pub raised-greatest : greatestTo g row (g .pages) < c .number + 1
+    raised-greatest = greatest-most g row (c .number + 1) (g .pages) (omega arith) (λ i h t. omega (arith, raised-number i h t))
 
     -- byte 0 of the spare bytes is FFh still
     raised-byte : (i : ℕ) → i < g .pages → markByte g row i ≡ 255

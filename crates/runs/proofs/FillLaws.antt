@@ -24,7 +24,7 @@ use Rattle.pages.specs.Over.{Over, none, more}
 use Rattle.pages.proofs.OverLaws.{over-refl, programmed-over}
 use Rattle.copies.specs.Blocks.{blockIn, pageIn, mainIn}
 use Rattle.progress.specs.Progress.{Progress, readOn}
-use Rattle.fill.specs.Fill.{Copy, Source, pageOf, mainOf, mainRead, pageFilled, pagesFilled, filled, given, kept}
+use Rattle.fill.specs.Fill.{Copy, Source, copyPage, mainOf, mainRead, pageFilled, pagesFilled, filled, given, kept}
 use Rattle.progress.specs.Steps.{eraseOn, programOn}
 use Rattle.polling.proofs.OutcomeLaws.{passed-answered, passed-unfailed, read-end-unfailed, passed-read-end}
 use Rattle.progress.proofs.StepLaws.{program-stopped}
@@ -194,7 +194,7 @@ module _ (s : Setting) (p : Progress) (block : ℕ) (below : block < s .geometry
     provided-next from page (from-caller main) e =
         subst (λ (x : List ℕ). Filled s p (programOn s block n x q) block pages (suc n) (k + programMost (s .geometry))) (sym e) (program-next q n page-below k r t)
     provided-next from page (from-copy old old-below x) e =
-        kept-next old old-below _ (ap (λ (row : List ℕ). pageOf (s .geometry) c n (mainIn (s .geometry) row n)) (r .others old old-below x) ∙ e)
+        kept-next old old-below _ (ap (λ (row : List ℕ). copyPage (s .geometry) c n (mainIn (s .geometry) row n)) (r .others old old-below x) ∙ e)
 
     page-next : Filled s p (pageFilled s block c n (source n) q) block pages (suc n) (k + sourceMost (s .geometry) (source n))
     page-next = provided-next (source n) (pages n) (meant .provides n page-below) refl

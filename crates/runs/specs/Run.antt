@@ -19,7 +19,7 @@ use Rattle.pages.specs.Layout.{numberWidth}
 use Rattle.pages.specs.Over.{Over}
 use Rattle.copies.specs.Blocks.{blockIn, pageIn, mainIn}
 use Rattle.progress.specs.Progress.{Progress}
-use Rattle.fill.specs.Fill.{Copy, Source, given, kept, pageOf}
+use Rattle.fill.specs.Fill.{Copy, Source, given, kept, copyPage}
 
 -- some fate word has 256 or more busy reads
 pub record Slow (fates : List ℕ) : Type 0 where
@@ -129,8 +129,8 @@ pub record Programmed (s : Setting) (p q : Progress) (block page : ℕ) (bytes :
 
 -- where the bytes of page n of a copy come from: the caller, or the same page of another block
 pub data Provides (g : Geometry) (array : List ℕ) (block : ℕ) (c : Copy) (n : ℕ) : Source → List ℕ → Type 0 where
-  from-caller : (main : List ℕ) → Provides g array block c n (given main) (pageOf g c n main)
-  from-copy : (old : ℕ) → old < g .blocks → (old ≡ block → ⊥) → Provides g array block c n (kept old) (pageOf g c n (mainIn g (blockIn g array old) n))
+  from-caller : (main : List ℕ) → Provides g array block c n (given main) (copyPage g c n main)
+  from-copy : (old : ℕ) → old < g .blocks → (old ≡ block → ⊥) → Provides g array block c n (kept old) (copyPage g c n (mainIn g (blockIn g array old) n))
 
 -- a copy whose label has a layout and fits its bytes
 pub record Labelled (c : Copy) : Type 0 where

@@ -11,6 +11,7 @@ use Rattle.bus.specs.Line.{Line, send, sendAll, goesOn, byteOut}
 use Rattle.polling.specs.declared.Outcome.{Outcome}
 use Rattle.polling.specs.Polling.{statusReads, outcomeOf, endedAs}
 use Rattle.polling.specs.Outcomes.{isPassed}
+use Rattle.interface.specs.Interface.{resetCode, statusCode, readCode, programCode, eraseCode, readConfirm, programConfirm, eraseConfirm}
 
 -- two column bytes and three row bytes
 abbrev pub addressCycles : ℕ → ℕ → List Cycle
@@ -21,23 +22,23 @@ rowCycles row = map address (rowBytes row)
 
 -- FFh, 70h, one status read
 abbrev pub resetCycles : List Cycle
-resetCycles = command 255 ∷ command 112 ∷ status ∷ []
+resetCycles = command resetCode ∷ command statusCode ∷ status ∷ []
 
 -- 00h, five address bytes; then 30h
 abbrev pub readAddress : ℕ → ℕ → List Cycle
-readAddress row column = command 0 ∷ addressCycles column row
+readAddress row column = command readCode ∷ addressCycles column row
 
 -- 80h, five address bytes, the data; then 10h
 abbrev pub programData : ℕ → List ℕ → List Cycle
-programData row bytes = command 128 ∷ (addressCycles 0 row ++ map dataIn bytes)
+programData row bytes = command programCode ∷ (addressCycles 0 row ++ map dataIn bytes)
 
 -- 60h, three row bytes; then D0h
 abbrev pub eraseAddress : ℕ → List Cycle
-eraseAddress row = command 96 ∷ rowCycles row
+eraseAddress row = command eraseCode ∷ rowCycles row
 
 -- a confirm cycle and 70h
 abbrev pub confirmCycles : ℕ → List Cycle
-confirmCycles code = command code ∷ command 112 ∷ []
+confirmCycles code = command code ∷ command statusCode ∷ []
 
 -- an operation up to the status read that reports ready, from a line l: the first cycles, the confirm cycle, 70h, status reads
 abbrev pub confirmedCycles : Setting → Line → List Cycle → ℕ → List Cycle
@@ -45,14 +46,14 @@ confirmedCycles s l first code =
     (first ++ confirmCycles code) ++ statusReads s (sendAll s l (first ++ confirmCycles code) .chip)
 
 abbrev pub programCycles : Setting → Line → ℕ → List ℕ → List Cycle
-programCycles s l row bytes = confirmedCycles s l (programData row bytes) 16
+programCycles s l row bytes = confirmedCycles s l (programData row bytes) programConfirm
 
 abbrev pub eraseCycles : Setting → Line → ℕ → List Cycle
-eraseCycles s l row = confirmedCycles s l (eraseAddress row) 208
+eraseCycles s l row = confirmedCycles s l (eraseAddress row) eraseConfirm
 
 -- a read: up to ready, and where it is ready 00h and n bytes out
 abbrev pub pageRead : Setting → Line → ℕ → ℕ → List Cycle
-pageRead s l row column = confirmedCycles s l (readAddress row column) 48
+pageRead s l row column = confirmedCycles s l (readAddress row column) readConfirm
 
 abbrev pub pageLine : Setting → Line → ℕ → ℕ → Line
 pageLine s l row column = sendAll s l (pageRead s l row column)
@@ -60,7 +61,7 @@ pageLine s l row column = sendAll s l (pageRead s l row column)
 unfoldable pub readCycles : Setting → Line → ℕ → ℕ → ℕ → List Cycle
 readCycles s l row column n =
     pageRead s l row column
-    ++ cond (isPassed (outcomeOf (pageLine s l row column))) (command 0 ∷ replicate n dataOut) []
+    ++ cond (isPassed (outcomeOf (pageLine s l row column))) (command readCode ∷ replicate n dataOut) []
 
 unfoldable pub readOutcome : Setting → Line → ℕ → ℕ → ℕ → Outcome
 readOutcome s l row column n =
@@ -75,4 +76,4 @@ outputs s (suc n) l =
 
 unfoldable pub readOutputs : Setting → Line → ℕ → ℕ → ℕ → List ℕ
 readOutputs s l row column n =
-    cond (isPassed (outcomeOf (pageLine s l row column))) (outputs s n (send s (pageLine s l row column) (command 0))) []
+    cond (isPassed (outcomeOf (pageLine s l row column))) (outputs s n (send s (pageLine s l row column) (command readCode))) []

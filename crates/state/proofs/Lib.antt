@@ -1,3 +1,4 @@
 pub mod MountedLaws
 pub mod StateLaws
 pub mod TakenLaws
+pub mod NumberLaws

@@ -1,23 +1,21 @@
 -- The test of a mounted state is true exactly where what it stands for holds of every bit and every entry. Assumes nothing.
-use Prim.Native.Nat.{ℕ, zero, suc, _+_, _-_, _^_, _≤_, _<_}
+use Prim.Native.Nat.{ℕ, zero, suc, _+_, _-_, _≤_, _<_}
 use mathlib.Core.Bool.{Bool, true, false, cond, false≢true}
 use mathlib.Core.List.{List}
 use mathlib.Core.Path.{_≡_, refl, sym, ap, subst, _∙_}
-use native.Mathlib.Nat.{zero-div}
 use native.Mathlib.Omega.{arith}
 use borrow.Table.Steps.{cases}
 use borrow.Author.Tests.{eqb-true, eqb-false, eq-eqb, ltb-true, ltb-false, lt-ltb}
 use lib.Dec.{eqb, ltb}
-use lib.ListN.{length, getD, replicate, getD-replicate, length-replicate}
-use Rattle.bitmaps.specs.Bitmap.{byteOf, placeOf, bitAt, withBit, clearFrom, neverBoth}
+use lib.ListN.{length, getD, replicate, length-replicate}
+use Rattle.bitmaps.specs.Bitmap.{byteOf, bitAt, withBit, clearFrom, neverBoth}
 use Rattle.bitmaps.proofs.BitLaws.{bit-set, bit-kept}
 use Rattle.choose.specs.Choose.{permitted}
 use Rattle.state.specs.State.{none, emptyFrom, soundBlock, soundFrom, soundEntries, mounted, Mounted}
 use Rattle.state.specs.declared.State.{State}
 use Rattle.state.proofs.StateLaws.{with-length}
-
-clash : {P : Type 0} {b : Bool} → b ≡ true → b ≡ false → P
-clash t f = absurd (false≢true (sym f ∙ t))
+use Rattle.bitmaps.proofs.BitmapLaws.{blank-bit}
+use Rattle.bools.proofs.BoolLaws.{clash}
 
 -- both of two tests hold
 first-holds : (a b : Bool) → cond a b false ≡ true → a ≡ true
@@ -129,12 +127,6 @@ module _ (marked invalid named : List ℕ) (blocks b : ℕ) where
 -- a block below 4096 has its bit in a bitmap of 512 bytes
 set-named : (named : List ℕ) (b : ℕ) → length named ≡ 512 → b < 4096 → bitAt (withBit named b) b ≡ true
 set-named named b e h = bit-set named b (let g : byteOf b < 512 = omega arith in omega (arith, g, e))
-
-pub blank-clear : (b : ℕ) → b < 4096 → bitAt (replicate 512 0) b ≡ false
-unfolding bitAt
-blank-clear b h =
-    let g : byteOf b < 512 = omega arith in
-    rw (getD-replicate {A = ℕ} 512 (byteOf b) 0 0 g, zero-div (2 ^ placeOf b))
 
 module _ (s : State) (blocks : ℕ) (room : blocks ≤ 4096) where
   abbrev entry : ℕ → ℕ
@@ -323,7 +315,7 @@ module _ (s : State) (blocks logical : ℕ) (room : blocks ≤ 4096) where
             below = m .table-below;
             unmarked = m .table-unmarked;
             valid = m .table-valid;
-            unnamed = blank-clear (s .table) (omega (arith, room, m .table-below));
+            unnamed = blank-bit 512 (s .table);
           }
 
       copy : (l : ℕ) → l < logical → (getD (s .map) l 0 ≡ none → ⊥) → Sound (s .marked) (s .invalid) start blocks (getD (s .map) l 0)
@@ -332,16 +324,16 @@ module _ (s : State) (blocks logical : ℕ) (room : blocks ≤ 4096) where
             below = m .copy-below l h x;
             unmarked = m .copy-unmarked l h x;
             valid = m .copy-valid l h x;
-            unnamed = bit-kept (replicate 512 0) (s .table) (getD (s .map) l 0) (m .copy-off-table l h x) ∙ blank-clear (getD (s .map) l 0) (omega (arith, room, m .copy-below l h x));
+            unnamed = bit-kept (replicate 512 0) (s .table) (getD (s .map) l 0) (m .copy-off-table l h x) ∙ blank-bit 512 (getD (s .map) l 0);
           }
 
 -- a state counts as mounted exactly where what the record says holds of it
-pub mounted-facts : (s : State) (blocks logical : ℕ) → blocks ≤ 4096 → logical ≤ 4096 → mounted s blocks logical ≡ true → Mounted s blocks logical
-mounted-facts s blocks logical room most e =
+pub mounted-facts : (s : State) (blocks logical : ℕ) → blocks ≤ 4096 → mounted s blocks logical ≡ true → Mounted s blocks logical
+mounted-facts s blocks logical room e =
     let t = tests s blocks logical room e in
     facts s blocks logical room t
     (sound-block (s .marked) (s .invalid) (replicate 512 0) blocks (s .table) (t .table))
     (sound-all s blocks room logical 0 (start s blocks logical room) (start-size s blocks logical room) (t .map))
 
-pub mounted-holds : (s : State) (blocks logical : ℕ) → blocks ≤ 4096 → logical ≤ 4096 → Mounted s blocks logical → mounted s blocks logical ≡ true
-mounted-holds s blocks logical room most m = holds s blocks logical room m
+pub mounted-holds : (s : State) (blocks logical : ℕ) → blocks ≤ 4096 → Mounted s blocks logical → mounted s blocks logical ≡ true
+mounted-holds s blocks logical room m = holds s blocks logical room m

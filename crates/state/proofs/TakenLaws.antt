@@ -17,7 +17,7 @@ use Rattle.choose.specs.Choose.{permitted}
 use Rattle.state.specs.State.{soundFrom}
 use Rattle.state.specs.declared.State.{State}
 use Rattle.state.proofs.StateLaws.{with-length}
-use Rattle.state.proofs.MountedLaws.{blank-clear}
+use Rattle.bitmaps.proofs.BitmapLaws.{blank-bit}
 
 -- each of the k entries from n on is empty, or of a block of the chip that is not taken, and takes it
 unfoldable pub takesFrom : List ℕ → ℕ → List ℕ → ℕ → ℕ → Bool
@@ -109,7 +109,7 @@ module _ (marked invalid : List ℕ) where
   flag-free : (b : ℕ) → b < 4096 → eqb (flagOf marked invalid b) 0 ≡ permitted marked invalid (replicate 512 0) b
   unfolding permitted
   flag-free b h =
-      rw (blank-clear b h)
+      rw (blank-bit 512 b)
       (cases (bitAt marked b) (λ t. rw t) (λ f. rw f (cases (bitAt invalid b) (λ t. rw t) (λ g. rw g))))
 
   pub free-flags : (taken : List ℕ) → taken ≡ flagsOf marked invalid 4096 → Free marked invalid (replicate 512 0) taken

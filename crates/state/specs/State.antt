@@ -3,7 +3,7 @@ use Prim.Native.Nat.{ℕ, zero, suc, _+_, _-_, _≤_, _<_}
 use mathlib.Core.Bool.{Bool, true, false, cond}
 use mathlib.Core.List.{List}
 use mathlib.Core.Path.{_≡_}
-use lib.Dec.{eqb, ltb}
+use lib.Dec.{eqb, leb, ltb}
 use lib.ListN.{getD, set, replicate}
 use Rattle.bitmaps.specs.Bitmap.{bitAt, withBit, clearFrom, neverBoth}
 use Rattle.choose.specs.Choose.{permitted, countPermitted}
@@ -14,14 +14,32 @@ abbrev pub blank : ℕ → State
 blank status =
     record { status = status; table = 0; last = 0; number = 0; marked = replicate 512 0; invalid = replicate 512 0; map = replicate 4096 0 }
 
--- the numbers end at 4,294,967,295 ("spent")
+-- a mounted state: next number, table's block, block filled last, factory marks, invalid blocks, map
+abbrev pub mountedWith : ℕ → ℕ → ℕ → List ℕ → List ℕ → List ℕ → State
+mountedWith n table last marked invalid map =
+    record { status = 1; table = table; last = last; number = n; marked = marked; invalid = invalid; map = map }
+
+-- the next number
+abbrev pub nextNumber : State → ℕ
+nextNumber s = s .number
+
+-- the numbers end below 4,294,967,296 ("spent")
+abbrev pub numberEnd : ℕ
+numberEnd = 4294967296
+
+abbrev pub numbersLeft : State → ℕ
+numbersLeft s = numberEnd - nextNumber s
+
 abbrev pub spent : State → Bool
-spent s = ltb 4294967295 (s .number)
+spent s = leb numberEnd (nextNumber s)
 
 -- the number is taken
 abbrev pub withNumber : ℕ → State → State
 withNumber n s =
     record { status = s .status; table = s .table; last = s .last; number = n; marked = s .marked; invalid = s .invalid; map = s .map }
+
+abbrev pub taken : State → State
+taken s = withNumber (nextNumber s + 1) s
 
 -- a block that failed is invalid
 abbrev pub withInvalid : ℕ → State → State

@@ -5,7 +5,10 @@ ghost use Prim.Native.Nat.{_+_, _-_, _<_, _≤_};
 ghost use lib.ListN.{length, replicate};
 ghost use Rattle.bitmaps.specs.Bitmap.{withBit};
 ghost use Rattle.choose.specs.Choose.{chosen};
-ghost use Rattle.state.specs.State.{blank, spent, withNumber, withInvalid, withCopy, withTable, heldBits, emptyFrom, soundBlock, soundFrom, soundEntries, mounted, freeBlocks};
+ghost use Rattle.state.specs.State.{blank, mountedWith, nextNumber, numberEnd, spent, taken, withInvalid, withCopy, withTable, heldBits, emptyFrom, soundBlock, soundFrom, soundEntries, mounted, freeBlocks};
+
+// The numbers end below this.
+const NUMBER_END: u64 = 4294967296;
 
 // What a mount found and the fills since changed. It goes in by value and comes back.
 pub struct State {
@@ -61,18 +64,48 @@ impl State {
         }
     }
 
+    // A mounted state whose next number is one above the greatest found, 0 if none was.
+    pub fn mounted_above(
+        greatest: u64,
+        table: usize,
+        last: usize,
+        marked: [u8; 512],
+        invalid: [u8; 512],
+        map: [u16; 4096],
+    ) -> Self
+        requires { ⌜ greatest < numberEnd ⌝ }
+        ensures { λ r. ⌜ r ≡ mountedWith (greatest + 1) table last marked invalid map ⌝ }
+    {
+        Self {
+            status: 1,
+            table,
+            last,
+            number: greatest + 1,
+            marked,
+            invalid,
+            map,
+        }
+    }
+
+    // The next number.
+    pub fn next_number(self) -> u64
+        ensures { λ r. ⌜ r ≡ nextNumber self ⌝ }
+    {
+        self.number
+    }
+
     // Whether no number is left.
     pub fn is_spent(self) -> bool
         ensures { λ r. ⌜ r ≡ spent self ⌝ }
     {
         let number = self.number;
-        4294967295 < number
+        NUMBER_END <= number
     }
 
     // The state after its next number was taken.
     pub fn take_number(mut self) -> Self
-        requires { ⌜ self .number ≤ 4294967295 ⌝ }
-        ensures { λ r. ⌜ r ≡ withNumber (self .number + 1) self ⌝ }
+        requires { ⌜ nextNumber self < numberEnd ⌝ }
+        ensures { λ r. ⌜ r ≡ taken self ⌝ }
     {
         let number = self.number;
         self.number = number + 1;

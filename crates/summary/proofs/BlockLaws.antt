@@ -1,5 +1,5 @@
 -- The summary of a block's pages says what the definitions say of the block. Assumes nothing.
-use Prim.Native.Nat.{ℕ, zero, suc, _+_, _-_, max, _≤_}
+use Prim.Native.Nat.{ℕ, zero, suc, _-_, _*_, max, _≤_, _<_, _^_}
 use mathlib.Core.Bool.{Bool, true, false, cond, false≢true}
 use mathlib.Core.List.{List}
 use mathlib.Core.Path.{_≡_, refl, sym, ap, subst, _∙_}
@@ -8,16 +8,20 @@ use borrow.Table.Steps.{cases}
 use borrow.Author.Tests.{eq-eqb, ne-eqb, le-ltb}
 use lib.Dec.{eqb}
 use Rattle.geometry.specs.declared.Geometry.{Geometry}
+use Rattle.geometry.specs.Sizes.{pageSize}
+use Rattle.cells.specs.Bytes.{Bytes}
+use Rattle.cells.proofs.PartLaws.{bytes-part}
 use Rattle.pages.specs.Layout.{Label, label, labelOf, kindOf, numberWidth}
 use Rattle.bools.proofs.BoolLaws.{unless}
-use Rattle.pages.proofs.LayoutLaws.{whole-width, width-zero}
-use Rattle.copies.specs.Blocks.{pageIn, agrees, wholeIn, labelIn, completeTo, aboveTo, isMarked, isComplete, above, markByte}
-use Rattle.summary.specs.Summary.{blankSummary, broken, summed, stepped, wholeStep, markedBy, saysComplete, saysAbove}
+use Rattle.pages.proofs.LayoutLaws.{whole-width, width-zero, number-fits}
+use Rattle.copies.specs.Blocks.{pageIn, agrees, wholeIn, labelIn, completeTo, isMarked, isComplete, markByte, anyTo, greatestTo, hasNumber, greatest}
+use Rattle.summary.specs.Summary.{blankSummary, broken, summed, stepped, wholeStep, markedBy, saysComplete, saysNumber}
 use Rattle.summary.specs.declared.Summary.{Summary}
 
 -- a summary of the first n pages, n at least 1
 pub record Sums (g : Geometry) (block : List ℕ) (n : ℕ) (s : Summary) : Type 0 where
-  pub above-is : s .above ≡ aboveTo g block n
+  pub any-is : s .any ≡ cond (anyTo g block n) 1 0
+  pub greatest-is : s .greatest ≡ greatestTo g block n
   pub complete-is : s .complete ≡ cond (completeTo g block n) 1 0
   pub kind-is : wholeIn g block 0 ≡ true → s .kind ≡ labelIn g block 0 .kind
   pub logical-is : wholeIn g block 0 ≡ true → s .logical ≡ labelIn g block 0 .logical
@@ -58,10 +62,6 @@ flags true c = refl
 flags false true = refl
 flags false false = refl
 
-marked-arms : (m : Bool) (n : ℕ) → cond (eqb (cond m 1 0) 0) n 0 ≡ cond m 0 n
-marked-arms true n = refl
-marked-arms false n = refl
-
 more-than-one : (n : ℕ) → 2 ≤ n → suc (suc (n - 2)) ≡ n
 more-than-one n h = omega arith
 
@@ -93,13 +93,14 @@ module _ (g : Geometry) (block : List ℕ) where
   page-broken n s t = rw t
 
   sums-first : Sums g block 1 (summed g block 1)
-  unfolding summed wholeStep completeTo aboveTo page
+  unfolding summed wholeStep completeTo anyTo greatestTo page
   sums-first =
       cases (wholeIn g block 0)
       (λ t.
       let e = page-whole 0 blankSummary t in
       record {
-        above-is = ap (λ (s : Summary). s .above) e ∙ rw t;
+        any-is = ap (λ (s : Summary). s .any) e ∙ rw t;
+        greatest-is = ap (λ (s : Summary). s .greatest) e ∙ rw t;
         complete-is = ap (λ (s : Summary). s .complete) e ∙ rw (t, agrees-self (labelIn g block 0)) (cond-flag (eqb (labelIn g block 0 .page) 0));
         kind-is = λ w. ap (λ (s : Summary). s .kind) e;
         logical-is = λ w. ap (λ (s : Summary). s .logical) e;
@@ -109,7 +110,8 @@ module _ (g : Geometry) (block : List ℕ) where
       (λ t.
       let e = page-broken 0 blankSummary t in
       record {
-        above-is = ap (λ (s : Summary). s .above) e ∙ rw t;
+        any-is = ap (λ (s : Summary). s .any) e ∙ rw t;
+        greatest-is = ap (λ (s : Summary). s .greatest) e ∙ rw t;
         complete-is = ap (λ (s : Summary). s .complete) e ∙ rw t;
         kind-is = λ w. absurd (false≢true (sym t ∙ w));
         logical-is = λ w. absurd (false≢true (sym t ∙ w));
@@ -118,14 +120,15 @@ module _ (g : Geometry) (block : List ℕ) where
       })
 
   sums-next : (n : ℕ) (s : Summary) → 1 ≤ n → Sums g block n s → Sums g block (suc n) (page n s)
-  unfolding wholeStep completeTo aboveTo
+  unfolding wholeStep completeTo anyTo greatestTo
   sums-next n s h r =
       cases (wholeIn g block n)
       (λ t.
       let e = page-whole n s t in
       let z = ne-eqb n 0 (λ x. omega (arith, x)) in
       record {
-        above-is = ap (λ (x : Summary). x .above) e ∙ rw (z, t) (ap (λ (k : ℕ). max k (labelIn g block n .number + 1)) (r .above-is));
+        any-is = ap (λ (x : Summary). x .any) e ∙ rw (z, t);
+        greatest-is = ap (λ (x : Summary). x .greatest) e ∙ rw (z, t) (ap (λ (k : ℕ). max k (labelIn g block n .number)) (r .greatest-is));
         complete-is = ap (λ (x : Summary). x .complete) e ∙ rw (z, t) (agreed n s r);
         kind-is = λ w. ap (λ (x : Summary). x .kind) e ∙ rw z (r .kind-is w);
         logical-is = λ w. ap (λ (x : Summary). x .logical) e ∙ rw z (r .logical-is w);
@@ -135,7 +138,8 @@ module _ (g : Geometry) (block : List ℕ) where
       (λ t.
       let e = page-broken n s t in
       record {
-        above-is = ap (λ (x : Summary). x .above) e ∙ rw t (r .above-is);
+        any-is = ap (λ (x : Summary). x .any) e ∙ rw t (r .any-is);
+        greatest-is = ap (λ (x : Summary). x .greatest) e ∙ rw t (r .greatest-is);
         complete-is = ap (λ (x : Summary). x .complete) e ∙ rw t;
         kind-is = λ w. ap (λ (x : Summary). x .kind) e ∙ r .kind-is w;
         logical-is = λ w. ap (λ (x : Summary). x .logical) e ∙ r .logical-is w;
@@ -176,13 +180,13 @@ module _ (g : Geometry) (block : List ℕ) where
   complete-after n =
       rw (marks n, sums (suc n) .complete-is) (flags (isMarked g block) (completeTo g block (suc (suc n))))
 
-  above-after : (n : ℕ) → saysAbove (summed g block (suc (suc n))) ≡ cond (isMarked g block) 0 (aboveTo g block (suc (suc n)))
-  above-after n = rw (marks n, sums (suc n) .above-is) (marked-arms (isMarked g block) (aboveTo g block (suc (suc n))))
+  number-after : (n : ℕ) → saysNumber (summed g block (suc (suc n))) ≡ cond (isMarked g block) false (anyTo g block (suc (suc n)))
+  number-after n = rw (marks n, sums (suc n) .any-is) (flags (isMarked g block) (anyTo g block (suc (suc n))))
 
   -- of all pages, whatever the marks
-  pub summed-above : 2 ≤ g .pages → summed g block (g .pages) .above ≡ aboveTo g block (g .pages)
-  summed-above h =
-      subst (λ (k : ℕ). summed g block k .above ≡ aboveTo g block k) (more-than-one (g .pages) h) (sums (suc (g .pages - 2)) .above-is)
+  pub summed-greatest : 2 ≤ g .pages → summed g block (g .pages) .greatest ≡ greatestTo g block (g .pages)
+  summed-greatest h =
+      subst (λ (k : ℕ). summed g block k .greatest ≡ greatestTo g block k) (more-than-one (g .pages) h) (sums (suc (g .pages - 2)) .greatest-is)
 
   -- a summary of all pages says what the definitions say
   pub says-complete : 2 ≤ g .pages → saysComplete (summed g block (g .pages)) ≡ isComplete g block
@@ -191,11 +195,38 @@ module _ (g : Geometry) (block : List ℕ) where
       subst (λ (k : ℕ). saysComplete (summed g block k) ≡ cond (isMarked g block) false (completeTo g block k)) (more-than-one (g .pages) h)
       (complete-after (g .pages - 2))
 
-  pub says-above : 2 ≤ g .pages → saysAbove (summed g block (g .pages)) ≡ above g block
-  unfolding above
-  says-above h =
-      subst (λ (k : ℕ). saysAbove (summed g block k) ≡ cond (isMarked g block) 0 (aboveTo g block k)) (more-than-one (g .pages) h)
-      (above-after (g .pages - 2))
+  pub says-number : 2 ≤ g .pages → saysNumber (summed g block (g .pages)) ≡ hasNumber g block
+  unfolding hasNumber
+  says-number h =
+      subst (λ (k : ℕ). saysNumber (summed g block k) ≡ cond (isMarked g block) false (anyTo g block k)) (more-than-one (g .pages) h)
+      (number-after (g .pages - 2))
+
+  -- the numbers on pages of bytes have four of them
+  pub greatest-fits : Bytes block → (n : ℕ) → greatestTo g block n < 256 ^ 4
+  unfolding greatestTo
+  greatest-fits b zero = omega arith
+  greatest-fits b (suc n) =
+      let less = greatest-fits b n in
+      cases (wholeIn g block n)
+      (λ t. rw t (omega (arith, less, number-fits (g .main) (pageIn g block n) (bytes-part (n * pageSize g) (pageSize g) block b))))
+      (λ t. rw t less)
+
+  -- the greatest number, where there is one
+  pub says-greatest : 2 ≤ g .pages → hasNumber g block ≡ true → summed g block (g .pages) .greatest ≡ greatest g block
+  unfolding hasNumber greatest
+  says-greatest h t = summed-greatest h ∙ rw (unless (isMarked g block) _ t .0)
+
+  none-to : (n : ℕ) → anyTo g block n ≡ false → greatestTo g block n ≡ 0
+  unfolding anyTo greatestTo
+  none-to zero f = refl
+  none-to (suc n) f =
+      cases (wholeIn g block n)
+      (λ t. absurd (false≢true (sym f ∙ rw t)))
+      (λ t. rw t (none-to n (sym (rw t) ∙ f)))
+
+  pub none-greatest : hasNumber g block ≡ false → greatest g block ≡ 0
+  unfolding hasNumber greatest
+  none-greatest f = cases (isMarked g block) (λ t. rw t) (λ t. rw t (none-to (g .pages) (sym (rw t) ∙ f)))
 
   pub says-marked : 2 ≤ g .pages → summed g block (g .pages) .marked ≡ cond (isMarked g block) 1 0
   says-marked h =

@@ -1,5 +1,5 @@
 -- Laws of labels that agree, and of the summary of a block. Assumes nothing.
-use Prim.Native.Nat.{ℕ, _+_, max}
+use Prim.Native.Nat.{ℕ, max}
 use mathlib.Core.Bool.{false, cond}
 use mathlib.Core.Path.{_≡_}
 use borrow.Author.Tests.{eq-eqb, ne-eqb}
@@ -28,15 +28,15 @@ module _ (first : Label) (p : ℕ) (l : Label) where
 
 -- a summary put together after a whole page
 abbrev pub made : ℕ → ℕ → ℕ → ℕ → ℕ → ℕ → Summary
-made m c k b n a = record { marked = m; complete = c; kind = k; logical = b; number = n; above = a }
+made m c k b n a = record { marked = m; complete = c; kind = k; logical = b; number = n; any = 1; greatest = a }
 
 module _ (marked place : ℕ) (l : Label) (s : Summary) where
-  pub first-made : {c k b n a : ℕ} → place ≡ 0 → c ≡ cond (eqb (l .page) 0) 1 0 → k ≡ l .kind → b ≡ l .logical → n ≡ l .number → a ≡ max (s .above) (l .number + 1) → made marked c k b n a ≡ wholeStep marked place l s
+  pub first-made : {c k b n a : ℕ} → place ≡ 0 → c ≡ cond (eqb (l .page) 0) 1 0 → k ≡ l .kind → b ≡ l .logical → n ≡ l .number → a ≡ max (s .greatest) (l .number) → made marked c k b n a ≡ wholeStep marked place l s
   unfolding wholeStep
   first-made p c k b n a =
-      rw (eq-eqb place 0 p) (λ i. record { marked = marked; complete = c i; kind = k i; logical = b i; number = n i; above = a i })
+      rw (eq-eqb place 0 p) (λ i. record { marked = marked; complete = c i; kind = k i; logical = b i; number = n i; any = 1; greatest = a i })
 
-  pub later-made : {c a : ℕ} → (place ≡ 0 → ⊥) → c ≡ cond (agrees (label (s .kind) (s .logical) 0 (s .number)) place l) (s .complete) 0 → a ≡ max (s .above) (l .number + 1) → made marked c (s .kind) (s .logical) (s .number) a ≡ wholeStep marked place l s
+  pub later-made : {c a : ℕ} → (place ≡ 0 → ⊥) → c ≡ cond (agrees (label (s .kind) (s .logical) 0 (s .number)) place l) (s .complete) 0 → a ≡ max (s .greatest) (l .number) → made marked c (s .kind) (s .logical) (s .number) a ≡ wholeStep marked place l s
   unfolding wholeStep
   later-made p c a =
-      rw (ne-eqb place 0 p) (λ i. record { marked = marked; complete = c i; kind = s .kind; logical = s .logical; number = s .number; above = a i })
+      rw (ne-eqb place 0 p) (λ i. record { marked = marked; complete = c i; kind = s .kind; logical = s .logical; number = s .number; any = 1; greatest = a i })

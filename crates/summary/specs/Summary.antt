@@ -1,5 +1,5 @@
 -- What the pages of a block tell, taken one after the other: the summary that mounts and formatting share.
-use Prim.Native.Nat.{ℕ, zero, suc, _+_, max}
+use Prim.Native.Nat.{ℕ, zero, suc, max}
 use mathlib.Core.Bool.{Bool, false, cond}
 use mathlib.Core.List.{List}
 use lib.Dec.{eqb, ltb}
@@ -10,7 +10,7 @@ use Rattle.copies.specs.Blocks.{agrees, pageIn}
 use Rattle.summary.specs.declared.Summary.{Summary}
 
 abbrev pub blankSummary : Summary
-blankSummary = record { marked = 0; complete = 0; kind = 0; logical = 0; number = 0; above = 0 }
+blankSummary = record { marked = 0; complete = 0; kind = 0; logical = 0; number = 0; any = 0; greatest = 0 }
 
 -- a page among the first two with another byte than FFh in its place marks the block
 unfoldable pub markedBy : ℕ → ℕ → List ℕ → ℕ → ℕ
@@ -19,7 +19,7 @@ markedBy main place page marked = cond (ltb place 2) (cond (eqb (getD page main 
 -- after a page that is not whole
 abbrev pub broken : ℕ → Summary → Summary
 broken marked s =
-    record { marked = marked; complete = 0; kind = s .kind; logical = s .logical; number = s .number; above = s .above }
+    record { marked = marked; complete = 0; kind = s .kind; logical = s .logical; number = s .number; any = s .any; greatest = s .greatest }
 
 -- after a whole page 0, and after another whole page
 abbrev pub firstPage : ℕ → Label → Summary → Summary
@@ -30,7 +30,8 @@ firstPage marked l s =
       kind = l .kind;
       logical = l .logical;
       number = l .number;
-      above = max (s .above) (l .number + 1);
+      any = 1;
+      greatest = max (s .greatest) (l .number);
     }
 
 abbrev pub laterPage : ℕ → ℕ → Label → Summary → Summary
@@ -41,7 +42,8 @@ laterPage marked place l s =
       kind = s .kind;
       logical = s .logical;
       number = s .number;
-      above = max (s .above) (l .number + 1);
+      any = 1;
+      greatest = max (s .greatest) (l .number);
     }
 
 unfoldable pub wholeStep : ℕ → ℕ → Label → Summary → Summary
@@ -58,9 +60,9 @@ unfoldable pub summed : Geometry → List ℕ → ℕ → Summary
 summed g block zero = blankSummary
 summed g block (suc n) = stepped (g .main) n (pageIn g block n) (summed g block n)
 
--- what a summary of all pages says: complete, and one above the greatest number
+-- what a summary of all pages says: complete, and a whole page without a factory mark
 abbrev pub saysComplete : Summary → Bool
 saysComplete s = cond (eqb (s .marked) 0) (eqb (s .complete) 1) false
 
-abbrev pub saysAbove : Summary → ℕ
-saysAbove s = cond (eqb (s .marked) 0) (s .above) 0
+abbrev pub saysNumber : Summary → Bool
+saysNumber s = cond (eqb (s .marked) 0) (eqb (s .any) 1) false

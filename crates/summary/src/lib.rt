@@ -1,9 +1,9 @@
 // What the pages of a block tell, one after the other.
 ghost use mathlib.Core.Path.{_≡_};
-ghost use Prim.Native.Nat.{_+_, _<_, max};
+ghost use Prim.Native.Nat.{max};
 ghost use Rattle.pages.specs.Layout.{Sized, label, labelOf};
 ghost use Rattle.copies.specs.Blocks.{agrees};
-ghost use Rattle.summary.specs.Summary.{blankSummary, markedBy, broken, wholeStep, stepped, saysComplete, saysAbove};
+ghost use Rattle.summary.specs.Summary.{blankSummary, markedBy, broken, wholeStep, stepped, saysComplete, saysNumber};
 
 // What the pages of a block told so far. `marked` and `complete` are 1 or 0; kind, logical and number are those of page 0.
 pub struct Summary {
@@ -12,8 +12,9 @@ pub struct Summary {
     pub kind: usize,
     pub logical: usize,
     pub number: u64,
-    // One above the greatest number on a whole page, 0 if there was none.
-    pub above: u64,
+    // 1 if a page was whole, and the greatest number on one, 0 if none was.
+    pub any: usize,
+    pub greatest: u64,
 }
 
 fn wide(x: u8) -> usize
@@ -46,7 +47,8 @@ impl Summary {
             kind: 0,
             logical: 0,
             number: 0,
-            above: 0,
+            any: 0,
+            greatest: 0,
         }
     }
 
@@ -79,16 +81,15 @@ impl Summary {
         self
     }
 
-    // One above the greater of a number and what is above the numbers so far.
-    fn above_with(self, number: u64) -> u64
-        requires { ⌜ number < 4294967296 ⌝ }
-        ensures { λ r. ⌜ r ≡ max (self .above) (number + 1) ⌝ }
+    // The greater of a number and the greatest so far.
+    fn greatest_with(self, number: u64) -> u64
+        ensures { λ r. ⌜ r ≡ max (self .greatest) number ⌝ }
     {
-        let above = self.above;
-        if above < number + 1 {
-            return number + 1;
+        let greatest = self.greatest;
+        if greatest < number {
+            return number;
         }
-        above
+        greatest
     }
 
     // After a whole page.
@@ -97,10 +98,11 @@ impl Summary {
         ensures { λ r. ⌜ r ≡ wholeStep marked place (labelOf main (now (page .entry))) self ⌝ }
     {
         let number = pages::number_of(page, main);
-        let above = self.above_with(number);
+        let greatest = self.greatest_with(number);
         let same = self.agrees(page, main, place);
         self.marked = marked;
-        self.above = above;
+        self.any = 1;
+        self.greatest = greatest;
         if place == 0 {
             self.kind = wide(pages::kind_of(page, main));
             self.logical = pages::logical_of(page, main);
@@ -141,14 +143,15 @@ impl Summary {
         complete == 1
     }
 
-    // One above the greatest number on a whole page of the block, 0 if it is marked or there is none.
-    pub fn numbers_above(self) -> u64
-        ensures { λ r. ⌜ r ≡ saysAbove self ⌝ }
+    // Whether a block with this summary of all pages has no factory mark and a whole page.
+    pub fn has_number(self) -> bool
+        ensures { λ r. ⌜ r ≡ saysNumber self ⌝ }
     {
         let marked = self.marked;
         if marked != 0 {
-            return 0;
+            return false;
         }
-        self.above
+        let any = self.any;
+        any == 1
     }
 }

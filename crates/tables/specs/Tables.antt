@@ -1,5 +1,5 @@
 -- Table fills until one passes: each takes the next number, then the next permitted block; a failure makes that block invalid.
-use Prim.Native.Nat.{ℕ, zero, suc, _+_, _-_}
+use Prim.Native.Nat.{ℕ, zero, suc}
 use mathlib.Core.Bool.{true, cond}
 use mathlib.Core.List.{List}
 use mathlib.Core.Path.{_≡_}
@@ -13,7 +13,7 @@ use Rattle.operations.specs.Trace.{ArrayOperation}
 use Rattle.polling.specs.declared.Outcome.{Outcome}
 use Rattle.polling.specs.declared.Outcome.the-variants.{Passed}
 use Rattle.choose.specs.Choose.{chosen}
-use Rattle.state.specs.State.{blank, withNumber, withInvalid, withTable}
+use Rattle.state.specs.State.{blank, nextNumber, numbersLeft, taken, withInvalid, withTable}
 use Rattle.state.specs.declared.State.{State}
 use Rattle.choose.specs.declared.Choice.{Choice}
 use Rattle.choose.specs.declared.Choice.the-variants.{Block, Worn}
@@ -38,8 +38,8 @@ afterFill b o s = cond (isPassed o) (withTable b s) (cond (isFailed o) (withInva
 unfoldable pub tryBlock : Setting → State → Progress → Choice → Tried
 tryBlock s st p Worn = tried p st 1
 tryBlock s st p (Block b) =
-    tried (tableFilled s b (st .number) (st .invalid) p)
-    (afterFill b (tableFilled s b (st .number) (st .invalid) p .outcome) (withNumber (st .number + 1) st)) 0
+    tried (tableFilled s b (nextNumber st) (st .invalid) p)
+    (afterFill b (tableFilled s b (nextNumber st) (st .invalid) p .outcome) (taken st)) 0
 
 -- held has a bit for each block that holds something current
 unfoldable pub tryTable : Setting → List ℕ → State → Progress → Tried
@@ -74,10 +74,6 @@ tablesFilled s held (suc k) st p =
     let more = tablesFilled s held k (t .state) (resumed (t .progress)) in
     cond (eqb (t .worn) 0) (cond (isFailed (t .progress .outcome)) more (endedBy (t .progress) (t .state)))
     (tabled (t .progress) 8 (blank 2))
-
--- the numbers from a state's next one up to 4,294,967,295
-abbrev pub numbersLeft : State → ℕ
-numbersLeft st = 4294967296 - st .number
 
 -- table fills from line l, which come to line m
 pub record TabledAs (s : Setting) (held : List ℕ) (st : State) (l m : Line) (answer : ℕ) (next : State) : Type 0 where

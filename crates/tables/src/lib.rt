@@ -12,6 +12,7 @@ ghost use Rattle.array.specs.Device.{setting};
 ghost use Rattle.bus.specs.Line.{line};
 ghost use Rattle.operations.specs.Ends.{Called};
 ghost use Rattle.tables.specs.Tables.{afterFill, TriedAs, TabledAs};
+ghost use Rattle.state.specs.State.{nextNumber, numberEnd};
 
 // One table fill tried: the bus, how it ended, the next state, and 1 where no block was left for it.
 pub struct Tried {
@@ -50,12 +51,12 @@ pub fn try_table(
 ) -> Tried
     requires { ⌜ Called (setting g (now mask) (now fates)) (line from (now array) (now register) (now history)) ⌝ }
     requires { ⌜ length (now page) ≡ pageSize g ⌝ }
-    requires { ⌜ state .number < 4294967296 ⌝ }
+    requires { ⌜ nextNumber state < numberEnd ⌝ }
     requires { ⌜ state .last < g .blocks ⌝ }
     ensures { λ r. ⌜ TriedAs (setting g (now (mask .entry)) (now (fates .entry))) (now (held .entry)) state (line from (now (array .entry)) (now (register .entry)) (now (history .entry))) (line (r .bus) (now (array .exit)) (now (register .exit)) (now (history .exit))) (r .outcome) (r .state) (r .worn) ⌝ }
 {
     let invalid = state.invalid;
-    let number = state.number;
+    let number = state.next_number();
     let choice = state.choose_block(held, g.blocks);
     let Choice::Block(block) = choice else {
         return Tried {

@@ -37,21 +37,28 @@ same-length c = search needs
 
 returns-3 : tie.Need-returns-3
 returns-3 c =
-    let start = c .before .before .before .before .before .before .before .before .before .before .before .before .args in
-    program-completed (start .g) (device (start .i) (start .array .now) (start .register .now) (start .history .now)) (c .before .before .before .before .before .before .row-of-address .ensures) (c .before .before .before .before .before .if3 .taken) (c .before .before .before .before .before .before .before .if2 .left) (c .shows-status2 .ensures) (c .before .before .before .program-rest .ensures)
+    let at-if3 = c .before .before .before .before .before in
+    let at-row-of-address = at-if3 .before in
+    let at-if2 = at-row-of-address .before in
+    let entry = at-if2 .before .before .before .before .before in
+    let start = entry .args in
+    program-completed (start .g) (device (start .i) (start .array .now) (start .register .now) (start .history .now)) (at-row-of-address .row-of-address .ensures) (at-if3 .if3 .taken) (at-if2 .if2 .left) (c .shows-status2 .ensures) (c .before .before .before .program-rest .ensures)
 
 block-of-row-requires : tie.Need-block-of-row-requires
 block-of-row-requires c κs = search needs
 
 erase-rest-requires : tie.Need-erase-rest-requires
 erase-rest-requires c κs =
-    let start = c .before .before .before .before .before .before .before .before .before .before in
-    (start .pre .0 .is-valid, (start .pre .0 .array-long, block-below (start .args .g) (start .pre .0 .is-valid) _ _ (c .before .before .before .before .row-of-address .ensures) (c .before .block-of-row .ensures) (start .pre .1)))
+    let at-row-of-address = c .before .before .before .before in
+    let start = at-row-of-address .before .before .before .before .before .before in
+    (start .pre .0 .is-valid, (start .pre .0 .array-long, block-below (start .args .g) (start .pre .0 .is-valid) _ _ (at-row-of-address .row-of-address .ensures) (c .before .block-of-row .ensures) (start .pre .1)))
 
 slice-write-history : tie.Need-slice-write-history
 slice-write-history c =
-    let start = c .before .before .before .before .before .before .before .before .before .before .before .before .before in
-    rw (start .pre .0 .history-long) (block-below (start .args .g) (start .pre .0 .is-valid) _ _ (c .before .before .before .before .before .before .before .row-of-address .ensures) (c .before .before .before .before .block-of-row .ensures) (start .pre .1))
+    let at-block-of-row = c .before .before .before .before in
+    let at-row-of-address = at-block-of-row .before .before .before in
+    let start = at-row-of-address .before .before .before .before .before .before in
+    rw (start .pre .0 .history-long) (block-below (start .args .g) (start .pre .0 .is-valid) _ _ (at-row-of-address .row-of-address .ensures) (at-block-of-row .block-of-row .ensures) (start .pre .1))
 
 shows-status-requires-3 : tie.Need-shows-status-requires-3
 shows-status-requires-3 c κs = search needs
@@ -64,8 +71,13 @@ same-length-3 c = search needs
 
 returns-4 : tie.Need-returns-4
 returns-4 c =
-    let start = c .before .before .before .before .before .before .before .before .before .before .before .before .before .before .args in
-    erase-completed (start .g) (device (start .i) (start .array .now) (start .register .now) (start .history .now)) (c .before .before .before .before .before .block-of-row .result) (c .before .before .before .before .before .before .before .before .row-of-address .ensures) (c .before .before .before .before .before .block-of-row .ensures) (c .before .before .before .before .before .before .if4 .taken) (c .before .before .before .before .before .before .before .before .before .if2 .left) (c .shows-status3 .ensures) (c .before .before .before .erase-rest .ensures)
+    let at-block-of-row = c .before .before .before .before .before in
+    let at-if4 = at-block-of-row .before in
+    let at-row-of-address = at-if4 .before .before in
+    let at-if2 = at-row-of-address .before in
+    let entry = at-if2 .before .before .before .before .before in
+    let start = entry .args in
+    erase-completed (start .g) (device (start .i) (start .array .now) (start .register .now) (start .history .now)) (at-block-of-row .block-of-row .result) (at-row-of-address .row-of-address .ensures) (at-block-of-row .block-of-row .ensures) (at-if4 .if4 .taken) (at-if2 .if2 .left) (c .shows-status3 .ensures) (c .before .before .before .erase-rest .ensures)
 
 refuse-requires : tie.Need-refuse-requires
 refuse-requires c κs = search needs

@@ -33,8 +33,10 @@ erase-part-requires c κs =
 
 slice-write-history : tie.Need-slice-write-history
 slice-write-history c =
-    let start = c .before .before .before .before .before .before .before .before .before .before .before .before in
-    rw (start .pre .1 .1 .0) (block-below (start .args .g) (start .pre .0) _ _ (c .before .before .before .before .before .row-of-address .ensures) (c .before .before .before .before .block-of-row .ensures) (start .pre .1 .1 .1 .1))
+    let at-block-of-row = c .before .before .before .before in
+    let at-row-of-address = at-block-of-row .before in
+    let start = at-row-of-address .before .before .before .before .before .before .before in
+    rw (start .pre .1 .1 .0) (block-below (start .args .g) (start .pre .0) _ _ (at-row-of-address .row-of-address .ensures) (at-block-of-row .block-of-row .ensures) (start .pre .1 .1 .1 .1))
 
 start-requires : tie.Need-start-requires
 start-requires c κs = search needs
@@ -46,9 +48,15 @@ same-length-2 : tie.Need-same-length-2
 same-length-2 c = search needs
 
 returns-3 : tie.Need-returns-3
-returns-3 c = λ p.
-    let start = c .before .before .before .before .before .before .before .before .before .before .before .before .before .args in
-    erase-confirmed (setting (start .g) (start .mask .now) (start .fates .now)) (device (start .i) (start .array .now) p (start .history .now)) (c .before .before .before .before .before .before .row-of-address .ensures) (c .before .before .before .before .before .block-of-row .result) (c .before .before .before .before .before .block-of-row .ensures) (c .before .before .before .before .before .before .before .before .if1 .left) (c .before .before .before .before .before .before .before .if2 .left) (c .start .ensures) (c .before .before .before .erase-part .ensures)
+returns-3 c =
+    let at-block-of-row = c .before .before .before .before .before in
+    let at-row-of-address = at-block-of-row .before in
+    let at-if2 = at-row-of-address .before in
+    let at-if1 = at-if2 .before in
+    let entry = at-if1 .before .before .before .before .before in
+    λ p.
+    let start = entry .args in
+    erase-confirmed (setting (start .g) (start .mask .now) (start .fates .now)) (device (start .i) (start .array .now) p (start .history .now)) (at-row-of-address .row-of-address .ensures) (at-block-of-row .block-of-row .result) (at-block-of-row .block-of-row .ensures) (at-if1 .if1 .left) (at-if2 .if2 .left) (c .start .ensures) (c .before .before .before .erase-part .ensures)
 
 pub confirm-erase-spec : {M : Type 1} → statement M
 confirm-erase-spec =

@@ -44,7 +44,8 @@ page-of-row-requires c κs = search needs
 
 slice-read-wide : tie.Need-slice-read-wide
 slice-read-wide c =
-    let start = c .before .before .before .before .before .before .before .before .before .before .before .before .before in
+    let way = c .before .before .before .before .before .before .before .before .before in
+    let start = way .before .before .before .before in
     rw (start .pre .0 .history-long) (block-below (start .args .g) (start .pre .0 .is-valid) _ _ (c .before .before .before .row-of-address .ensures) (c .before .before .block-of-row .ensures) (start .pre .1 .1))
 
 wide-requires : tie.Need-wide-requires
@@ -59,23 +60,34 @@ returns-4 c = rw (c .refuse4 .ensures, ← c .before .before .before .before .be
 
 program-part-requires : tie.Need-program-part-requires
 program-part-requires c κs =
-    let start = c .before .before .before .before .before .before .before .before .before .before .before .before .before .before .before .before in
-    (start .pre .0 .is-valid, (start .pre .0 .array-long, (start .pre .0 .register-long, (start .pre .1 .0, rw (c .before .before .before .before .before .before .row-of-address .ensures) (start .pre .1 .1)))))
+    let at-row-of-address = c .before .before .before .before .before .before in
+    let way = at-row-of-address .before .before .before .before .before .before .before .before .before in
+    let start = way .before in
+    (start .pre .0 .is-valid, (start .pre .0 .array-long, (start .pre .0 .register-long, (start .pre .1 .0, rw (at-row-of-address .row-of-address .ensures) (start .pre .1 .1)))))
 
 add-history : tie.Need-add-history
 add-history c =
-    let start = c .before .before .before .before .before .before .before .before .before .before .before .before .before .before .before .before .before .before .before in
-    rw (c .before .before .before .before .before .before .before .page-of-row .ensures) (omega (arith, start .pre .0 .is-valid, row-page-below (start .args .g) (start .pre .0 .is-valid) (c .before .before .before .before .before .before .before .before .before .row-of-address .result)))
+    let at-page-of-row = c .before .before .before .before .before .before .before in
+    let at-row-of-address = at-page-of-row .before .before in
+    let way = at-row-of-address .before .before .before .before .before .before .before .before .before in
+    let start = way .before in
+    rw (at-page-of-row .page-of-row .ensures) (omega (arith, start .pre .0 .is-valid, row-page-below (start .args .g) (start .pre .0 .is-valid) (at-row-of-address .row-of-address .result)))
 
 cast-history : tie.Need-cast-history
 cast-history c =
-    let start = c .before .before .before .before .before .before .before .before .before .before .before .before .before .before .before .before .before .before .before in
-    rw (c .before .before .before .before .before .before .before .page-of-row .ensures) (omega (arith, start .pre .0 .is-valid, row-page-below (start .args .g) (start .pre .0 .is-valid) (c .before .before .before .before .before .before .before .before .before .row-of-address .result)))
+    let at-page-of-row = c .before .before .before .before .before .before .before in
+    let at-row-of-address = at-page-of-row .before .before in
+    let way = at-row-of-address .before .before .before .before .before .before .before .before .before in
+    let start = way .before in
+    rw (at-page-of-row .page-of-row .ensures) (omega (arith, start .pre .0 .is-valid, row-page-below (start .args .g) (start .pre .0 .is-valid) (at-row-of-address .row-of-address .result)))
 
 slice-write-history : tie.Need-slice-write-history
 slice-write-history c =
-    let start = c .before .before .before .before .before .before .before .before .before .before .before .before .before .before .before .before .before .before .before in
-    rw (start .pre .0 .history-long) (block-below (start .args .g) (start .pre .0 .is-valid) _ _ (c .before .before .before .before .before .before .before .before .before .row-of-address .ensures) (c .before .before .before .before .before .before .before .before .block-of-row .ensures) (start .pre .1 .1))
+    let at-block-of-row = c .before .before .before .before .before .before .before .before in
+    let at-row-of-address = at-block-of-row .before in
+    let way = at-row-of-address .before .before .before .before .before .before .before .before .before in
+    let start = way .before in
+    rw (start .pre .0 .history-long) (block-below (start .args .g) (start .pre .0 .is-valid) _ _ (at-row-of-address .row-of-address .ensures) (at-block-of-row .block-of-row .ensures) (start .pre .1 .1))
 
 start-requires : tie.Need-start-requires
 start-requires c κs = search needs
@@ -88,8 +100,18 @@ same-length-2 c = search needs
 
 returns-5 : tie.Need-returns-5
 returns-5 c =
-    let start = c .before .before .before .before .before .before .before .before .before .before .before .before .before .before .before .before .before .before .before .before .args in
-    program-confirmed (setting (start .g) (start .mask .now) (start .fates .now)) (device (start .i) (start .array .now) (start .register .now) (start .history .now)) (c .before .before .before .before .before .before .before .before .before .before .row-of-address .ensures) (c .before .before .before .before .before .before .before .before .before .block-of-row .result) (c .before .before .before .before .before .before .before .before .page-of-row .result) (c .before .before .before .before .before .before .before .before .before .block-of-row .ensures) (c .before .before .before .before .before .before .before .before .page-of-row .ensures) (c .before .before .before .before .before .before .before .before .before .before .before .before .before .before .if1 .left) (c .before .before .before .before .before .before .before .before .before .before .before .before .before .if2 .left) (c .before .before .before .before .before .before .before .before .before .before .before .before .page-size .ensures) (c .before .before .before .before .before .before .before .before .before .before .before .if3 .left) (c .before .before .before .before .before .before .wide .ensures) (c .before .before .before .before .before .if4 .left) (c .start .ensures) (c .before .before .before .program-part .ensures)
+    let at-if4 = c .before .before .before .before .before in
+    let at-wide = at-if4 .before in
+    let at-page-of-row = at-wide .before .before in
+    let at-block-of-row = at-page-of-row .before in
+    let at-row-of-address = at-block-of-row .before in
+    let at-if3 = at-row-of-address .before in
+    let at-page-size = at-if3 .before in
+    let at-if2 = at-page-size .before in
+    let at-if1 = at-if2 .before in
+    let entry = at-if1 .before .before .before .before .before .before in
+    let start = entry .args in
+    program-confirmed (setting (start .g) (start .mask .now) (start .fates .now)) (device (start .i) (start .array .now) (start .register .now) (start .history .now)) (at-row-of-address .row-of-address .ensures) (at-block-of-row .block-of-row .result) (at-page-of-row .page-of-row .result) (at-block-of-row .block-of-row .ensures) (at-page-of-row .page-of-row .ensures) (at-if1 .if1 .left) (at-if2 .if2 .left) (at-page-size .page-size .ensures) (at-if3 .if3 .left) (at-wide .wide .ensures) (at-if4 .if4 .left) (c .start .ensures) (c .before .before .before .program-part .ensures)
 
 pub confirm-program-spec : {M : Type 1} → statement M
 confirm-program-spec =

@@ -60,10 +60,16 @@ same-length : tie.Need-same-length
 same-length c = search needs
 
 returns-3 : tie.Need-returns-3
-returns-3 c = λ m h.
-    let start = c .before .before .before .before .before .before .before .before .before .before .before .before .before .before in
-    let long : length (start .args .register .now) ≡ c .before .before .before .before .before .before .page-size .result = rw (c .before .before .before .before .before .before .page-size .ensures) (start .pre .1 .1 .0) in
-    read-confirmed (setting (start .args .g) m (start .args .fates .now)) (device (start .args .i) (start .args .array .now) (start .args .register .now) h) (c .before .before .before .before .before .before .before .before .row-of-address .ensures) (c .before .before .before .before .before .before .before .before .before .before .if1 .left) (c .before .before .before .before .before .before .before .before .before .if2 .left) (c .start .ensures) (copied (c .before .before .before .before .before .before .before .row-start .result) (c .before .before .before .before .before .before .page-size .result) _ _ _ (part-copy-end (c .before .before .before .before .before .before)) long (c .before .before .before .copy .ensures) ∙ rw (c .before .before .before .before .before .before .before .row-start .ensures, c .before .before .before .before .before .before .page-size .ensures))
+returns-3 c =
+    let at-page-size = c .before .before .before .before .before .before in
+    let at-row-start = at-page-size .before in
+    let at-row-of-address = at-row-start .before in
+    let at-if2 = at-row-of-address .before in
+    let at-if1 = at-if2 .before in
+    let start = at-if1 .before .before .before .before in
+    λ m h.
+    let long : length (start .args .register .now) ≡ at-page-size .page-size .result = rw (at-page-size .page-size .ensures) (start .pre .1 .1 .0) in
+    read-confirmed (setting (start .args .g) m (start .args .fates .now)) (device (start .args .i) (start .args .array .now) (start .args .register .now) h) (at-row-of-address .row-of-address .ensures) (at-if1 .if1 .left) (at-if2 .if2 .left) (c .start .ensures) (copied (at-row-start .row-start .result) (at-page-size .page-size .result) _ _ _ (part-copy-end (at-page-size)) long (c .before .before .before .copy .ensures) ∙ rw (at-row-start .row-start .ensures, at-page-size .page-size .ensures))
 
 pub confirm-read-spec : {M : Type 1} → statement M
 confirm-read-spec =

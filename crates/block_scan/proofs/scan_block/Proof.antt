@@ -32,7 +32,10 @@ loop-holds c =
     (omega arith, refl, refl, refl, refl, refl, scan-begins (setting (s .args .g) (now (s .args .mask)) (now (s .args .fates))) (line (s .args .from) (now (s .args .array)) (now (s .args .register)) (now (s .args .history))) (s .args .block) (now (s .args .bits)) (c .blank .result) (c .blank .ensures) (s .pre .0))
 
 row-of-requires : tie.Need-row-of-requires Inv-loop μ-loop
-row-of-requires c κs = (c .before .loop .inv .6 .called .is-valid, (c .before .before .before .before .before .before .before .before .before .before .pre .1 .0, c .loop-test .taken))
+row-of-requires c κs =
+    let way = c .before .before .before .before .before .before .before .before .before in
+    let entry = way .before in
+    (c .before .loop .inv .6 .called .is-valid, (entry .pre .1 .0, c .loop-test .taken))
 
 read-requires : tie.Need-read-requires Inv-loop μ-loop
 read-requires c κs = search needs
@@ -41,72 +44,124 @@ enum-told : tie.Need-enum-told Inv-loop μ-loop
 enum-told c = search needs
 
 same-length : tie.Need-same-length Inv-loop μ-loop
-same-length c = c .before .before .before .before .before .before .before .before .before .array .given ∙ c .before .before .before .before .before .before .before .before .before .before .before .before .before .before .before .before .before .loop .inv .1
+same-length c =
+    let at-array = c .before .before .before .before .before .before .before .before .before in
+    let turn = at-array .before .before .before .before .before .before .before .before in
+    at-array .array .given ∙ turn .loop .inv .1
 
 same-length-2 : tie.Need-same-length-2 Inv-loop μ-loop
-same-length-2 c = c .before .before .before .before .before .before .before .register .given ∙ c .before .before .before .before .before .before .before .before .before .before .before .before .before .before .before .before .before .loop .inv .2
+same-length-2 c =
+    let at-register = c .before .before .before .before .before .before .before in
+    let way = at-register .before .before .before .before .before .before .before .before .before in
+    let turn = way .before in
+    at-register .register .given ∙ turn .loop .inv .2
 
 same-length-3 : tie.Need-same-length-3 Inv-loop μ-loop
-same-length-3 c = c .before .before .before .before .before .history .given ∙ c .before .before .before .before .before .before .before .before .before .before .before .before .before .before .before .before .before .loop .inv .3
+same-length-3 c =
+    let at-history = c .before .before .before .before .before in
+    let way = at-history .before .before .before .before .before .before .before .before .before in
+    let turn = way .before .before .before in
+    at-history .history .given ∙ turn .loop .inv .3
 
 same-length-4 : tie.Need-same-length-4 Inv-loop μ-loop
-same-length-4 c = c .before .before .before .page .given ∙ c .before .before .before .before .before .before .before .before .before .before .before .before .before .before .before .before .before .loop .inv .4
+same-length-4 c =
+    let way = c .before .before .before .before .before .before .before .before .before in
+    let turn = way .before .before .before .before .before .before .before .before in
+    c .before .before .before .page .given ∙ turn .loop .inv .4
 
 same-length-5 : tie.Need-same-length-5 Inv-loop μ-loop
-same-length-5 c = c .before .before .before .before .before .before .before .before .before .before .before .before .before .before .before .before .before .loop .inv .5
+same-length-5 c =
+    let way = c .before .before .before .before .before .before .before .before .before in
+    let turn = way .before .before .before .before .before .before .before .before in
+    turn .loop .inv .5
 
 returns : tie.Need-returns Inv-loop μ-loop
 returns c =
-    let s = c .before .before .before .before .before .before .before .before .before .before .before .before .before .before .before .before .before .before .before .before .before .before .before .before .before .before in
-    let lp = c .before .before .before .before .before .before .before .before .before .before .before .before .before .before .before .before .before .loop in
+    let way = c .before .before .before .before .before .before .before .before .before in
+    let at-read = way .before in
+    let at-row-of = at-read .before .before .before .before .before in
+    let at-loop-test = at-row-of .before in
+    let turn = at-loop-test .before in
+    let s = turn .before .before .before .before .before .before .before .before .before in
+    let lp = turn .loop in
     let t = other-by-tag _ (c .match .keys2) in
     let long = lp .inv .4 ∙ s .pre .1 .1 .0 in
     let set = setting (s .args .g) (now (s .args .mask)) (now (s .args .fates)) in
     let l = line (s .args .from) (now (s .args .array)) (now (s .args .register)) (now (s .args .history)) in
     let m = line (lp .b) (lp .array) (lp .register) (lp .history) in
-    let stops = scan-stops set l m (s .args .block) (lp .place) (lp .summary) (lp .right) (now (s .args .bits)) (lp .bits) (s .pre .1 .0) (c .before .before .before .before .before .before .before .before .before .before .before .before .before .before .before .before .loop-test .taken) (lp .inv .6) (c .before .before .before .before .before .before .before .before .before .before .before .before .before .before .before .row-of .result) (c .before .before .before .before .before .before .before .before .before .before .before .before .before .before .before .row-of .ensures) (lp .page) long _ (c .before .before .before .before .before .before .before .before .before .before .read .result .outcome) _ (c .before .before .before .before .before .before .before .before .before .before .read .ensures .0) (c .before .before .before .before .before .before .before .before .before .before .read .ensures .1 .0) (c .before .before .before .before .before .before .before .before .before .before .read .ensures .1 .1) t in
-    let same = scan-same set l m (s .args .block) (lp .place) (lp .summary) (lp .right) (now (s .args .bits)) (lp .bits) (s .pre .1 .0) (c .before .before .before .before .before .before .before .before .before .before .before .before .before .before .before .before .loop-test .taken) (lp .inv .6) (c .before .before .before .before .before .before .before .before .before .before .before .before .before .before .before .row-of .result) (c .before .before .before .before .before .before .before .before .before .before .before .before .before .before .before .row-of .ensures) (lp .page) long _ (c .before .before .before .before .before .before .before .before .before .before .read .result .outcome) _ (c .before .before .before .before .before .before .before .before .before .before .read .ensures .0) (c .before .before .before .before .before .before .before .before .before .before .read .ensures .1 .0) (c .before .before .before .before .before .before .before .before .before .before .read .ensures .1 .1) in
+    let stops = scan-stops set l m (s .args .block) (lp .place) (lp .summary) (lp .right) (now (s .args .bits)) (lp .bits) (s .pre .1 .0) (at-loop-test .loop-test .taken) (lp .inv .6) (at-row-of .row-of .result) (at-row-of .row-of .ensures) (lp .page) long _ (at-read .read .result .outcome) _ (at-read .read .ensures .0) (at-read .read .ensures .1 .0) (at-read .read .ensures .1 .1) t in
+    let same = scan-same set l m (s .args .block) (lp .place) (lp .summary) (lp .right) (now (s .args .bits)) (lp .bits) (s .pre .1 .0) (at-loop-test .loop-test .taken) (lp .inv .6) (at-row-of .row-of .result) (at-row-of .row-of .ensures) (lp .page) long _ (at-read .read .result .outcome) _ (at-read .read .ensures .0) (at-read .read .ensures .1 .0) (at-read .read .ensures .1 .1) in
     (λ cs os. stops cs os .0, (λ cs os. stops cs os .1, (same .0, (same .1, (λ p. absurd (false≢true (sym t ∙ p)), (λ p. absurd (false≢true (sym t ∙ p)), (λ p. absurd (false≢true (sym t ∙ p)), λ p. absurd (false≢true (sym t ∙ p)))))))))
 
 step-requires : tie.Need-step-requires Inv-loop μ-loop
 step-requires c κs =
-    let s = c .before .before .before .before .before .before .before .before .before .before .before .before .before .before .before .before .before .before .before .before .before .before .before .before .before .before .before .before in
-    let v = c .before .before .before .before .before .before .before .before .before .before .before .before .before .before .before .before .before .before .before .loop .inv .6 .called .is-valid in
-    let long = c .before .before .before .before .before .page .given ∙ c .before .before .before .before .before .before .before .before .before .before .before .before .before .before .before .before .before .before .before .loop .inv .4 ∙ s .pre .1 .1 .0 in
+    let at-page = c .before .before .before .before .before in
+    let way = at-page .before .before .before .before .before .before .before .before .before in
+    let turn = way .before .before .before .before .before in
+    let s = turn .before .before .before .before .before .before .before .before .before in
+    let v = turn .loop .inv .6 .called .is-valid in
+    let long = at-page .page .given ∙ turn .loop .inv .4 ∙ s .pre .1 .1 .0 in
     record { spare-least = omega (arith, long, v .spare-least); most = omega (arith, long, v .main-most, v .spare-most) }
 
 right-with-requires : tie.Need-right-with-requires Inv-loop μ-loop
 right-with-requires c κs =
-    let s = c .before .before .before .before .before .before .before .before .before .before .before .before .before .before .before .before .before .before .before .before .before .before .before .before .before .before .before .before .before .before in
-    (c .before .before .before .before .before .before .before .before .before .before .before .before .before .before .before .before .before .before .before .before .before .loop .inv .6 .called .is-valid, c .before .before .before .before .before .before .before .page .given ∙ c .before .before .before .before .before .before .before .before .before .before .before .before .before .before .before .before .before .before .before .before .before .loop .inv .4 ∙ s .pre .1 .1 .0)
+    let at-page = c .before .before .before .before .before .before .before in
+    let way = at-page .before .before .before .before .before .before .before .before .before in
+    let turn = way .before .before .before .before .before in
+    let s = turn .before .before .before .before .before .before .before .before .before in
+    (turn .loop .inv .6 .called .is-valid, at-page .page .given ∙ turn .loop .inv .4 ∙ s .pre .1 .1 .0)
 
 copy-bitmap-requires : tie.Need-copy-bitmap-requires Inv-loop μ-loop
 copy-bitmap-requires c κs =
-    let s = c .before .before .before .before .before .before .before .before .before .before .before .before .before .before .before .before .before .before .before .before .before .before .before .before .before .before .before .before .before .before .before .before .before in
-    (c .before .before .before .before .before .before .before .before .before .before .before .before .before .before .before .before .before .before .before .before .before .before .before .before .loop .inv .6 .called .is-valid, (c .before .before .before .before .before .before .before .before .before .before .page .given ∙ c .before .before .before .before .before .before .before .before .before .before .before .before .before .before .before .before .before .before .before .before .before .before .before .before .loop .inv .4 ∙ s .pre .1 .1 .0, omega (arith, c .before .before .before .before .before .before .before .before .before .before .before .before .before .before .before .before .before .before .before .before .before .before .before .before .loop .inv .5, s .pre .1 .1 .1)))
+    let way = c .before .before .before .before .before .before .before .before .before in
+    let at-page = way .before in
+    let way-2 = at-page .before .before .before .before .before .before .before .before .before in
+    let turn = way-2 .before .before .before .before .before in
+    let s = turn .before .before .before .before .before .before .before .before .before in
+    (turn .loop .inv .6 .called .is-valid, (at-page .page .given ∙ turn .loop .inv .4 ∙ s .pre .1 .1 .0, omega (arith, turn .loop .inv .5, s .pre .1 .1 .1)))
 
 add-place : tie.Need-add-place Inv-loop μ-loop
-add-place c = search (needs, c .before .before .before .before .before .before .before .before .before .before .before .before .before .before .before .before .before .before .before .before .before .before .before .before .before .before .loop-test .taken, c .before .before .before .before .before .before .before .before .before .before .before .before .before .before .before .before .before .before .before .before .before .before .before .before .before .before .before .loop .inv .6 .called .is-valid .pages-most)
+add-place c =
+    let way = c .before .before .before .before .before .before .before .before .before in
+    let way-2 = way .before .before .before .before .before .before .before .before .before in
+    let at-loop-test = way-2 .before .before .before .before .before .before .before .before in
+    let turn = at-loop-test .before in
+    search (needs, at-loop-test .loop-test .taken, turn .loop .inv .6 .called .is-valid .pages-most)
 
 loop-less : tie.Need-loop-less Inv-loop μ-loop
-loop-less c = omega (arith, c .before .before .before .before .before .before .before .before .before .before .before .before .before .before .before .before .before .before .before .before .before .before .before .before .before .before .loop-test .taken)
+loop-less c =
+    let way = c .before .before .before .before .before .before .before .before .before in
+    let way-2 = way .before .before .before .before .before .before .before .before .before in
+    let at-loop-test = way-2 .before .before .before .before .before .before .before .before in
+    omega (arith, at-loop-test .loop-test .taken)
 
 loop-again : tie.Need-loop-again Inv-loop μ-loop
 loop-again c =
-    let s = c .before .before .before .before .before .before .before .before .before .before .before .before .before .before .before .before .before .before .before .before .before .before .before .before .before .before .before .before .before .before .before .before .before .before .before .before in
-    let lp = c .before .before .before .before .before .before .before .before .before .before .before .before .before .before .before .before .before .before .before .before .before .before .before .before .before .before .before .loop in
-    let t = is-passed _ (passed-by-tag _ (c .before .before .before .before .before .before .before .before .before .before .match .keys1)) in
+    let at-right-with = c .before .before .before .before .before in
+    let at-step = at-right-with .before .before in
+    let at-match = at-step .before .before .before in
+    let at-page = at-match .before .before .before in
+    let at-history = at-page .before .before in
+    let at-register = at-history .before .before in
+    let at-array = at-register .before .before in
+    let at-read = at-array .before in
+    let at-row-of = at-read .before .before .before .before .before in
+    let at-loop-test = at-row-of .before in
+    let turn = at-loop-test .before in
+    let s = turn .before .before .before .before .before .before .before .before .before in
+    let lp = turn .loop in
+    let t = is-passed _ (passed-by-tag _ (at-match .match .keys1)) in
     let long = lp .inv .4 ∙ s .pre .1 .1 .0 in
     let set = setting (s .args .g) (now (s .args .mask)) (now (s .args .fates)) in
     let l = line (s .args .from) (now (s .args .array)) (now (s .args .register)) (now (s .args .history)) in
     let m = line (lp .b) (lp .array) (lp .register) (lp .history) in (
-      omega (arith, c .before .before .before .before .before .before .before .before .before .before .before .before .before .before .before .before .before .before .before .before .before .before .before .before .before .before .loop-test .taken),
-      c .before .before .before .before .before .before .before .before .before .before .before .before .before .before .before .before .before .before .before .array .given ∙ lp .inv .1,
-      c .before .before .before .before .before .before .before .before .before .before .before .before .before .before .before .before .before .register .given ∙ lp .inv .2,
-      c .before .before .before .before .before .before .before .before .before .before .before .before .before .before .before .history .given ∙ lp .inv .3,
-      c .before .before .before .before .before .before .before .before .before .before .before .before .before .page .given ∙ lp .inv .4,
+      omega (arith, at-loop-test .loop-test .taken),
+      at-array .array .given ∙ lp .inv .1,
+      at-register .register .given ∙ lp .inv .2,
+      at-history .history .given ∙ lp .inv .3,
+      at-page .page .given ∙ lp .inv .4,
       c .before .bits .given ∙ lp .inv .5,
-      scan-goes set l m (s .args .block) (lp .place) (lp .summary) (lp .right) (now (s .args .bits)) (lp .bits) (s .pre .1 .0) (c .before .before .before .before .before .before .before .before .before .before .before .before .before .before .before .before .before .before .before .before .before .before .before .before .before .before .loop-test .taken) (lp .inv .6) (c .before .before .before .before .before .before .before .before .before .before .before .before .before .before .before .before .before .before .before .before .before .before .before .before .before .row-of .result) (c .before .before .before .before .before .before .before .before .before .before .before .before .before .before .before .before .before .before .before .before .before .before .before .before .before .row-of .ensures) (lp .page) long _ (c .before .before .before .before .before .before .before .before .before .before .before .before .before .before .before .before .before .before .before .before .read .result .outcome) _ (c .before .before .before .before .before .before .before .before .before .before .before .before .before .before .before .before .before .before .before .before .read .ensures .0) (c .before .before .before .before .before .before .before .before .before .before .before .before .before .before .before .before .before .before .before .before .read .ensures .1 .0) (c .before .before .before .before .before .before .before .before .before .before .before .before .before .before .before .before .before .before .before .before .read .ensures .1 .1) t (c .before .before .before .before .before .before .before .step .ensures) (c .before .before .before .before .before .right-with .ensures) (c .before .before .copy-bitmap .ensures),
+      scan-goes set l m (s .args .block) (lp .place) (lp .summary) (lp .right) (now (s .args .bits)) (lp .bits) (s .pre .1 .0) (at-loop-test .loop-test .taken) (lp .inv .6) (at-row-of .row-of .result) (at-row-of .row-of .ensures) (lp .page) long _ (at-read .read .result .outcome) _ (at-read .read .ensures .0) (at-read .read .ensures .1 .0) (at-read .read .ensures .1 .1) t (at-step .step .ensures) (at-right-with .right-with .ensures) (c .before .before .copy-bitmap .ensures),
     )
 
 same-length-6 : tie.Need-same-length-6 Inv-loop μ-loop
@@ -126,7 +181,8 @@ same-length-10 c = c .before .loop .inv .5
 
 returns-2 : tie.Need-returns-2 Inv-loop μ-loop
 returns-2 c =
-    let s = c .before .before .before .before .before .before .before .before .before .before in
+    let way = c .before .before .before .before .before .before .before .before .before in
+    let s = way .before in
     let lp = c .before .loop in
     let e : lp .place ≡ s .args .g .pages = omega arith in
     let r = subst (λ (k : ℕ). Middle (setting (s .args .g) (now (s .args .mask)) (now (s .args .fates))) (line (s .args .from) (now (s .args .array)) (now (s .args .register)) (now (s .args .history))) (line (lp .b) (lp .array) (lp .register) (lp .history)) (s .args .block) k (lp .summary) (lp .right) (now (s .args .bits)) (lp .bits)) e (lp .inv .6) in

@@ -15,7 +15,12 @@ command-requires : tie.Need-command-requires
 command-requires c κs = search needs
 
 spend-requires : tie.Need-spend-requires
-spend-requires c κs = left-of-admits (line (c .before .before .before .before .before .before .before .before .before .before .before .before .before .before .before .before .before .before .args .bus) [] [] []) (sym (c .before .before .before .before .before .before .before .before .before .before .before .before .admits .ensures) ∙ c .before .before .before .before .before .before .before .before .before .before .before .if1 .taken)
+spend-requires c κs =
+    let way = c .before .before .before .before .before .before .before .before .before in
+    let at-if1 = way .before .before in
+    let at-admits = at-if1 .before in
+    let entry = at-admits .before .before .before .before .before .before in
+    left-of-admits (line (entry .args .bus) [] [] []) (sym (at-admits .admits .ensures) ∙ at-if1 .if1 .taken)
 
 same-length : tie.Need-same-length
 same-length c = search needs
@@ -28,7 +33,12 @@ same-length-3 c = search needs
 
 returns : tie.Need-returns
 unfolding exec
-returns c = line-sent _ (c .before .before .before .before .before .before .before .before .before .before .before .before .before .before .before .before .before .before .before .args .bus) _ _ _ _ (c .spend .ensures) (c .before .before .before .before .before .before .before .command .ensures) (sym (c .before .before .before .before .before .before .before .before .before .before .before .before .before .admits .ensures) ∙ c .before .before .before .before .before .before .before .before .before .before .before .before .if1 .taken)
+returns c =
+    let at-command = c .before .before .before .before .before .before .before in
+    let at-if1 = at-command .before .before .before .before .before in
+    let at-admits = at-if1 .before in
+    let entry = at-admits .before .before .before .before .before .before in
+    line-sent _ (entry .args .bus) _ _ _ _ (c .spend .ensures) (at-command .command .ensures) (sym (at-admits .admits .ensures) ∙ at-if1 .if1 .taken)
 
 block-requires : tie.Need-block-requires
 block-requires c κs = search needs

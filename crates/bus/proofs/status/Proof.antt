@@ -15,7 +15,11 @@ status-requires : tie.Need-status-requires
 status-requires c κs = search needs
 
 spend-requires : tie.Need-spend-requires
-spend-requires c κs = left-of-admits (line (c .before .before .before .before .before .before .before .before .before .before .before .before .before .before .args .bus) [] [] []) (sym (c .before .before .before .before .before .before .before .before .before .before .admits .ensures) ∙ c .before .before .before .before .before .before .before .before .before .if1 .taken)
+spend-requires c κs =
+    let at-if1 = c .before .before .before .before .before .before .before .before .before in
+    let at-admits = at-if1 .before in
+    let entry = at-admits .before .before .before .before in
+    left-of-admits (line (entry .args .bus) [] [] []) (sym (at-admits .admits .ensures) ∙ at-if1 .if1 .taken)
 
 same-length : tie.Need-same-length
 same-length c = search needs
@@ -25,7 +29,12 @@ same-length-2 c = search needs
 
 returns : tie.Need-returns
 unfolding exec statusOut
-returns c = (λ m f. line-sent _ (c .before .before .before .before .before .before .before .before .before .before .before .before .before .before .before .args .bus) _ _ _ _ (c .spend .ensures) (c .before .before .before .before .before .before .status .ensures .0) (sym (c .before .before .before .before .before .before .before .before .before .before .before .admits .ensures) ∙ c .before .before .before .before .before .before .before .before .before .before .if1 .taken), λ a p h. rw (sym (c .before .before .before .before .before .before .before .before .before .before .before .admits .ensures) ∙ c .before .before .before .before .before .before .before .before .before .before .if1 .taken) (c .before .before .before .before .before .before .status .ensures .1))
+returns c =
+    let at-status = c .before .before .before .before .before .before in
+    let at-if1 = at-status .before .before .before .before in
+    let at-admits = at-if1 .before in
+    let entry = at-admits .before .before .before .before in
+    (λ m f. line-sent _ (entry .args .bus) _ _ _ _ (c .spend .ensures) (at-status .status .ensures .0) (sym (at-admits .admits .ensures) ∙ at-if1 .if1 .taken), λ a p h. rw (sym (at-admits .admits .ensures) ∙ at-if1 .if1 .taken) (at-status .status .ensures .1))
 
 block-requires : tie.Need-block-requires
 block-requires c κs = search needs

@@ -14,7 +14,11 @@ is-confirmable-requires : tie.Need-is-confirmable-requires
 is-confirmable-requires c κs = search needs
 
 confirm-requires : tie.Need-confirm-requires
-confirm-requires c κs = confirms _ _ (sym (c .before .before .before .before .is-confirmable .ensures (c .before .before .before .before .before .before .before .before .before .before .before .before .before .before .before .args .fates .now)) ∙ c .before .before .before .if2 .taken)
+confirm-requires c κs =
+    let at-is-confirmable = c .before .before .before .before in
+    let way = at-is-confirmable .before .before .before .before .before .before .before .before .before in
+    let entry = way .before .before in
+    confirms _ _ (sym (at-is-confirmable .is-confirmable .ensures (entry .args .fates .now)) ∙ c .before .before .before .if2 .taken)
 
 same-length : tie.Need-same-length
 same-length c = search needs
@@ -27,7 +31,14 @@ same-length-3 c = search needs
 
 returns : tie.Need-returns
 unfolding commanded
-returns c = c .before .before .before .before .before .before .confirm .ensures ∙ rw (sym (c .before .before .before .before .before .before .before .before .before .before .before .before .before .before .before .before .is-confirm .ensures) ∙ c .before .before .before .before .before .before .before .before .before .before .before .before .before .before .before .if1 .taken, sym (c .before .before .before .before .before .before .before .before .before .before .before .is-confirmable .ensures (c .before .before .before .before .before .before .before .before .before .before .before .before .before .before .before .before .before .before .before .before .before .before .args .fates .now)) ∙ c .before .before .before .before .before .before .before .before .before .before .if2 .taken)
+returns c =
+    let at-confirm = c .before .before .before .before .before .before in
+    let at-if2 = at-confirm .before .before .before .before in
+    let at-is-confirmable = at-if2 .before in
+    let at-if1 = at-is-confirmable .before .before .before .before in
+    let at-is-confirm = at-if1 .before in
+    let entry = at-is-confirm .before .before .before .before .before .before in
+    at-confirm .confirm .ensures ∙ rw (sym (at-is-confirm .is-confirm .ensures) ∙ at-if1 .if1 .taken, sym (at-is-confirmable .is-confirmable .ensures (entry .args .fates .now)) ∙ at-if2 .if2 .taken)
 
 refuse-requires : tie.Need-refuse-requires
 refuse-requires c κs = search needs
@@ -43,7 +54,11 @@ same-length-6 c = search needs
 
 returns-2 : tie.Need-returns-2
 unfolding commanded
-returns-2 c = rw (c .refuse .ensures, sym (c .before .before .before .before .before .before .before .is-confirm .ensures) ∙ c .before .before .before .before .before .before .if1 .taken, sym (c .before .before .is-confirmable .ensures (c .before .before .before .before .before .before .before .before .before .before .before .before .before .args .fates .now)) ∙ c .before .if2 .left)
+returns-2 c =
+    let at-if1 = c .before .before .before .before .before .before in
+    let at-is-confirm = at-if1 .before in
+    let entry = at-is-confirm .before .before .before .before .before .before in
+    rw (c .refuse .ensures, sym (at-is-confirm .is-confirm .ensures) ∙ at-if1 .if1 .taken, sym (c .before .before .is-confirmable .ensures (entry .args .fates .now)) ∙ c .before .if2 .left)
 
 plain-command-requires : tie.Need-plain-command-requires
 plain-command-requires c κs = search needs

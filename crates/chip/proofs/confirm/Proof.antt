@@ -17,7 +17,10 @@ same-length-2 c = search needs
 
 returns : tie.Need-returns
 unfolding confirmed
-returns c = c .before .before .confirm-read .ensures (c .before .before .before .before .before .before .before .before .before .before .before .args .mask .now) (c .before .before .before .before .before .before .before .before .before .before .before .args .history .now) ∙ search eq-eqb
+returns c =
+    let way = c .before .before .before .before .before .before .before .before .before in
+    let entry = way .before .before in
+    c .before .before .confirm-read .ensures (entry .args .mask .now) (entry .args .history .now) ∙ search eq-eqb
 
 confirm-program-requires : tie.Need-confirm-program-requires
 confirm-program-requires c κs = search needs

@@ -28,7 +28,13 @@ same-length-2 c = search needs
 
 returns : tie.Need-returns
 unfolding finished
-returns c = c .before .before .before .before .complete .ensures ∙ rw (sym (c .before .before .before .before .before .before .before .before .before .before .before .is-fitting .ensures) ∙ c .before .before .before .before .before .before .before .before .before .before .if1 .taken, ← c .before .before .before .before .before .before .before .before .row-of-address .ensures, ← c .before .before .before .before .before .before .before .before .before .row-count .ensures) (search lt-ltb)
+returns c =
+    let at-complete = c .before .before .before .before in
+    let at-row-of-address = at-complete .before .before .before .before in
+    let at-row-count = at-row-of-address .before in
+    let at-if1 = at-row-count .before in
+    let at-is-fitting = at-if1 .before in
+    at-complete .complete .ensures ∙ rw (sym (at-is-fitting .is-fitting .ensures) ∙ at-if1 .if1 .taken, ← at-row-of-address .row-of-address .ensures, ← at-row-count .row-count .ensures) (search lt-ltb)
 
 refuse-requires : tie.Need-refuse-requires
 refuse-requires c κs = search needs

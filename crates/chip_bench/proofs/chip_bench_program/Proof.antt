@@ -25,10 +25,15 @@ program-requires c κs = search needs
 
 sub-result : tie.Need-sub-result
 sub-result c =
-    let a = c .before .before .before .before .before .before .before .before .before .before .before .before .before .before .before .before .before .before .before .before .args in
+    let at-program = c .before .before .before .before .before .before .before in
+    let at-part = at-program .before .before .before .before in
+    let at-new = at-part .before in
+    let at-power-on = at-new .before in
+    let entry = at-power-on .before .before .before .before .before .before .before in
+    let a = entry .args in
     let s = setting part (now (a .mask)) (now (a .fates)) in
     let l = begun (now (a .array)) (now (a .register)) (now (a .history)) in
-    let e = rw (c .before .before .before .before .before .before .before .before .before .before .before .part .ensures, c .before .before .before .before .before .before .before .before .before .before .before .before .new .ensures, c .before .before .before .before .before .before .before .before .before .before .before .before .before .power-on .ensures) at (c .before .before .before .before .before .before .before .program .ensures .0) in
+    let e = rw (at-part .part .ensures, at-new .new .ensures, at-power-on .power-on .ensures) at (at-program .program .ensures .0) in
     omega (arith, sent-counts s l (programCycles s l (a .row) (now (a .«data»))), ap (λ (x : Line). x .left) e)
 
 same-length : tie.Need-same-length
@@ -42,10 +47,15 @@ same-length-3 c = search needs
 
 returns : tie.Need-returns
 returns c =
-    let a = c .before .before .before .before .before .before .before .before .before .before .before .before .before .before .before .before .before .before .before .before .args in
+    let at-program = c .before .before .before .before .before .before .before in
+    let at-part = at-program .before .before .before .before in
+    let at-new = at-part .before in
+    let at-power-on = at-new .before in
+    let entry = at-power-on .before .before .before .before .before .before .before in
+    let a = entry .args in
     let s = setting part (now (a .mask)) (now (a .fates)) in
     let l = begun (now (a .array)) (now (a .register)) (now (a .history)) in
-    let e = rw (c .before .before .before .before .before .before .before .before .before .before .before .part .ensures, c .before .before .before .before .before .before .before .before .before .before .before .before .new .ensures, c .before .before .before .before .before .before .before .before .before .before .before .before .before .power-on .ensures) at (c .before .before .before .before .before .before .before .program .ensures .0) in
+    let e = rw (at-part .part .ensures, at-new .new .ensures, at-power-on .power-on .ensures) at (at-program .program .ensures .0) in
     omega (arith, sent-counts s l (programCycles s l (a .row) (now (a .«data»))), ap (λ (x : Line). x .left) e)
 
 pub chip-bench-program-spec : {M : Type 1} → statement M

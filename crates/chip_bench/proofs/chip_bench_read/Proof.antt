@@ -26,10 +26,15 @@ read-requires c κs = search needs
 
 sub-result : tie.Need-sub-result
 sub-result c =
-    let a = c .before .before .before .before .before .before .before .before .before .before .before .before .before .before .before .before .before .before .before .before .before .before .before .args in
+    let at-read = c .before .before .before .before .before .before .before .before .before in
+    let at-part = at-read .before .before .before .before .before in
+    let at-new = at-part .before in
+    let at-power-on = at-new .before in
+    let entry = at-power-on .before .before .before .before .before .before .before in
+    let a = entry .args in
     let s = setting part (now (a .mask)) (now (a .fates)) in
     let l = begun (now (a .array)) (now (a .register)) (now (a .history)) in
-    let e = rw (c .before .before .before .before .before .before .before .before .before .before .before .before .before .before .part .ensures, c .before .before .before .before .before .before .before .before .before .before .before .before .before .before .before .new .ensures, c .before .before .before .before .before .before .before .before .before .before .before .before .before .before .before .before .power-on .ensures) at (c .before .before .before .before .before .before .before .before .before .read .ensures .0) in
+    let e = rw (at-part .part .ensures, at-new .new .ensures, at-power-on .power-on .ensures) at (at-read .read .ensures .0) in
     omega (arith, sent-counts s l (readCycles s l (a .row) 0 (length (now (a .buffer)))), ap (λ (x : Line). x .left) e)
 
 same-length : tie.Need-same-length
@@ -46,11 +51,16 @@ same-length-4 c = search needs
 
 returns : tie.Need-returns
 returns c =
-    let a = c .before .before .before .before .before .before .before .before .before .before .before .before .before .before .before .before .before .before .before .before .before .before .before .args in
+    let at-read = c .before .before .before .before .before .before .before .before .before in
+    let at-part = at-read .before .before .before .before .before in
+    let at-new = at-part .before in
+    let at-power-on = at-new .before in
+    let entry = at-power-on .before .before .before .before .before .before .before in
+    let a = entry .args in
     let s = setting part (now (a .mask)) (now (a .fates)) in
     let l = begun (now (a .array)) (now (a .register)) (now (a .history)) in
-    let e = rw (c .before .before .before .before .before .before .before .before .before .before .before .before .before .before .part .ensures, c .before .before .before .before .before .before .before .before .before .before .before .before .before .before .before .new .ensures, c .before .before .before .before .before .before .before .before .before .before .before .before .before .before .before .before .power-on .ensures) at (c .before .before .before .before .before .before .before .before .before .read .ensures .0) in
-    (omega (arith, sent-counts s l (readCycles s l (a .row) 0 (length (now (a .buffer)))), ap (λ (x : Line). x .left) e), rw (c .before .before .before .before .before .before .before .before .before .before .before .before .before .before .part .ensures, c .before .before .before .before .before .before .before .before .before .before .before .before .before .before .before .new .ensures, c .before .before .before .before .before .before .before .before .before .before .before .before .before .before .before .before .power-on .ensures) at (c .before .before .before .before .before .before .before .before .before .read .ensures .1 .1))
+    let e = rw (at-part .part .ensures, at-new .new .ensures, at-power-on .power-on .ensures) at (at-read .read .ensures .0) in
+    (omega (arith, sent-counts s l (readCycles s l (a .row) 0 (length (now (a .buffer)))), ap (λ (x : Line). x .left) e), rw (at-part .part .ensures, at-new .new .ensures, at-power-on .power-on .ensures) at (at-read .read .ensures .1 .1))
 
 pub chip-bench-read-spec : {M : Type 1} → statement M
 chip-bench-read-spec =

@@ -56,14 +56,16 @@ same-length c = search needs
 
 returns : tie.Need-returns
 returns c =
-    let start = c .before .before .before .before .before .before .before .before .before .before in
-    let at = c .before .before .before .before .before .before .row-start .result in
-    let size = c .before .before .before .before .before .page-size .result in
+    let at-page-size = c .before .before .before .before .before in
+    let at-row-start = at-page-size .before in
+    let start = at-row-start .before .before .before .before in
+    let at = at-row-start .row-start .result in
+    let size = at-page-size .page-size .result in
     let xs = start .args .array .now in
     let bytes = start .args .«data» .now in
     let mask = start .args .mask .now in
-    let long : length bytes ≤ size = rw (c .before .before .before .before .before .page-size .ensures) (omega arith) in
-    rw (← c .before .before .before .before .before .before .row-start .ensures, ← c .before .before .before .before .before .page-size .ensures) (lent at size (λ zs. programmed zs (weakened bytes mask)) _ xs (part-program-masked-end (c .before .before .before .before .before)) (λ zs. length-programmed zs _) (by-first-bytes size (part at (at + size - at) xs) bytes mask long (c .before .before .program-masked .ensures)))
+    let long : length bytes ≤ size = rw (at-page-size .page-size .ensures) (omega arith) in
+    rw (← at-row-start .row-start .ensures, ← at-page-size .page-size .ensures) (lent at size (λ zs. programmed zs (weakened bytes mask)) _ xs (part-program-masked-end (at-page-size)) (λ zs. length-programmed zs _) (by-first-bytes size (part at (at + size - at) xs) bytes mask long (c .before .before .program-masked .ensures)))
 
 pub program-part-spec : {M : Type 1} → statement M
 program-part-spec =

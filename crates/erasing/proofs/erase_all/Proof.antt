@@ -13,12 +13,12 @@ use Rattle.erasing.proofs.erase_all.Statement.{statement}
 use Rattle.erasing.proofs.erase_all.Tie as tie
 
 abbrev Inv-loop : tie.InvT-loop
-Inv-loop g array₀ register₀ history₀ mask fates marked page₀ b₀ invalid₀ above₀ block₀ blocks array register history page b invalid above block =
+Inv-loop g array₀ register₀ history₀ mask fates marked page₀ b₀ invalid₀ greatest₀ block₀ blocks array register history page b invalid greatest block =
     (block ≤ g .blocks) × (length array ≡ length array₀) × (length register ≡ length register₀) × (length history ≡ length history₀) × (length page ≡ length page₀)
-    × Rounding (setting g mask fates) marked (line b₀ array₀ register₀ history₀) (line b array register history) block invalid above
+    × Rounding (setting g mask fates) marked (line b₀ array₀ register₀ history₀) (line b array register history) block invalid greatest
 
 abbrev μ-loop : tie.MeasureT-loop
-μ-loop g array₀ register₀ history₀ mask fates marked page₀ b₀ invalid₀ above₀ block₀ blocks array register history page b invalid above block =
+μ-loop g array₀ register₀ history₀ mask fates marked page₀ b₀ invalid₀ greatest₀ block₀ blocks array register history page b invalid greatest block =
     g .blocks - block
 
 loop-holds : tie.Need-loop-holds Inv-loop μ-loop
@@ -27,51 +27,93 @@ loop-holds c =
     (omega arith, refl, refl, refl, refl, round-begins (setting (s .args .g) (now (s .args .mask)) (now (s .args .fates))) (now (s .args .marked)) (line (s .args .from) (now (s .args .array)) (now (s .args .register)) (now (s .args .history))) (s .pre .0))
 
 erase-block-requires : tie.Need-erase-block-requires Inv-loop μ-loop
-erase-block-requires c κs = (c .before .before .before .before .before .loop .inv .5 .called, (c .before .before .before .before .loop-test .taken, c .before .before .before .before .before .loop .inv .4 ∙ c .before .before .before .before .before .before .before .before .before .before .before .before .pre .1))
+erase-block-requires c κs =
+    let at-loop-test = c .before .before .before .before in
+    let turn = at-loop-test .before in
+    let entry = turn .before .before .before .before .before .before .before in
+    (turn .loop .inv .5 .called, (at-loop-test .loop-test .taken, turn .loop .inv .4 ∙ entry .pre .1))
 
 enum-told : tie.Need-enum-told Inv-loop μ-loop
 enum-told c = search needs
 
 same-length : tie.Need-same-length Inv-loop μ-loop
-same-length c = c .before .before .before .before .before .before .before .before .before .array .given ∙ c .before .before .before .before .before .before .before .before .before .before .before .before .before .before .before .before .loop .inv .1
+same-length c =
+    let at-array = c .before .before .before .before .before .before .before .before .before in
+    let turn = at-array .before .before .before .before .before .before .before in
+    at-array .array .given ∙ turn .loop .inv .1
 
 same-length-2 : tie.Need-same-length-2 Inv-loop μ-loop
-same-length-2 c = c .before .before .before .before .before .before .before .register .given ∙ c .before .before .before .before .before .before .before .before .before .before .before .before .before .before .before .before .loop .inv .2
+same-length-2 c =
+    let at-register = c .before .before .before .before .before .before .before in
+    let turn = at-register .before .before .before .before .before .before .before .before .before in
+    at-register .register .given ∙ turn .loop .inv .2
 
 same-length-3 : tie.Need-same-length-3 Inv-loop μ-loop
-same-length-3 c = c .before .before .before .before .before .history .given ∙ c .before .before .before .before .before .before .before .before .before .before .before .before .before .before .before .before .loop .inv .3
+same-length-3 c =
+    let at-history = c .before .before .before .before .before in
+    let way = at-history .before .before .before .before .before .before .before .before .before in
+    let turn = way .before .before in
+    at-history .history .given ∙ turn .loop .inv .3
 
 same-length-4 : tie.Need-same-length-4 Inv-loop μ-loop
-same-length-4 c = c .before .before .before .page .given ∙ c .before .before .before .before .before .before .before .before .before .before .before .before .before .before .before .before .loop .inv .4
+same-length-4 c =
+    let way = c .before .before .before .before .before .before .before .before .before in
+    let turn = way .before .before .before .before .before .before .before in
+    c .before .before .before .page .given ∙ turn .loop .inv .4
 
 returns : tie.Need-returns Inv-loop μ-loop
 returns c =
-    let s = c .before .before .before .before .before .before .before .before .before .before .before .before .before .before .before .before .before .before .before .before .before .before .before in
-    let lp = c .before .before .before .before .before .before .before .before .before .before .before .before .before .before .before .before .loop in
-    round-stops (setting (s .args .g) (now (s .args .mask)) (now (s .args .fates))) (now (s .args .marked)) (line (s .args .from) (now (s .args .array)) (now (s .args .register)) (now (s .args .history))) (line (lp .b) (lp .array) (lp .register) (lp .history)) (lp .block) (lp .invalid) (lp .above) (c .before .before .before .before .before .before .before .before .before .before .before .before .before .before .before .loop-test .taken) (lp .inv .5) _ (c .before .before .before .before .before .before .before .before .before .before .erase-block .result .outcome) _ _ (c .before .before .before .before .before .before .before .before .before .before .erase-block .ensures) (other-by-tag _ (c .match .keys2)) _ _
+    let way = c .before .before .before .before .before .before .before .before .before in
+    let at-erase-block = way .before in
+    let at-loop-test = at-erase-block .before .before .before .before .before in
+    let turn = at-loop-test .before in
+    let s = turn .before .before .before .before .before .before .before in
+    let lp = turn .loop in
+    round-stops (setting (s .args .g) (now (s .args .mask)) (now (s .args .fates))) (now (s .args .marked)) (line (s .args .from) (now (s .args .array)) (now (s .args .register)) (now (s .args .history))) (line (lp .b) (lp .array) (lp .register) (lp .history)) (lp .block) (lp .invalid) (lp .greatest) (at-loop-test .loop-test .taken) (lp .inv .5) _ (at-erase-block .erase-block .result .outcome) _ _ (at-erase-block .erase-block .ensures) (other-by-tag _ (c .match .keys2)) _ _
 
 note-failed-requires : tie.Need-note-failed-requires Inv-loop μ-loop
-note-failed-requires c κs = omega (arith, c .before .before .before .before .before .before .before .before .before .before .before .before .before .before .before .before .before .loop-test .taken, c .before .before .before .before .before .before .before .before .before .before .before .before .before .before .before .before .before .before .loop .inv .5 .called .is-valid .blocks-most)
+note-failed-requires c κs =
+    let way = c .before .before .before .before .before .before .before .before .before in
+    let at-loop-test = way .before .before .before .before .before .before .before .before in
+    let turn = at-loop-test .before in
+    omega (arith, at-loop-test .loop-test .taken, turn .loop .inv .5 .called .is-valid .blocks-most)
 
 greater-requires : tie.Need-greater-requires Inv-loop μ-loop
 greater-requires c κs = search needs
 
 add-block : tie.Need-add-block Inv-loop μ-loop
-add-block c = search (needs, c .before .before .before .before .before .before .before .before .before .before .before .before .before .before .before .before .before .before .before .loop-test .taken, c .before .before .before .before .before .before .before .before .before .before .before .before .before .before .before .before .before .before .before .before .loop .inv .5 .called .is-valid .blocks-most)
+add-block c =
+    let way = c .before .before .before .before .before .before .before .before .before in
+    let way-2 = way .before .before .before .before .before .before .before .before .before in
+    let at-loop-test = way-2 .before in
+    let turn = at-loop-test .before in
+    search (needs, at-loop-test .loop-test .taken, turn .loop .inv .5 .called .is-valid .blocks-most)
 
 loop-less : tie.Need-loop-less Inv-loop μ-loop
-loop-less c = omega (arith, c .before .before .before .before .before .before .before .before .before .before .before .before .before .before .before .before .before .before .before .loop-test .taken)
+loop-less c =
+    let way = c .before .before .before .before .before .before .before .before .before in
+    let way-2 = way .before .before .before .before .before .before .before .before .before in
+    let at-loop-test = way-2 .before in
+    omega (arith, at-loop-test .loop-test .taken)
 
 loop-again : tie.Need-loop-again Inv-loop μ-loop
 loop-again c =
-    let s = c .before .before .before .before .before .before .before .before .before .before .before .before .before .before .before .before .before .before .before .before .before .before .before .before .before .before .before in
-    let lp = c .before .before .before .before .before .before .before .before .before .before .before .before .before .before .before .before .before .before .before .before .loop in (
-      omega (arith, c .before .before .before .before .before .before .before .before .before .before .before .before .before .before .before .before .before .before .before .loop-test .taken),
-      c .before .before .before .before .before .before .before .before .before .before .before .before .before .array .given ∙ lp .inv .1,
-      c .before .before .before .before .before .before .before .before .before .before .before .register .given ∙ lp .inv .2,
-      c .before .before .before .before .before .before .before .before .before .history .given ∙ lp .inv .3,
-      c .before .before .before .before .before .before .before .page .given ∙ lp .inv .4,
-      round-goes (setting (s .args .g) (now (s .args .mask)) (now (s .args .fates))) (now (s .args .marked)) (line (s .args .from) (now (s .args .array)) (now (s .args .register)) (now (s .args .history))) (line (lp .b) (lp .array) (lp .register) (lp .history)) (lp .block) (lp .invalid) (lp .above) (c .before .before .before .before .before .before .before .before .before .before .before .before .before .before .before .before .before .before .before .loop-test .taken) (lp .inv .5) _ (c .before .before .before .before .before .before .before .before .before .before .before .before .before .before .erase-block .result .outcome) _ _ (c .before .before .before .before .before .before .before .before .before .before .before .before .before .before .erase-block .ensures) (passed-by-tag _ (c .before .before .before .before .match .keys1)) (c .before .note-failed .ensures) (c .greater .ensures),
+    let at-match = c .before .before .before .before in
+    let at-page = at-match .before .before .before in
+    let at-history = at-page .before .before in
+    let at-register = at-history .before .before in
+    let at-array = at-register .before .before in
+    let at-erase-block = at-array .before in
+    let at-loop-test = at-erase-block .before .before .before .before .before in
+    let turn = at-loop-test .before in
+    let s = turn .before .before .before .before .before .before .before in
+    let lp = turn .loop in (
+      omega (arith, at-loop-test .loop-test .taken),
+      at-array .array .given ∙ lp .inv .1,
+      at-register .register .given ∙ lp .inv .2,
+      at-history .history .given ∙ lp .inv .3,
+      at-page .page .given ∙ lp .inv .4,
+      round-goes (setting (s .args .g) (now (s .args .mask)) (now (s .args .fates))) (now (s .args .marked)) (line (s .args .from) (now (s .args .array)) (now (s .args .register)) (now (s .args .history))) (line (lp .b) (lp .array) (lp .register) (lp .history)) (lp .block) (lp .invalid) (lp .greatest) (at-loop-test .loop-test .taken) (lp .inv .5) _ (at-erase-block .erase-block .result .outcome) _ _ (at-erase-block .erase-block .ensures) (passed-by-tag _ (at-match .match .keys1)) (c .before .note-failed .ensures) (c .greater .ensures),
     )
 
 same-length-5 : tie.Need-same-length-5 Inv-loop μ-loop
@@ -89,7 +131,7 @@ same-length-8 c = c .before .loop .inv .4
 returns-2 : tie.Need-returns-2 Inv-loop μ-loop
 returns-2 c =
     let lp = c .before .loop in
-    round-ends _ _ _ _ (lp .block) (lp .invalid) (lp .above) (omega arith) (lp .inv .5)
+    round-ends _ _ _ _ (lp .block) (lp .invalid) (lp .greatest) (omega arith) (lp .inv .5)
 
 pub erase-all-spec : {M : Type 1} → statement M
 erase-all-spec =

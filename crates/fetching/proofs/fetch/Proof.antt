@@ -28,12 +28,14 @@ same-length-4 c = search needs
 
 returns : tie.Need-returns
 returns c =
-    let s = c .before .before .before .before .before .before .before .before .before .before .before .before .before .before .before .before .before .before .before .before .before in
+    let at-read = c .before .before .before .before .before .before .before .before .before in
+    let way = at-read .before .before .before .before .before .before .before .before .before in
+    let s = way .before .before .before in
     let set = setting (s .args .g) (now (s .args .mask)) (now (s .args .fates)) in
     let l = line (s .args .from) (now (s .args .array)) (now (s .args .register)) (now (s .args .history)) in
-    let e = c .before .before .before .before .before .before .before .before .before .read .ensures in
-    let t = other-by-tag (c .before .before .before .before .before .before .before .before .before .read .result .outcome) (c .match .keys2) in
-    (fetch-line set l (s .args .row) (now (s .args .buffer)) (now (s .args .bytes)) _ (c .before .before .before .before .before .before .before .before .before .read .result .outcome) (s .pre .0) (e .0) (e .1 .0), (fetch-outcome set l (s .args .row) (now (s .args .buffer)) (now (s .args .bytes)) _ (c .before .before .before .before .before .before .before .before .before .read .result .outcome) (s .pre .0) (e .0) (e .1 .0), fetch-stopped set l (s .args .row) (now (s .args .buffer)) (now (s .args .bytes)) _ (c .before .before .before .before .before .before .before .before .before .read .result .outcome) (s .pre .0) (e .0) (e .1 .0) t))
+    let e = at-read .read .ensures in
+    let t = other-by-tag (at-read .read .result .outcome) (c .match .keys2) in
+    (fetch-line set l (s .args .row) (now (s .args .buffer)) (now (s .args .bytes)) _ (at-read .read .result .outcome) (s .pre .0) (e .0) (e .1 .0), (fetch-outcome set l (s .args .row) (now (s .args .buffer)) (now (s .args .bytes)) _ (at-read .read .result .outcome) (s .pre .0) (e .0) (e .1 .0), fetch-stopped set l (s .args .row) (now (s .args .buffer)) (now (s .args .bytes)) _ (at-read .read .result .outcome) (s .pre .0) (e .0) (e .1 .0) t))
 
 copy-requires : tie.Need-copy-requires
 copy-requires c κs = search needs
@@ -55,12 +57,15 @@ same-length-9 c = search needs
 
 returns-2 : tie.Need-returns-2
 returns-2 c =
-    let s = c .before .before .before .before .before .before .before .before .before .before .before .before .before .before .before .before .before .before .before .before .before .before .before .before .before .before .before in
+    let at-match = c .before .before .before .before .before .before in
+    let at-read = at-match .before .before .before .before .before .before .before .before .before in
+    let way = at-read .before .before .before .before .before .before .before .before .before in
+    let s = way .before .before .before in
     let set = setting (s .args .g) (now (s .args .mask)) (now (s .args .fates)) in
     let l = line (s .args .from) (now (s .args .array)) (now (s .args .register)) (now (s .args .history)) in
-    let e = c .before .before .before .before .before .before .before .before .before .before .before .before .before .before .before .read .ensures in
-    let t = passed-by-tag (c .before .before .before .before .before .before .before .before .before .before .before .before .before .before .before .read .result .outcome) (c .before .before .before .before .before .before .match .keys1) in
-    (fetch-line set l (s .args .row) (now (s .args .buffer)) (now (s .args .bytes)) _ (c .before .before .before .before .before .before .before .before .before .before .before .before .before .before .before .read .result .outcome) (s .pre .0) (e .0) (e .1 .0), (fetch-outcome set l (s .args .row) (now (s .args .buffer)) (now (s .args .bytes)) _ (c .before .before .before .before .before .before .before .before .before .before .before .before .before .before .before .read .result .outcome) (s .pre .0) (e .0) (e .1 .0), fetch-passed set l (s .args .row) (now (s .args .buffer)) (now (s .args .bytes)) _ (c .before .before .before .before .before .before .before .before .before .before .before .before .before .before .before .read .result .outcome) (s .pre .0) (e .0) (e .1 .0) t (s .pre .1) _ _ (e .1 .1) (c .before .before .copy .ensures)))
+    let e = at-read .read .ensures in
+    let t = passed-by-tag (at-read .read .result .outcome) (at-match .match .keys1) in
+    (fetch-line set l (s .args .row) (now (s .args .buffer)) (now (s .args .bytes)) _ (at-read .read .result .outcome) (s .pre .0) (e .0) (e .1 .0), (fetch-outcome set l (s .args .row) (now (s .args .buffer)) (now (s .args .bytes)) _ (at-read .read .result .outcome) (s .pre .0) (e .0) (e .1 .0), fetch-passed set l (s .args .row) (now (s .args .buffer)) (now (s .args .bytes)) _ (at-read .read .result .outcome) (s .pre .0) (e .0) (e .1 .0) t (s .pre .1) _ _ (e .1 .1) (c .before .before .copy .ensures)))
 
 pub fetch-spec : {M : Type 1} → statement M
 fetch-spec =

@@ -39,16 +39,26 @@ blank-requires c κs = search needs
 
 end-requires : tie.Need-end-requires
 end-requires c κs =
-    let s = c .before .before .before .before .before .before .before .before .before .before .before .before .before .before .before .before .before .before .before .before .before .before .before .before .before .before .before in
+    let way = c .before .before .before .before .before .before .before .before .before in
+    let at-fetch = way .before .before .before .before in
+    let at-begin = at-fetch .before .before .before .before .before .before in
+    let at-row-of = at-begin .before in
+    let s = at-row-of .before .before .before .before .before .before .before in
     let set = setting (s .args .g) (now (s .args .mask)) (now (s .args .fates)) in
     let d = device (s .args .interface) (now (s .args .array)) (now (s .args .register)) (now (s .args .history)) in
-    left-most set d (s .args .allowed) (s .args .state) (s .args .block) (s .args .page) (now (s .args .buffer)) _ _ (c .before .before .before .before .before .before .before .before .before .before .before .before .before .fetch .result .outcome) (c .before .before .before .before .before .before .before .before .before .before .before .before .before .before .before .before .before .before .before .before .row-of .result) _ (ap (λ (x : Bus). line x (now (s .args .array)) (now (s .args .register)) (now (s .args .history))) (c .before .before .before .before .before .before .before .before .before .before .before .before .before .before .before .before .before .before .before .begin .ensures)) (c .before .before .before .before .before .before .before .before .before .before .before .before .before .before .before .before .before .before .before .before .row-of .ensures) (c .before .before .before .before .before .before .before .before .before .before .before .before .before .fetch .ensures .0) (c .before .before .before .before .before .before .before .before .before .before .before .before .before .fetch .ensures .1 .0) (c .before .before .before .before .before .before .before .before .before .before .before .before .before .fetch .ensures .1 .1)
+    left-most set d (s .args .allowed) (s .args .state) (s .args .block) (s .args .page) (now (s .args .buffer)) _ _ (at-fetch .fetch .result .outcome) (at-row-of .row-of .result) _ (ap (λ (x : Bus). line x (now (s .args .array)) (now (s .args .register)) (now (s .args .history))) (at-begin .begin .ensures)) (at-row-of .row-of .ensures) (at-fetch .fetch .ensures .0) (at-fetch .fetch .ensures .1 .0) (at-fetch .fetch .ensures .1 .1)
 
 same-length : tie.Need-same-length
-same-length c = c .before .before .before .before .before .before .before .before .before .before .before .before .before .array .given
+same-length c =
+    let way = c .before .before .before .before .before .before .before .before .before in
+    let at-array = way .before .before .before .before in
+    at-array .array .given
 
 same-length-2 : tie.Need-same-length-2
-same-length-2 c = c .before .before .before .before .before .before .before .before .before .before .before .register .given
+same-length-2 c =
+    let way = c .before .before .before .before .before .before .before .before .before in
+    let at-register = way .before .before in
+    at-register .register .given
 
 same-length-3 : tie.Need-same-length-3
 same-length-3 c = c .before .before .before .before .before .before .before .before .before .history .given
@@ -58,24 +68,38 @@ same-length-4 c = c .before .before .before .before .before .before .buffer .giv
 
 returns : tie.Need-returns
 returns c =
-    let s = c .before .before .before .before .before .before .before .before .before .before .before .before .before .before .before .before .before .before .before .before .before .before .before .before .before .before .before .before in
+    let way = c .before .before .before .before .before .before .before .before .before in
+    let at-fetch = way .before .before .before .before .before in
+    let at-begin = at-fetch .before .before .before .before .before .before in
+    let at-row-of = at-begin .before in
+    let s = at-row-of .before .before .before .before .before .before .before in
     let set = setting (s .args .g) (now (s .args .mask)) (now (s .args .fates)) in
     let d = device (s .args .interface) (now (s .args .array)) (now (s .args .register)) (now (s .args .history)) in
-    let t = other-by-tag (c .before .before .before .before .before .before .before .before .before .before .before .before .before .before .fetch .result .outcome) (c .before .before .before .match .keys2) in
-    ends-stopped set d (s .args .allowed) (s .args .state) (s .args .block) (s .args .page) (now (s .args .buffer)) _ _ (c .before .before .before .before .before .before .before .before .before .before .before .before .before .before .fetch .result .outcome) (c .before .before .before .before .before .before .before .before .before .before .before .before .before .before .before .before .before .before .before .before .before .row-of .result) _ (ap (λ (x : Bus). line x (now (s .args .array)) (now (s .args .register)) (now (s .args .history))) (c .before .before .before .before .before .before .before .before .before .before .before .before .before .before .before .before .before .before .before .before .begin .ensures)) (c .before .before .before .before .before .before .before .before .before .before .before .before .before .before .before .before .before .before .before .before .before .row-of .ensures) (c .before .before .before .before .before .before .before .before .before .before .before .before .before .before .fetch .ensures .0) (c .before .before .before .before .before .before .before .before .before .before .before .before .before .before .fetch .ensures .1 .0) (c .before .before .before .before .before .before .before .before .before .before .before .before .before .before .fetch .ensures .1 .1) (c .before .before .stop-answer .result) (c .before .blank .result) t (c .before .before .stop-answer .ensures) (c .before .blank .ensures) (c .end .ensures _ _ _)
+    let t = other-by-tag (at-fetch .fetch .result .outcome) (c .before .before .before .match .keys2) in
+    ends-stopped set d (s .args .allowed) (s .args .state) (s .args .block) (s .args .page) (now (s .args .buffer)) _ _ (at-fetch .fetch .result .outcome) (at-row-of .row-of .result) _ (ap (λ (x : Bus). line x (now (s .args .array)) (now (s .args .register)) (now (s .args .history))) (at-begin .begin .ensures)) (at-row-of .row-of .ensures) (at-fetch .fetch .ensures .0) (at-fetch .fetch .ensures .1 .0) (at-fetch .fetch .ensures .1 .1) (c .before .before .stop-answer .result) (c .before .blank .result) t (c .before .before .stop-answer .ensures) (c .before .blank .ensures) (c .end .ensures _ _ _)
 
 end-requires-2 : tie.Need-end-requires-2
 end-requires-2 c κs =
-    let s = c .before .before .before .before .before .before .before .before .before .before .before .before .before .before .before .before .before .before .before .before .before .before .before .before .before .before in
+    let way = c .before .before .before .before .before .before .before .before .before in
+    let at-fetch = way .before .before .before in
+    let at-begin = at-fetch .before .before .before .before .before .before in
+    let at-row-of = at-begin .before in
+    let s = at-row-of .before .before .before .before .before .before .before in
     let set = setting (s .args .g) (now (s .args .mask)) (now (s .args .fates)) in
     let d = device (s .args .interface) (now (s .args .array)) (now (s .args .register)) (now (s .args .history)) in
-    left-most set d (s .args .allowed) (s .args .state) (s .args .block) (s .args .page) (now (s .args .buffer)) _ _ (c .before .before .before .before .before .before .before .before .before .before .before .before .fetch .result .outcome) (c .before .before .before .before .before .before .before .before .before .before .before .before .before .before .before .before .before .before .before .row-of .result) _ (ap (λ (x : Bus). line x (now (s .args .array)) (now (s .args .register)) (now (s .args .history))) (c .before .before .before .before .before .before .before .before .before .before .before .before .before .before .before .before .before .before .begin .ensures)) (c .before .before .before .before .before .before .before .before .before .before .before .before .before .before .before .before .before .before .before .row-of .ensures) (c .before .before .before .before .before .before .before .before .before .before .before .before .fetch .ensures .0) (c .before .before .before .before .before .before .before .before .before .before .before .before .fetch .ensures .1 .0) (c .before .before .before .before .before .before .before .before .before .before .before .before .fetch .ensures .1 .1)
+    left-most set d (s .args .allowed) (s .args .state) (s .args .block) (s .args .page) (now (s .args .buffer)) _ _ (at-fetch .fetch .result .outcome) (at-row-of .row-of .result) _ (ap (λ (x : Bus). line x (now (s .args .array)) (now (s .args .register)) (now (s .args .history))) (at-begin .begin .ensures)) (at-row-of .row-of .ensures) (at-fetch .fetch .ensures .0) (at-fetch .fetch .ensures .1 .0) (at-fetch .fetch .ensures .1 .1)
 
 same-length-5 : tie.Need-same-length-5
-same-length-5 c = c .before .before .before .before .before .before .before .before .before .before .before .before .array .given
+same-length-5 c =
+    let way = c .before .before .before .before .before .before .before .before .before in
+    let at-array = way .before .before .before in
+    at-array .array .given
 
 same-length-6 : tie.Need-same-length-6
-same-length-6 c = c .before .before .before .before .before .before .before .before .before .before .register .given
+same-length-6 c =
+    let way = c .before .before .before .before .before .before .before .before .before in
+    let at-register = way .before in
+    at-register .register .given
 
 same-length-7 : tie.Need-same-length-7
 same-length-7 c = c .before .before .before .before .before .before .before .before .history .given
@@ -85,11 +109,15 @@ same-length-8 c = c .before .before .before .before .before .buffer .given
 
 returns-2 : tie.Need-returns-2
 returns-2 c =
-    let s = c .before .before .before .before .before .before .before .before .before .before .before .before .before .before .before .before .before .before .before .before .before .before .before .before .before .before .before in
+    let way = c .before .before .before .before .before .before .before .before .before in
+    let at-fetch = way .before .before .before .before in
+    let at-begin = at-fetch .before .before .before .before .before .before in
+    let at-row-of = at-begin .before in
+    let s = at-row-of .before .before .before .before .before .before .before in
     let set = setting (s .args .g) (now (s .args .mask)) (now (s .args .fates)) in
     let d = device (s .args .interface) (now (s .args .array)) (now (s .args .register)) (now (s .args .history)) in
-    let t = passed-by-tag (c .before .before .before .before .before .before .before .before .before .before .before .before .before .fetch .result .outcome) (c .before .before .match .keys1) in
-    ends-passed set d (s .args .allowed) (s .args .state) (s .args .block) (s .args .page) (now (s .args .buffer)) _ _ (c .before .before .before .before .before .before .before .before .before .before .before .before .before .fetch .result .outcome) (c .before .before .before .before .before .before .before .before .before .before .before .before .before .before .before .before .before .before .before .before .row-of .result) _ (ap (λ (x : Bus). line x (now (s .args .array)) (now (s .args .register)) (now (s .args .history))) (c .before .before .before .before .before .before .before .before .before .before .before .before .before .before .before .before .before .before .before .begin .ensures)) (c .before .before .before .before .before .before .before .before .before .before .before .before .before .before .before .before .before .before .before .before .row-of .ensures) (c .before .before .before .before .before .before .before .before .before .before .before .before .before .fetch .ensures .0) (c .before .before .before .before .before .before .before .before .before .before .before .before .before .fetch .ensures .1 .0) (c .before .before .before .before .before .before .before .before .before .before .before .before .before .fetch .ensures .1 .1) t (c .end2 .ensures _ _ _)
+    let t = passed-by-tag (at-fetch .fetch .result .outcome) (c .before .before .match .keys1) in
+    ends-passed set d (s .args .allowed) (s .args .state) (s .args .block) (s .args .page) (now (s .args .buffer)) _ _ (at-fetch .fetch .result .outcome) (at-row-of .row-of .result) _ (ap (λ (x : Bus). line x (now (s .args .array)) (now (s .args .register)) (now (s .args .history))) (at-begin .begin .ensures)) (at-row-of .row-of .ensures) (at-fetch .fetch .ensures .0) (at-fetch .fetch .ensures .1 .0) (at-fetch .fetch .ensures .1 .1) t (c .end2 .ensures _ _ _)
 
 pub read-block-spec : {M : Type 1} → statement M
 read-block-spec =

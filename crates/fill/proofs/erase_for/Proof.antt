@@ -36,14 +36,17 @@ same-length-3 c = search needs
 
 returns-2 : tie.Need-returns-2
 returns-2 c =
-    let s = c .before .before .before .before .before .before .before .before .before .before .before .before .before .before .before .before .before in
+    let at-erase = c .before .before .before .before .before .before in
+    let at-row-of = at-erase .before .before .before .before in
+    let at-if1 = at-row-of .before in
+    let s = at-if1 .before .before .before .before .before .before in
     let set = setting (s .args .g) (now (s .args .mask)) (now (s .args .fates)) in
     let l = line (s .args .from) (now (s .args .array)) (now (s .args .register)) (now (s .args .history)) in
     let can : CanErase set l (s .args .block) = record { called = s .pre .0; block-below = s .pre .1 .0 } in
-    let o = c .before .before .before .before .before .before .erase .result .outcome in
-    let e = c .before .before .before .before .before .before .erase .ensures .0 ∙ ap (λ (x : ℕ). sendAll set l (eraseCycles set l x)) (c .before .before .before .before .before .before .before .before .before .before .row-of .ensures) in
-    let q = c .before .before .before .before .before .before .erase .ensures .1 in
-    (comes-as (λ p. first-erased set (s .args .block) (s .args .place) p (c .before .before .before .before .before .before .before .before .before .before .before .if1 .left)) (erase-comes set l (s .args .block) can _ o e q), λ t. omega (arith, erase-order set l (s .args .block) can _ o e q t))
+    let o = at-erase .erase .result .outcome in
+    let e = at-erase .erase .ensures .0 ∙ ap (λ (x : ℕ). sendAll set l (eraseCycles set l x)) (at-row-of .row-of .ensures) in
+    let q = at-erase .erase .ensures .1 in
+    (comes-as (λ p. first-erased set (s .args .block) (s .args .place) p (at-if1 .if1 .left)) (erase-comes set l (s .args .block) can _ o e q), λ t. omega (arith, erase-order set l (s .args .block) can _ o e q t))
 
 pub erase-for-spec : {M : Type 1} → statement M
 erase-for-spec =

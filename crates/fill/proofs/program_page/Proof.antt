@@ -34,11 +34,14 @@ same-length-4 c = search needs
 
 returns : tie.Need-returns
 returns c =
-    let s = c .before .before .before .before .before .before .before .before .before .before .before .before .before .before .before .before .before .before .before .before .before .before in
+    let at-program = c .before .before .before .before .before .before in
+    let at-row-of = at-program .before .before .before .before .before in
+    let at-finish-page = at-row-of .before .before .before in
+    let s = at-finish-page .before .before .before .before .before .before .before .before in
     let set = setting (s .args .g) (now (s .args .mask)) (now (s .args .fates)) in
     let l = line (s .args .from) (now (s .args .array)) (now (s .args .register)) (now (s .args .history)) in
-    let bytes = as-page (s .args .g) (s .args .content .kind) (s .args .content .logical) (s .args .content .number) (s .args .place) (now (s .args .page)) _ (s .pre .page-long) (c .before .before .before .before .before .before .before .before .before .before .before .before .before .before .finish-page .ensures) in
-    (c .before .before .before .before .before .before .program .ensures .0 ∙ ap₂ (λ (x : ℕ) (y : List ℕ). sendAll set l (programCycles set l x y)) (c .before .before .before .before .before .before .before .before .before .before .before .row-of .ensures) bytes, c .before .before .before .before .before .before .program .ensures .1)
+    let bytes = as-page (s .args .g) (s .args .content .kind) (s .args .content .logical) (s .args .content .number) (s .args .place) (now (s .args .page)) _ (s .pre .page-long) (at-finish-page .finish-page .ensures) in
+    (at-program .program .ensures .0 ∙ ap₂ (λ (x : ℕ) (y : List ℕ). sendAll set l (programCycles set l x y)) (at-row-of .row-of .ensures) bytes, at-program .program .ensures .1)
 
 pub program-page-spec : {M : Type 1} → statement M
 program-page-spec =

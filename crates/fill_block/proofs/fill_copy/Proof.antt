@@ -31,55 +31,88 @@ loop-holds c =
 
 fill-page-requires : tie.Need-fill-page-requires Inv-loop μ-loop
 fill-page-requires c κs =
-    let s = c .before .before .before .before .before .before .before .before .before .before .before .before .before in
+    let at-loop-test = c .before .before .before .before in
+    let turn = at-loop-test .before in
+    let s = turn .before .before .before .before .before .before .before .before in
     let f = s .pre .1 .0 in
-    let lp = c .before .before .before .before .before .loop in
-    (lp .inv .5 .called, (record { is-valid = f .is-valid; block-below = f .block-below; place-below = c .before .before .before .before .loop-test .taken; width-some = f .width-some; logical-fits = f .logical-fits; number-fits = f .number-fits; page-long = lp .inv .4 ∙ f .page-long }, (lp .inv .5 .in-order, s .pre .1 .1)))
+    let lp = turn .loop in
+    (lp .inv .5 .called, (record { is-valid = f .is-valid; block-below = f .block-below; place-below = at-loop-test .loop-test .taken; width-some = f .width-some; logical-fits = f .logical-fits; number-fits = f .number-fits; page-long = lp .inv .4 ∙ f .page-long }, (lp .inv .5 .in-order, s .pre .1 .1)))
 
 enum-told : tie.Need-enum-told Inv-loop μ-loop
 enum-told c = search needs
 
 same-length : tie.Need-same-length Inv-loop μ-loop
-same-length c = c .before .before .before .before .before .before .before .before .before .array .given ∙ c .before .before .before .before .before .before .before .before .before .before .before .before .before .before .before .before .loop .inv .1
+same-length c =
+    let at-array = c .before .before .before .before .before .before .before .before .before in
+    let turn = at-array .before .before .before .before .before .before .before in
+    at-array .array .given ∙ turn .loop .inv .1
 
 same-length-2 : tie.Need-same-length-2 Inv-loop μ-loop
-same-length-2 c = c .before .before .before .before .before .before .before .register .given ∙ c .before .before .before .before .before .before .before .before .before .before .before .before .before .before .before .before .loop .inv .2
+same-length-2 c =
+    let at-register = c .before .before .before .before .before .before .before in
+    let turn = at-register .before .before .before .before .before .before .before .before .before in
+    at-register .register .given ∙ turn .loop .inv .2
 
 same-length-3 : tie.Need-same-length-3 Inv-loop μ-loop
-same-length-3 c = c .before .before .before .before .before .history .given ∙ c .before .before .before .before .before .before .before .before .before .before .before .before .before .before .before .before .loop .inv .3
+same-length-3 c =
+    let at-history = c .before .before .before .before .before in
+    let way = at-history .before .before .before .before .before .before .before .before .before in
+    let turn = way .before .before in
+    at-history .history .given ∙ turn .loop .inv .3
 
 same-length-4 : tie.Need-same-length-4 Inv-loop μ-loop
-same-length-4 c = c .before .before .before .page .given ∙ c .before .before .before .before .before .before .before .before .before .before .before .before .before .before .before .before .loop .inv .4
+same-length-4 c =
+    let way = c .before .before .before .before .before .before .before .before .before in
+    let turn = way .before .before .before .before .before .before .before in
+    c .before .before .before .page .given ∙ turn .loop .inv .4
 
 returns : tie.Need-returns Inv-loop μ-loop
 returns c =
-    let s = c .before .before .before .before .before .before .before .before .before .before .before .before .before .before .before .before .before .before .before .before .before .before .before .before in
+    let way = c .before .before .before .before .before .before .before .before .before in
+    let at-fill-page = way .before in
+    let at-loop-test = at-fill-page .before .before .before .before .before in
+    let turn = at-loop-test .before in
+    let s = turn .before .before .before .before .before .before .before .before in
     let set = setting (s .args .g) (now (s .args .mask)) (now (s .args .fates)) in
     let k = copy (s .args .content .kind) (s .args .content .logical) (s .args .content .number) in
     let source = dataSource (s .args .g) (s .args .content .old) (s .args .content .first) (s .args .content .count) (now (s .args .bytes)) in
-    let lp = c .before .before .before .before .before .before .before .before .before .before .before .before .before .before .before .before .loop in
-    fill-stops set _ _ (s .args .block) k source (lp .place) (lp .inv .5) _ (c .before .before .before .before .before .before .before .before .before .before .fill-page .result .outcome) (c .before .before .before .before .before .before .before .before .before .before .fill-page .ensures .0) (c .before .before .before .before .before .before .before .before .before .before .before .before .before .before .before .loop-test .taken) (other-by-tag _ (c .match .keys2))
+    let lp = turn .loop in
+    fill-stops set _ _ (s .args .block) k source (lp .place) (lp .inv .5) _ (at-fill-page .fill-page .result .outcome) (at-fill-page .fill-page .ensures .0) (at-loop-test .loop-test .taken) (other-by-tag _ (c .match .keys2))
 
 add-place : tie.Need-add-place Inv-loop μ-loop
-add-place c = search (needs, c .before .before .before .before .before .before .before .before .before .before .before .before .before .before .before .before .loop-test .taken, c .before .before .before .before .before .before .before .before .before .before .before .before .before .before .before .before .before .before .before .before .before .before .before .before .before .pre .1 .0 .is-valid .pages-most)
+add-place c =
+    let way = c .before .before .before .before .before .before .before .before .before in
+    let at-loop-test = way .before .before .before .before .before .before .before in
+    let entry = at-loop-test .before .before .before .before .before .before .before .before .before in
+    search (needs, at-loop-test .loop-test .taken, entry .pre .1 .0 .is-valid .pages-most)
 
 loop-less : tie.Need-loop-less Inv-loop μ-loop
-loop-less c = omega (arith, c .before .before .before .before .before .before .before .before .before .before .before .before .before .before .before .before .loop-test .taken)
+loop-less c =
+    let way = c .before .before .before .before .before .before .before .before .before in
+    let at-loop-test = way .before .before .before .before .before .before .before in
+    omega (arith, at-loop-test .loop-test .taken)
 
 loop-again : tie.Need-loop-again Inv-loop μ-loop
 loop-again c =
-    let s = c .before .before .before .before .before .before .before .before .before .before .before .before .before .before .before .before .before .before .before .before .before .before .before .before .before in
+    let at-page = c .before .before .before .before in
+    let at-history = at-page .before .before in
+    let at-register = at-history .before .before in
+    let at-array = at-register .before .before in
+    let at-fill-page = at-array .before in
+    let at-loop-test = at-fill-page .before .before .before .before .before in
+    let turn = at-loop-test .before in
+    let s = turn .before .before .before .before .before .before .before .before in
     let set = setting (s .args .g) (now (s .args .mask)) (now (s .args .fates)) in
     let k = copy (s .args .content .kind) (s .args .content .logical) (s .args .content .number) in
     let source = dataSource (s .args .g) (s .args .content .old) (s .args .content .first) (s .args .content .count) (now (s .args .bytes)) in
-    let lp = c .before .before .before .before .before .before .before .before .before .before .before .before .before .before .before .before .before .loop in
+    let lp = turn .loop in
     let p = passed-by-tag _ (c .before .match .keys1) in (
-      omega (arith, c .before .before .before .before .before .before .before .before .before .before .before .before .before .before .before .before .loop-test .taken),
-      c .before .before .before .before .before .before .before .before .before .before .array .given ∙ lp .inv .1,
-      c .before .before .before .before .before .before .before .before .register .given ∙ lp .inv .2,
-      c .before .before .before .before .before .before .history .given ∙ lp .inv .3,
-      c .before .before .before .before .page .given ∙ lp .inv .4,
-      fill-goes set _ _ (s .args .block) k source (lp .place) (lp .inv .5) _ (c .before .before .before .before .before .before .before .before .before .before .before .fill-page .result .outcome) (c .before .before .before .before .before .before .before .before .before .before .before .fill-page .ensures .0) p (c .before .before .before .before .before .before .before .before .before .before .before .fill-page .ensures .1 p),
+      omega (arith, at-loop-test .loop-test .taken),
+      at-array .array .given ∙ lp .inv .1,
+      at-register .register .given ∙ lp .inv .2,
+      at-history .history .given ∙ lp .inv .3,
+      at-page .page .given ∙ lp .inv .4,
+      fill-goes set _ _ (s .args .block) k source (lp .place) (lp .inv .5) _ (at-fill-page .fill-page .result .outcome) (at-fill-page .fill-page .ensures .0) p (at-fill-page .fill-page .ensures .1 p),
     )
 
 same-length-5 : tie.Need-same-length-5 Inv-loop μ-loop

@@ -31,19 +31,24 @@ same-length-3 c = search needs
 
 returns : tie.Need-returns
 returns c =
-    let s = c .before .before .before .before .before .before .before .before .before .before .before .before .before .before .before .before .before .before in
+    let at-erase-for = c .before .before .before .before .before .before .before in
+    let way = at-erase-for .before .before .before .before .before .before .before .before .before in
+    let s = way .before .before in
     let set = setting (s .args .g) (now (s .args .mask)) (now (s .args .fates)) in
     let l = line (s .args .from) (now (s .args .array)) (now (s .args .register)) (now (s .args .history)) in
     let k = copy (s .args .content .kind) (s .args .content .logical) (s .args .content .number) in
     let source = dataSource (s .args .g) (s .args .content .old) (s .args .content .first) (s .args .content .count) (now (s .args .bytes)) in
     let f = other-by-tag _ (c .match .keys2) in
-    (step-stops set (s .args .block) k source (s .args .place) l _ (c .before .before .before .before .before .before .before .erase-for .result .outcome) (c .before .before .before .before .before .before .before .erase-for .ensures .0) f, λ t. absurd (false≢true (sym f ∙ t)))
+    (step-stops set (s .args .block) k source (s .args .place) l _ (at-erase-for .erase-for .result .outcome) (at-erase-for .erase-for .ensures .0) f, λ t. absurd (false≢true (sym f ∙ t)))
 
 put-main-requires : tie.Need-put-main-requires
 put-main-requires c κs =
-    let s = c .before .before .before .before .before .before .before .before .before .before .before .before .before .before .before .before .before .before .before .before .before .before .before in
-    let p = passed-by-tag _ (c .before .before .before .before .before .match .keys1) in
-    (c .before .before .before .before .before .before .before .before .before .before .before .before .erase-for .ensures .0 .next-called (passed-answered _ p), (s .pre .1 .0 .place-below, (s .pre .1 .0 .page-long, s .pre .1 .1 .1)))
+    let at-match = c .before .before .before .before .before in
+    let at-erase-for = at-match .before .before .before .before .before .before .before in
+    let way = at-erase-for .before .before .before .before .before .before .before .before .before in
+    let s = way .before .before in
+    let p = passed-by-tag _ (at-match .match .keys1) in
+    (at-erase-for .erase-for .ensures .0 .next-called (passed-answered _ p), (s .pre .1 .0 .place-below, (s .pre .1 .0 .page-long, s .pre .1 .1 .1)))
 
 enum-told-2 : tie.Need-enum-told-2
 enum-told-2 c = search needs
@@ -62,48 +67,84 @@ same-length-7 c = search needs
 
 returns-2 : tie.Need-returns-2
 returns-2 c =
-    let s = c .before .before .before .before .before .before .before .before .before .before .before .before .before .before .before .before .before .before .before .before .before .before .before .before .before .before .before .before .before .before .before .before .before in
+    let at-put-main = c .before .before .before .before .before .before .before .before .before in
+    let at-match = at-put-main .before .before .before .before .before .before in
+    let at-erase-for = at-match .before .before .before .before .before .before .before in
+    let way = at-erase-for .before .before .before .before .before .before .before .before .before in
+    let s = way .before .before in
     let set = setting (s .args .g) (now (s .args .mask)) (now (s .args .fates)) in
     let l = line (s .args .from) (now (s .args .array)) (now (s .args .register)) (now (s .args .history)) in
     let k = copy (s .args .content .kind) (s .args .content .logical) (s .args .content .number) in
     let source = dataSource (s .args .g) (s .args .content .old) (s .args .content .first) (s .args .content .count) (now (s .args .bytes)) in
-    let p = passed-by-tag _ (c .before .before .before .before .before .before .before .before .before .before .before .before .before .before .before .match .keys1) in
+    let p = passed-by-tag _ (at-match .match .keys1) in
     let f = other-by-tag _ (c .match2 .keys2) in
-    let page = page-stops set (s .args .block) k (s .args .place) (source (s .args .place)) _ _ (c .before .before .before .before .before .before .before .before .before .put-main .result .outcome) (c .before .before .before .before .before .before .before .before .before .put-main .ensures .0) f in
-    (step-fills set (s .args .block) k source (s .args .place) l _ (c .before .before .before .before .before .before .before .before .before .before .before .before .before .before .before .before .before .before .before .before .before .before .erase-for .result .outcome) (c .before .before .before .before .before .before .before .before .before .before .before .before .before .before .before .before .before .before .before .before .before .before .erase-for .ensures .0) p _ (c .before .before .before .before .before .before .before .before .before .put-main .result .outcome) page, λ t. absurd (false≢true (sym f ∙ t)))
+    let page = page-stops set (s .args .block) k (s .args .place) (source (s .args .place)) _ _ (at-put-main .put-main .result .outcome) (at-put-main .put-main .ensures .0) f in
+    (step-fills set (s .args .block) k source (s .args .place) l _ (at-erase-for .erase-for .result .outcome) (at-erase-for .erase-for .ensures .0) p _ (at-put-main .put-main .result .outcome) page, λ t. absurd (false≢true (sym f ∙ t)))
 
 program-page-requires : tie.Need-program-page-requires
 program-page-requires c κs =
-    let f = c .before .before .before .before .before .before .before .before .before .before .before .before .before .before .before .before .before .before .before .before .before .before .before .before .before .before .before .before .before .before .before .before .before .before .before .before .before .before .pre .1 .0 in
-    record { is-valid = f .is-valid; block-below = f .block-below; place-below = f .place-below; width-some = f .width-some; logical-fits = f .logical-fits; number-fits = f .number-fits; page-long = c .before .before .before .before .before .before .before .page .given ∙ f .page-long }
+    let at-page = c .before .before .before .before .before .before .before in
+    let way = at-page .before .before .before .before .before .before .before .before .before in
+    let way-2 = way .before .before .before .before .before .before .before .before .before in
+    let way-3 = way-2 .before .before .before .before .before .before .before .before .before in
+    let entry = way-3 .before .before .before .before in
+    let f = entry .pre .1 .0 in
+    record { is-valid = f .is-valid; block-below = f .block-below; place-below = f .place-below; width-some = f .width-some; logical-fits = f .logical-fits; number-fits = f .number-fits; page-long = at-page .page .given ∙ f .page-long }
 
 same-length-8 : tie.Need-same-length-8
-same-length-8 c = c .before .before .before .before .before .before .before .array3 .given ∙ c .before .before .before .before .before .before .before .before .before .before .before .before .before .before .before .before .before .before .before .before .before .before .array2 .given ∙ c .before .before .before .before .before .before .before .before .before .before .before .before .before .before .before .before .before .before .before .before .before .before .before .before .before .before .before .before .before .before .before .before .before .before .before .array .given
+same-length-8 c =
+    let at-array3 = c .before .before .before .before .before .before .before in
+    let way = at-array3 .before .before .before .before .before .before .before .before .before in
+    let at-array2 = way .before .before .before .before .before .before in
+    let way-2 = at-array2 .before .before .before .before .before .before .before .before .before in
+    let at-array = way-2 .before .before .before .before in
+    at-array3 .array3 .given ∙ at-array2 .array2 .given ∙ at-array .array .given
 
 same-length-9 : tie.Need-same-length-9
-same-length-9 c = c .before .before .before .before .before .register3 .given ∙ c .before .before .before .before .before .before .before .before .before .before .before .before .before .before .before .before .before .before .before .before .register2 .given ∙ c .before .before .before .before .before .before .before .before .before .before .before .before .before .before .before .before .before .before .before .before .before .before .before .before .before .before .before .before .before .before .before .before .before .register .given
+same-length-9 c =
+    let at-register3 = c .before .before .before .before .before in
+    let way = at-register3 .before .before .before .before .before .before .before .before .before in
+    let at-register2 = way .before .before .before .before .before .before in
+    let way-2 = at-register2 .before .before .before .before .before .before .before .before .before in
+    let at-register = way-2 .before .before .before .before in
+    at-register3 .register3 .given ∙ at-register2 .register2 .given ∙ at-register .register .given
 
 same-length-10 : tie.Need-same-length-10
-same-length-10 c = c .before .before .before .history3 .given ∙ c .before .before .before .before .before .before .before .before .before .before .before .before .before .before .before .before .before .before .history2 .given ∙ c .before .before .before .before .before .before .before .before .before .before .before .before .before .before .before .before .before .before .before .before .before .before .before .before .before .before .before .before .before .before .before .history .given
+same-length-10 c =
+    let way = c .before .before .before .before .before .before .before .before .before in
+    let at-history2 = way .before .before .before .before .before .before .before .before .before in
+    let way-2 = at-history2 .before .before .before .before .before .before .before .before .before in
+    let at-history = way-2 .before .before .before .before in
+    c .before .before .before .history3 .given ∙ at-history2 .history2 .given ∙ at-history .history .given
 
 same-length-11 : tie.Need-same-length-11
-same-length-11 c = c .before .page2 .given ∙ c .before .before .before .before .before .before .before .before .before .before .before .before .before .before .before .before .page .given
+same-length-11 c =
+    let way = c .before .before .before .before .before .before .before .before .before in
+    let at-page = way .before .before .before .before .before .before .before in
+    c .before .page2 .given ∙ at-page .page .given
 
 returns-3 : tie.Need-returns-3
 returns-3 c =
-    let s = c .before .before .before .before .before .before .before .before .before .before .before .before .before .before .before .before .before .before .before .before .before .before .before .before .before .before .before .before .before .before .before .before .before .before .before .before .before .before .before .before .before .before .before .before .before .before .before in
+    let at-program-page = c .before .before .before .before .before .before .before .before in
+    let at-match2 = at-program-page .before .before .before .before .before .before in
+    let at-page = at-match2 .before .before in
+    let at-put-main = at-page .before .before .before .before .before .before .before in
+    let at-match = at-put-main .before .before .before .before .before .before in
+    let at-erase-for = at-match .before .before .before .before .before .before .before in
+    let way = at-erase-for .before .before .before .before .before .before .before .before .before in
+    let s = way .before .before in
     let set = setting (s .args .g) (now (s .args .mask)) (now (s .args .fates)) in
     let l = line (s .args .from) (now (s .args .array)) (now (s .args .register)) (now (s .args .history)) in
     let k = copy (s .args .content .kind) (s .args .content .logical) (s .args .content .number) in
     let source = dataSource (s .args .g) (s .args .content .old) (s .args .content .first) (s .args .content .count) (now (s .args .bytes)) in
-    let d = c .before .before .before .before .before .before .before .before .before .before .before .before .before .before .before .before .before .before .before .before .before .before .before .put-main in
-    let p₀ = passed-by-tag _ (c .before .before .before .before .before .before .before .before .before .before .before .before .before .before .before .before .before .before .before .before .before .before .before .before .before .before .before .before .before .match .keys1) in
-    let p₁ = passed-by-tag _ (c .before .before .before .before .before .before .before .before .before .before .before .before .before .before .match2 .keys1) in
+    let d = at-put-main .put-main in
+    let p₀ = passed-by-tag _ (at-match .match .keys1) in
+    let p₁ = passed-by-tag _ (at-match2 .match2 .keys1) in
     let f = s .pre .1 .0 in
-    let fillable : Fillable (s .args .g) (s .args .block) (s .args .place) (s .args .content .kind) (s .args .content .logical) (s .args .content .number) _ = record { is-valid = f .is-valid; block-below = f .block-below; place-below = f .place-below; width-some = f .width-some; logical-fits = f .logical-fits; number-fits = f .number-fits; page-long = c .before .before .before .before .before .before .before .before .before .before .before .before .before .before .before .before .page .given ∙ f .page-long } in
-    let order = subst (λ (x : List ℕ). getD x (s .args .block) 0 ≤ s .args .place) (sym (d .ensures .1 .1)) (c .before .before .before .before .before .before .before .before .before .before .before .before .before .before .before .before .before .before .before .before .before .before .before .before .before .before .before .before .before .before .before .before .before .before .before .before .erase-for .ensures .1 p₀) in
-    let page = page-programmed set (s .args .block) k (s .args .place) (source (s .args .place)) _ _ (d .result .outcome) (d .ensures .0) p₁ _ fillable (d .ensures .1 .0 p₁) order _ (c .before .before .before .before .before .before .before .before .program-page .result .outcome) (c .before .before .before .before .before .before .before .before .program-page .ensures .0) (c .before .before .before .before .before .before .before .before .program-page .ensures .1) in
-    (step-fills set (s .args .block) k source (s .args .place) l _ (c .before .before .before .before .before .before .before .before .before .before .before .before .before .before .before .before .before .before .before .before .before .before .before .before .before .before .before .before .before .before .before .before .before .before .before .before .erase-for .result .outcome) (c .before .before .before .before .before .before .before .before .before .before .before .before .before .before .before .before .before .before .before .before .before .before .before .before .before .before .before .before .before .before .before .before .before .before .before .before .erase-for .ensures .0) p₀ _ (c .before .before .before .before .before .before .before .before .program-page .result .outcome) page, page-order set (s .args .block) k (s .args .place) (source (s .args .place)) _ _ (d .result .outcome) (d .ensures .0) p₁ _ fillable (d .ensures .1 .0 p₁) order _ (c .before .before .before .before .before .before .before .before .program-page .result .outcome) (c .before .before .before .before .before .before .before .before .program-page .ensures .0) (c .before .before .before .before .before .before .before .before .program-page .ensures .1))
+    let fillable : Fillable (s .args .g) (s .args .block) (s .args .place) (s .args .content .kind) (s .args .content .logical) (s .args .content .number) _ = record { is-valid = f .is-valid; block-below = f .block-below; place-below = f .place-below; width-some = f .width-some; logical-fits = f .logical-fits; number-fits = f .number-fits; page-long = at-page .page .given ∙ f .page-long } in
+    let order = subst (λ (x : List ℕ). getD x (s .args .block) 0 ≤ s .args .place) (sym (d .ensures .1 .1)) (at-erase-for .erase-for .ensures .1 p₀) in
+    let page = page-programmed set (s .args .block) k (s .args .place) (source (s .args .place)) _ _ (d .result .outcome) (d .ensures .0) p₁ _ fillable (d .ensures .1 .0 p₁) order _ (at-program-page .program-page .result .outcome) (at-program-page .program-page .ensures .0) (at-program-page .program-page .ensures .1) in
+    (step-fills set (s .args .block) k source (s .args .place) l _ (at-erase-for .erase-for .result .outcome) (at-erase-for .erase-for .ensures .0) p₀ _ (at-program-page .program-page .result .outcome) page, page-order set (s .args .block) k (s .args .place) (source (s .args .place)) _ _ (d .result .outcome) (d .ensures .0) p₁ _ fillable (d .ensures .1 .0 p₁) order _ (at-program-page .program-page .result .outcome) (at-program-page .program-page .ensures .0) (at-program-page .program-page .ensures .1))
 
 pub fill-page-spec : {M : Type 1} → statement M
 fill-page-spec =

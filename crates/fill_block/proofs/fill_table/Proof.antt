@@ -36,16 +36,19 @@ part-fill-copy-start c = search needs
 
 part-fill-copy-end : tie.Need-part-fill-copy-end
 part-fill-copy-end c =
-    let g = c .before .before .before .before .before .before .before .before .before .before .before .before .before .before .args .g in
-    put-fits (g .main) (replicate 4096 0) (first-room g (c .before .before .before .before .before .before .before .before .before .before .before .before .before .before .pre .0 .is-valid)) (c .before .before .before .before .before .build-first .last .0) (drop (g .main - 0) (replicate 4096 0)) (c .before .before .before .before .before .build-first .kept .0)
+    let at-build-first = c .before .before .before .before .before in
+    let entry = at-build-first .before .before .before .before .before .before .before .before .before in
+    let g = entry .args .g in
+    put-fits (g .main) (replicate 4096 0) (first-room g (entry .pre .0 .is-valid)) (at-build-first .build-first .last .0) (drop (g .main - 0) (replicate 4096 0)) (at-build-first .build-first .kept .0)
 
 fill-copy-requires : tie.Need-fill-copy-requires
 unfolding numberWidth isDataKind isTableKind
 fill-copy-requires c κs =
-    let s = c .before .before .before .before .before .before .before .before .before .before .before .before .before .before .before .before in
+    let at-build-first = c .before .before .before .before .before .before .before in
+    let s = at-build-first .before .before .before .before .before .before .before .before .before in
     let g = s .args .g in
     let v = s .pre .0 .is-valid in
-    (s .pre .0, (record { is-valid = v; block-below = s .pre .1 .0; place-below = omega (arith, v .pages-least); width-some = omega arith; logical-fits = omega arith; number-fits = s .pre .1 .1 .0; page-long = s .pre .1 .1 .1 }, (lent-long (g .main) _ (put-fits (g .main) (replicate 4096 0) (first-room g v) (c .before .before .before .before .before .before .before .build-first .last .0) (drop (g .main - 0) (replicate 4096 0)) (c .before .before .before .before .before .before .before .build-first .kept .0)) ∙ sym (one-mul (g .main)))))
+    (s .pre .0, (record { is-valid = v; block-below = s .pre .1 .0; place-below = omega (arith, v .pages-least); width-some = omega arith; logical-fits = omega arith; number-fits = s .pre .1 .1 .0; page-long = s .pre .1 .1 .1 }, (lent-long (g .main) _ (put-fits (g .main) (replicate 4096 0) (first-room g v) (at-build-first .build-first .last .0) (drop (g .main - 0) (replicate 4096 0)) (at-build-first .build-first .kept .0)) ∙ sym (one-mul (g .main)))))
 
 same-length : tie.Need-same-length
 same-length c = search needs
@@ -61,13 +64,15 @@ same-length-4 c = search needs
 
 returns : tie.Need-returns
 returns c =
-    let s = c .before .before .before .before .before .before .before .before .before .before .before .before .before .before .before .before .before .before .before .before .before .before .before .before .before in
+    let at-fill-copy = c .before .before .before .before .before .before .before .before in
+    let at-build-first = at-fill-copy .before .before .before .before .before .before .before .before in
+    let s = at-build-first .before .before .before .before .before .before .before .before .before in
     let g = s .args .g in
     let set = setting g (now (s .args .mask)) (now (s .args .fates)) in
     let room = first-room g (s .pre .0 .is-valid) in
-    let bytes = put-lent (g .main) (replicate 4096 0) room _ _ (c .before .before .before .before .before .before .before .before .before .before .before .before .before .before .before .before .build-first .kept .0) ∙ c .before .before .before .before .before .before .before .before .before .before .before .before .before .before .before .before .build-first .ensures ∙ ap (λ (k : ℕ). tablePage k (g .blocks) (g .logical) (now (s .args .invalid))) (lent-long (g .main) (replicate 4096 0) room) in
-    let source = table-source g 65535 (omega (arith, s .pre .0 .is-valid .blocks-most)) (now (s .args .invalid)) _ (lent-long (g .main) _ (put-fits (g .main) (replicate 4096 0) room (c .before .before .before .before .before .before .before .before .before .before .before .before .before .before .before .before .build-first .last .0) (drop (g .main - 0) (replicate 4096 0)) (c .before .before .before .before .before .before .before .before .before .before .before .before .before .before .before .before .build-first .kept .0))) bytes in
-    comes-as (λ p. ap (λ (x : ℕ → Source). filled set (s .args .block) (tableCopy (s .args .number)) x p) source) (c .before .before .before .before .before .before .before .before .fill-copy .ensures)
+    let bytes = put-lent (g .main) (replicate 4096 0) room _ _ (at-build-first .build-first .kept .0) ∙ at-build-first .build-first .ensures ∙ ap (λ (k : ℕ). tablePage k (g .blocks) (g .logical) (now (s .args .invalid))) (lent-long (g .main) (replicate 4096 0) room) in
+    let source = table-source g 65535 (omega (arith, s .pre .0 .is-valid .blocks-most)) (now (s .args .invalid)) _ (lent-long (g .main) _ (put-fits (g .main) (replicate 4096 0) room (at-build-first .build-first .last .0) (drop (g .main - 0) (replicate 4096 0)) (at-build-first .build-first .kept .0))) bytes in
+    comes-as (λ p. ap (λ (x : ℕ → Source). filled set (s .args .block) (tableCopy (s .args .number)) x p) source) (at-fill-copy .fill-copy .ensures)
 
 pub fill-table-spec : {M : Type 1} → statement M
 fill-table-spec =

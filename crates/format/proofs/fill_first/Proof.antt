@@ -26,24 +26,35 @@ end-requires c κs = search needs
 
 returns : tie.Need-returns
 returns c =
-    let s = c .before .before .before .before .before .before .before .before .before .before .before .before .before .before in
-    λ cs os. c .end .ensures _ _ _ ∙ few-end (setting (s .args .g) (now (s .args .mask)) (now (s .args .fates))) (s .args .allowed) (s .args .t8) (s .args .t9) (s .args .above) (c .before .before .before .before .count-permitted .result) (c .before .before .before .before .count-permitted .ensures) (c .before .before .if1 .taken) (line (s .args .from) (now (s .args .array)) (now (s .args .register)) (now (s .args .history))) _ (c .before .blank .ensures) cs os
+    let at-count-permitted = c .before .before .before .before in
+    let way = at-count-permitted .before .before .before .before .before .before .before .before .before in
+    let s = way .before in
+    λ cs os. c .end .ensures _ _ _ ∙ few-end (setting (s .args .g) (now (s .args .mask)) (now (s .args .fates))) (s .args .allowed) (s .args .t8) (s .args .t9) (s .args .greatest) (at-count-permitted .count-permitted .result) (at-count-permitted .count-permitted .ensures) (c .before .before .if1 .taken) (line (s .args .from) (now (s .args .array)) (now (s .args .register)) (now (s .args .history))) _ (c .before .blank .ensures) cs os
 
 first-state-requires : tie.Need-first-state-requires
 first-state-requires c κs = search needs
 
 fill-tables-requires : tie.Need-fill-tables-requires
 fill-tables-requires c κs =
-    let s = c .before .before .before .before .before .before .before .before .before .before .before .before .before .before .before .before .before .before in
-    (s .pre .0, (s .pre .1 .0, subst (λ (x : State). x .last < s .args .g .blocks) (sym (c .before .before .before .before .before .first-state .ensures)) (last-small (s .args .g) (s .args .t8) (s .args .t9) (s .args .above) (s .pre .0 .is-valid))))
+    let at-first-state = c .before .before .before .before .before in
+    let way = at-first-state .before .before .before .before .before .before .before .before .before in
+    let s = way .before .before .before .before in
+    (s .pre .0, (s .pre .1 .0, subst (λ (x : State). x .last < s .args .g .blocks) (sym (at-first-state .first-state .ensures)) (last-small (s .args .g) (s .args .t8) (s .args .t9) (s .args .greatest) (s .pre .0 .is-valid))))
 
 end-requires-2 : tie.Need-end-requires-2
 end-requires-2 c κs =
-    let s = c .before .before .before .before .before .before .before .before .before .before .before .before .before .before .before .before .before .before .before .before .before .before .before .before .before .before .before .before .before in
-    omega (arith, s .pre .1 .1, tables-left (setting (s .args .g) (now (s .args .mask)) (now (s .args .fates))) _ _ (line (s .args .from) (now (s .args .array)) (now (s .args .register)) (now (s .args .history))) _ _ _ (c .before .before .before .before .before .before .before .before .before .before .fill-tables .ensures))
+    let way = c .before .before .before .before .before .before .before .before .before in
+    let at-fill-tables = way .before in
+    let way-2 = at-fill-tables .before .before .before .before .before .before .before .before .before in
+    let way-3 = way-2 .before .before .before .before .before .before .before .before .before in
+    let s = way-3 .before in
+    omega (arith, s .pre .1 .1 .0, tables-left (setting (s .args .g) (now (s .args .mask)) (now (s .args .fates))) _ _ (line (s .args .from) (now (s .args .array)) (now (s .args .register)) (now (s .args .history))) _ _ _ (at-fill-tables .fill-tables .ensures))
 
 same-length : tie.Need-same-length
-same-length c = c .before .before .before .before .before .before .before .before .before .before .array .given
+same-length c =
+    let way = c .before .before .before .before .before .before .before .before .before in
+    let at-array = way .before in
+    at-array .array .given
 
 same-length-2 : tie.Need-same-length-2
 same-length-2 c = c .before .before .before .before .before .before .before .before .register .given
@@ -56,9 +67,15 @@ same-length-4 c = c .before .before .before .before .page .given
 
 returns-2 : tie.Need-returns-2
 returns-2 c =
-    let s = c .before .before .before .before .before .before .before .before .before .before .before .before .before .before .before .before .before .before .before .before .before .before .before .before .before .before .before .before .before .before in
-    let d = tabled-from (firstState (s .args .g) (s .args .t8) (s .args .t9) (s .args .above)) (c .before .before .before .before .before .before .before .before .before .before .before .before .before .before .before .before .before .first-state .ensures) (c .before .before .before .before .before .before .before .before .before .before .before .fill-tables .ensures) in
-    λ cs os. c .end2 .ensures _ _ _ ∙ tables-end (setting (s .args .g) (now (s .args .mask)) (now (s .args .fates))) (s .args .allowed) (s .args .t8) (s .args .t9) (s .args .above) (c .before .before .before .before .before .before .before .before .before .before .before .before .before .before .before .before .before .before .before .before .count-permitted .result) (c .before .before .before .before .before .before .before .before .before .before .before .before .before .before .before .before .before .before .before .before .count-permitted .ensures) (c .before .before .before .before .before .before .before .before .before .before .before .before .before .before .before .before .before .before .if1 .left) (line (s .args .from) (now (s .args .array)) (now (s .args .register)) (now (s .args .history))) _ _ _ d cs os
+    let way = c .before .before .before .before .before .before .before .before .before in
+    let at-fill-tables = way .before .before in
+    let at-first-state = at-fill-tables .before .before .before .before .before .before in
+    let at-if1 = at-first-state .before in
+    let at-count-permitted = at-if1 .before .before in
+    let way-2 = at-count-permitted .before .before .before .before .before .before .before .before .before in
+    let s = way-2 .before in
+    let d = tabled-from (firstState (s .args .g) (s .args .t8) (s .args .t9) (s .args .greatest)) (at-first-state .first-state .ensures) (at-fill-tables .fill-tables .ensures) in
+    λ cs os. c .end2 .ensures _ _ _ ∙ tables-end (setting (s .args .g) (now (s .args .mask)) (now (s .args .fates))) (s .args .allowed) (s .args .t8) (s .args .t9) (s .args .greatest) (at-count-permitted .count-permitted .result) (at-count-permitted .count-permitted .ensures) (at-if1 .if1 .left) (line (s .args .from) (now (s .args .array)) (now (s .args .register)) (now (s .args .history))) _ _ _ d cs os
 
 pub fill-first-spec : {M : Type 1} → statement M
 fill-first-spec =

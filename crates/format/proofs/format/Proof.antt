@@ -35,7 +35,8 @@ blank-requires c κs = search needs
 
 end-requires : tie.Need-end-requires
 end-requires c κs =
-    let begun = c .before .before .before .before .before .before .before .before .before .before in
+    let way = c .before .before .before .before .before .before .before .before .before in
+    let begun = way .before in
     let entry = begun .before .before .before .before .before .before .before .before .before in
     let set = setting (entry .args .g) (now (entry .args .mask)) (now (entry .args .fates)) in
     let d = device (entry .args .interface) (now (entry .args .array)) (now (entry .args .register)) (now (entry .args .history)) in
@@ -53,7 +54,8 @@ same-length-6 c = search needs
 returns-2 : tie.Need-returns-2
 unfolding formatting
 returns-2 c =
-    let begun = c .before .before .before .before .before .before .before .before .before .before .before in
+    let way = c .before .before .before .before .before .before .before .before .before in
+    let begun = way .before .before in
     let entry = begun .before .before .before .before .before .before .before .before .before in
     let set = setting (entry .args .g) (now (entry .args .mask)) (now (entry .args .fates)) in
     let d = device (entry .args .interface) (now (entry .args .array)) (now (entry .args .register)) (now (entry .args .history)) in
@@ -62,11 +64,12 @@ returns-2 c =
 
 mark-and-erase-requires : tie.Need-mark-and-erase-requires
 mark-and-erase-requires c κs =
-    let begun = c .before .before .before .before .before .before .before .before .before .before .before .before in
+    let at-if1 = c .before .before .before .before in
+    let begun = at-if1 .before .before .before .before .before .before .before .before in
     let entry = begun .before .before .before .before .before .before .before .before .before in
     let set = setting (entry .args .g) (now (entry .args .mask)) (now (entry .args .fates)) in
     let d = device (entry .args .interface) (now (entry .args .array)) (now (entry .args .register)) (now (entry .args .history)) in
-    (start-called set d (entry .args .allowed) _ _ (begun .start .ensures) (c .before .before .before .if2 .left), start-left set d (entry .args .allowed) _ _ (begun .start .ensures) (c .before .before .before .before .if1 .left))
+    (start-called set d (entry .args .allowed) _ _ (begun .start .ensures) (c .before .before .before .if2 .left), start-left set d (entry .args .allowed) _ _ (begun .start .ensures) (at-if1 .if1 .left))
 
 same-length-7 : tie.Need-same-length-7
 same-length-7 c = search needs
@@ -80,12 +83,13 @@ same-length-9 c = search needs
 returns-3 : tie.Need-returns-3
 unfolding formatting
 returns-3 c =
-    let tested = c .before .before .before .before .before .before .before .before .before .before in
+    let at-mark-and-erase = c .before .before .before .before .before .before in
+    let tested = at-mark-and-erase .before .before .before .before in
     let begun = tested .before .before .before .before .before .before .before .before .before in
     let entry = begun .before .before .before .before .before .before .before .before .before in
     let set = setting (entry .args .g) (now (entry .args .mask)) (now (entry .args .fates)) in
     let d = device (entry .args .interface) (now (entry .args .array)) (now (entry .args .register)) (now (entry .args .history)) in
-    goes-on set d (entry .args .allowed) _ _ (begun .start .ensures) (entry .args .state) (λ p. endOfRun (entry .args .allowed) (marksRun set p)) (tested .if2 .left) _ (c .before .before .before .before .before .before .mark-and-erase .ensures)
+    goes-on set d (entry .args .allowed) _ _ (begun .start .ensures) (entry .args .state) (λ p. endOfRun (entry .args .allowed) (marksRun set p)) (tested .if2 .left) _ (at-mark-and-erase .mark-and-erase .ensures)
 
 pub format-spec : {M : Type 1} → statement M
 format-spec =

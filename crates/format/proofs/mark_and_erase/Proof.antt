@@ -24,11 +24,16 @@ blank-requires c κs = search needs
 
 end-requires : tie.Need-end-requires
 end-requires c κs =
-    let s = c .before .before .before .before .before .before .before .before .before .before .before .before .before .before .before .before .before .before .before in
-    omega (arith, s .pre .1, marks-left (setting (s .args .g) (now (s .args .mask)) (now (s .args .fates))) (line (s .args .from) (now (s .args .array)) (now (s .args .register)) (now (s .args .history))) _ _ _ (c .before .before .before .before .before .before .before .before .before .before .read-marks .ensures))
+    let way = c .before .before .before .before .before .before .before .before .before in
+    let at-read-marks = way .before in
+    let s = at-read-marks .before .before .before .before .before .before .before .before .before in
+    omega (arith, s .pre .1, marks-left (setting (s .args .g) (now (s .args .mask)) (now (s .args .fates))) (line (s .args .from) (now (s .args .array)) (now (s .args .register)) (now (s .args .history))) _ _ _ (at-read-marks .read-marks .ensures))
 
 same-length : tie.Need-same-length
-same-length c = c .before .before .before .before .before .before .before .before .before .before .array .given
+same-length c =
+    let way = c .before .before .before .before .before .before .before .before .before in
+    let at-array = way .before in
+    at-array .array .given
 
 same-length-2 : tie.Need-same-length-2
 same-length-2 c = c .before .before .before .before .before .before .before .before .register .given
@@ -38,27 +43,44 @@ same-length-3 c = c .before .before .before .before .before .before .history .gi
 
 returns : tie.Need-returns
 returns c =
-    let s = c .before .before .before .before .before .before .before .before .before .before .before .before .before .before .before .before .before .before .before .before in
-    λ cs os. c .end .ensures _ _ _ ∙ marks-stop (setting (s .args .g) (now (s .args .mask)) (now (s .args .fates))) (s .args .allowed) (line (s .args .from) (now (s .args .array)) (now (s .args .register)) (now (s .args .history))) _ (c .before .before .before .before .before .before .before .before .before .before .before .read-marks .result .outcome) _ (c .before .before .before .before .before .before .before .before .before .before .before .read-marks .ensures) (other-by-tag _ (c .before .before .before .match .keys2)) _ _ (c .before .before .stop-answer .ensures) (c .before .blank .ensures) cs os
+    let way = c .before .before .before .before .before .before .before .before .before in
+    let at-read-marks = way .before .before in
+    let s = at-read-marks .before .before .before .before .before .before .before .before .before in
+    λ cs os. c .end .ensures _ _ _ ∙ marks-stop (setting (s .args .g) (now (s .args .mask)) (now (s .args .fates))) (s .args .allowed) (line (s .args .from) (now (s .args .array)) (now (s .args .register)) (now (s .args .history))) _ (at-read-marks .read-marks .result .outcome) _ (at-read-marks .read-marks .ensures) (other-by-tag _ (c .before .before .before .match .keys2)) _ _ (c .before .before .stop-answer .ensures) (c .before .blank .ensures) cs os
 
 erase-and-fill-requires : tie.Need-erase-and-fill-requires
 erase-and-fill-requires c κs =
-    let s = c .before .before .before .before .before .before .before .before .before .before .before .before .before .before .before .before .before .before .before .before .before .before in
-    (c .before .before .before .before .before .before .before .before .before .before .before .before .before .read-marks .ensures .next (passed-by-tag _ (c .before .before .before .before .before .match .keys1)), omega (arith, s .pre .1, marks-left (setting (s .args .g) (now (s .args .mask)) (now (s .args .fates))) (line (s .args .from) (now (s .args .array)) (now (s .args .register)) (now (s .args .history))) _ _ _ (c .before .before .before .before .before .before .before .before .before .before .before .before .before .read-marks .ensures)))
+    let at-match = c .before .before .before .before .before in
+    let at-read-marks = at-match .before .before .before .before .before .before .before .before in
+    let s = at-read-marks .before .before .before .before .before .before .before .before .before in
+    (at-read-marks .read-marks .ensures .next (passed-by-tag _ (at-match .match .keys1)), omega (arith, s .pre .1, marks-left (setting (s .args .g) (now (s .args .mask)) (now (s .args .fates))) (line (s .args .from) (now (s .args .array)) (now (s .args .register)) (now (s .args .history))) _ _ _ (at-read-marks .read-marks .ensures)))
 
 same-length-4 : tie.Need-same-length-4
-same-length-4 c = c .before .before .before .before .before .array2 .given ∙ c .before .before .before .before .before .before .before .before .before .before .before .before .before .before .before .before .before .before .before .array .given
+same-length-4 c =
+    let at-array2 = c .before .before .before .before .before in
+    let way = at-array2 .before .before .before .before .before .before .before .before .before in
+    let at-array = way .before .before .before .before .before in
+    at-array2 .array2 .given ∙ at-array .array .given
 
 same-length-5 : tie.Need-same-length-5
-same-length-5 c = c .before .before .before .register2 .given ∙ c .before .before .before .before .before .before .before .before .before .before .before .before .before .before .before .before .before .register .given
+same-length-5 c =
+    let way = c .before .before .before .before .before .before .before .before .before in
+    let at-register = way .before .before .before .before .before .before .before .before in
+    c .before .before .before .register2 .given ∙ at-register .register .given
 
 same-length-6 : tie.Need-same-length-6
-same-length-6 c = c .before .history2 .given ∙ c .before .before .before .before .before .before .before .before .before .before .before .before .before .before .before .history .given
+same-length-6 c =
+    let way = c .before .before .before .before .before .before .before .before .before in
+    let at-history = way .before .before .before .before .before .before in
+    c .before .history2 .given ∙ at-history .history .given
 
 returns-2 : tie.Need-returns-2
 returns-2 c =
-    let s = c .before .before .before .before .before .before .before .before .before .before .before .before .before .before .before .before .before .before .before .before .before .before .before .before .before .before .before .before .before in
-    λ cs os. marks-goes (setting (s .args .g) (now (s .args .mask)) (now (s .args .fates))) (s .args .allowed) (line (s .args .from) (now (s .args .array)) (now (s .args .register)) (now (s .args .history))) _ (c .before .before .before .before .before .before .before .before .before .before .before .before .before .before .before .before .before .before .before .before .read-marks .result .outcome) _ (c .before .before .before .before .before .before .before .before .before .before .before .before .before .before .before .before .before .before .before .before .read-marks .ensures) (passed-by-tag _ (c .before .before .before .before .before .before .before .before .before .before .before .before .match .keys1)) _ (c .before .before .before .before .before .before .erase-and-fill .ensures) cs os
+    let at-erase-and-fill = c .before .before .before .before .before .before in
+    let at-match = at-erase-and-fill .before .before .before .before .before .before in
+    let at-read-marks = at-match .before .before .before .before .before .before .before .before in
+    let s = at-read-marks .before .before .before .before .before .before .before .before .before in
+    λ cs os. marks-goes (setting (s .args .g) (now (s .args .mask)) (now (s .args .fates))) (s .args .allowed) (line (s .args .from) (now (s .args .array)) (now (s .args .register)) (now (s .args .history))) _ (at-read-marks .read-marks .result .outcome) _ (at-read-marks .read-marks .ensures) (passed-by-tag _ (at-match .match .keys1)) _ (at-erase-and-fill .erase-and-fill .ensures) cs os
 
 pub mark-and-erase-spec : {M : Type 1} → statement M
 mark-and-erase-spec =

@@ -47,21 +47,37 @@ is-set-requires c κs =
 
 returns-4 : tie.Need-returns-4
 returns-4 c =
-    let a = c .before .before .before .before .before .before .before .before .before .before .before .args in
-    own-listed (a .g) (a .found) (contents (now (a .kinds)) (now (a .logicals)) (now (a .numbers))) (c .before .before .before .before .before .before .before .before .before .before .if1 .left) (c .before .before .before .before .before .before .before .before .before .if2 .left) (sym (c .before .before .before .before .is-never-both .ensures) ∙ not-false _ (c .before .before .before .if3 .left)) (sym (c .before .is-set .ensures) ∙ c .if4 .taken)
+    let at-is-never-both = c .before .before .before .before in
+    let at-if2 = at-is-never-both .before .before .before .before .before in
+    let at-if1 = at-if2 .before in
+    let entry = at-if1 .before in
+    let a = entry .args in
+    own-listed (a .g) (a .found) (contents (now (a .kinds)) (now (a .logicals)) (now (a .numbers))) (at-if1 .if1 .left) (at-if2 .if2 .left) (sym (at-is-never-both .is-never-both .ensures) ∙ not-false _ (c .before .before .before .if3 .left)) (sym (c .before .is-set .ensures) ∙ c .if4 .taken)
 
 is-clash-requires : tie.Need-is-clash-requires
 is-clash-requires c κs = search needs
 
 returns-5 : tie.Need-returns-5
 returns-5 c =
-    let a = c .before .before .before .before .before .before .before .before .before .before .before .before .before .before .args in
-    clash-found (a .g) (a .found) (contents (now (a .kinds)) (now (a .logicals)) (now (a .numbers))) (c .before .before .before .before .before .before .before .before .before .before .before .before .before .if1 .left) (c .before .before .before .before .before .before .before .before .before .before .before .before .if2 .left) (sym (c .before .before .before .before .before .before .before .is-never-both .ensures) ∙ not-false _ (c .before .before .before .before .before .before .if3 .left)) (sym (c .before .before .before .before .is-set .ensures) ∙ c .before .before .before .if4 .left) (sym (c .before .is-clash .ensures) ∙ c .if5 .taken)
+    let at-is-set = c .before .before .before .before in
+    let at-if3 = at-is-set .before .before in
+    let at-is-never-both = at-if3 .before in
+    let at-if2 = at-is-never-both .before .before .before .before .before in
+    let at-if1 = at-if2 .before in
+    let entry = at-if1 .before in
+    let a = entry .args in
+    clash-found (a .g) (a .found) (contents (now (a .kinds)) (now (a .logicals)) (now (a .numbers))) (at-if1 .if1 .left) (at-if2 .if2 .left) (sym (at-is-never-both .is-never-both .ensures) ∙ not-false _ (at-if3 .if3 .left)) (sym (at-is-set .is-set .ensures) ∙ c .before .before .before .if4 .left) (sym (c .before .is-clash .ensures) ∙ c .if5 .taken)
 
 returns-6 : tie.Need-returns-6
 returns-6 c =
-    let a = c .before .before .before .before .before .before .before .before .before .before .before .before .before .before .args in
-    all-right (a .g) (a .found) (contents (now (a .kinds)) (now (a .logicals)) (now (a .numbers))) (c .before .before .before .before .before .before .before .before .before .before .before .before .before .if1 .left) (c .before .before .before .before .before .before .before .before .before .before .before .before .if2 .left) (sym (c .before .before .before .before .before .before .before .is-never-both .ensures) ∙ not-false _ (c .before .before .before .before .before .before .if3 .left)) (sym (c .before .before .before .before .is-set .ensures) ∙ c .before .before .before .if4 .left) (sym (c .before .is-clash .ensures) ∙ c .if5 .left)
+    let at-is-set = c .before .before .before .before in
+    let at-if3 = at-is-set .before .before in
+    let at-is-never-both = at-if3 .before in
+    let at-if2 = at-is-never-both .before .before .before .before .before in
+    let at-if1 = at-if2 .before in
+    let entry = at-if1 .before in
+    let a = entry .args in
+    all-right (a .g) (a .found) (contents (now (a .kinds)) (now (a .logicals)) (now (a .numbers))) (at-if1 .if1 .left) (at-if2 .if2 .left) (sym (at-is-never-both .is-never-both .ensures) ∙ not-false _ (at-if3 .if3 .left)) (sym (at-is-set .is-set .ensures) ∙ c .before .before .before .if4 .left) (sym (c .before .is-clash .ensures) ∙ c .if5 .left)
 
 pub judge-spec : {M : Type 1} → statement M
 judge-spec =

@@ -1,4 +1,5 @@
 -- `judging::mounted_state` meets its contract. Assumes nothing.
+use mathlib.Core.Path.{_∙_}
 use borrow.Author.Needs.{needs}
 use Rattle.judging.proofs.mounted_state.Statement.{statement}
 use Rattle.judging.proofs.mounted_state.Tie as tie
@@ -6,11 +7,11 @@ use Rattle.judging.proofs.mounted_state.Tie as tie
 map-copies-requires : tie.Need-map-copies-requires
 map-copies-requires c κs = search needs
 
-next-number-requires : tie.Need-next-number-requires
-next-number-requires c κs = search needs
+mounted-above-requires : tie.Need-mounted-above-requires
+mounted-above-requires c κs = search needs
 
 returns : tie.Need-returns
-returns c = rw (c .next-number .ensures, c .before .map-copies .ensures)
+returns c = c .mounted-above .ensures ∙ rw (c .before .map-copies .ensures)
 
 pub mounted-state-spec : {M : Type 1} → statement M
-mounted-state-spec = tie.close (tie.spec map-copies-requires next-number-requires returns)
+mounted-state-spec = tie.close (tie.spec map-copies-requires mounted-above-requires returns)

@@ -78,8 +78,9 @@ same-length-3 c = search needs
 
 returns : tie.Need-returns
 returns c =
-    let s = c .before .before .before .before .before .before .before .before .before .before .before .before .before in
-    (put-back (s .args .returned .answer) (s .args .returned .sent) (s .args .returned .state) (s .args .returned .interface) _ _ (now (s .args .sent)) (c .before .before .before .before .before .before .store .ensures) (c .before .before .write-words .ensures) (s .pre .1 .1), ap bytesState (c .before .before .before .before .before .before .store .ensures) ∙ load-stored (s .args .returned .state) (ranged s))
+    let at-store = c .before .before .before .before .before .before in
+    let s = at-store .before .before .before .before .before .before .before in
+    (put-back (s .args .returned .answer) (s .args .returned .sent) (s .args .returned .state) (s .args .returned .interface) _ _ (now (s .args .sent)) (at-store .store .ensures) (c .before .before .write-words .ensures) (s .pre .1 .1), ap bytesState (at-store .store .ensures) ∙ load-stored (s .args .returned .state) (ranged s))
 
 pub hand-back-spec : {M : Type 1} → statement M
 hand-back-spec =

@@ -19,7 +19,8 @@ is-lent-rightly-requires c κs = search needs
 returns : tie.Need-returns
 unfolding formattingLent
 returns c =
-    let s = c .before .before .before .before .before .before .before .before .before .before in
+    let way = c .before .before .before .before .before .before .before .before .before in
+    let s = way .before in
     lent-wrongly (lent (now (s .args .state)) (now (s .args .words)) (now (s .args .array)) (now (s .args .register)) (now (s .args .history)) (now (s .args .sent))) _ (sym (c .before .is-lent-rightly .ensures) ∙ not-true _ (c .if1 .taken))
 
 load-requires : tie.Need-load-requires
@@ -33,7 +34,10 @@ format-requires c κs = search needs
 
 hand-back-requires : tie.Need-hand-back-requires
 hand-back-requires c κs =
-    let long = right-long _ _ _ (sym (c .before .before .before .before .before .before .before .before .before .before .before .before .before .before .before .before .before .before .is-lent-rightly .ensures) ∙ not-false _ (c .before .before .before .before .before .before .before .before .before .before .before .before .before .before .before .before .before .if1 .left)) in
+    let way = c .before .before .before .before .before .before .before .before .before in
+    let at-if1 = way .before .before .before .before .before .before .before .before in
+    let at-is-lent-rightly = at-if1 .before in
+    let long = right-long _ _ _ (sym (at-is-lent-rightly .is-lent-rightly .ensures) ∙ not-false _ (at-if1 .if1 .left)) in
     (long .state-long, (long .words-long, long .sent-long))
 
 same-length : tie.Need-same-length
@@ -43,13 +47,22 @@ same-length-2 : tie.Need-same-length-2
 same-length-2 c = c .before .before .before .words .given
 
 same-length-3 : tie.Need-same-length-3
-same-length-3 c = c .before .before .before .before .before .before .before .before .before .before .before .before .before .before .before .array .given
+same-length-3 c =
+    let way = c .before .before .before .before .before .before .before .before .before in
+    let at-array = way .before .before .before .before .before .before in
+    at-array .array .given
 
 same-length-4 : tie.Need-same-length-4
-same-length-4 c = c .before .before .before .before .before .before .before .before .before .before .before .before .before .register .given
+same-length-4 c =
+    let way = c .before .before .before .before .before .before .before .before .before in
+    let at-register = way .before .before .before .before in
+    at-register .register .given
 
 same-length-5 : tie.Need-same-length-5
-same-length-5 c = c .before .before .before .before .before .before .before .before .before .before .before .history .given
+same-length-5 c =
+    let way = c .before .before .before .before .before .before .before .before .before in
+    let at-history = way .before .before in
+    at-history .history .given
 
 same-length-6 : tie.Need-same-length-6
 same-length-6 c = c .before .sent .given
@@ -57,8 +70,15 @@ same-length-6 c = c .before .sent .given
 returns-2 : tie.Need-returns-2
 unfolding formattingLent
 returns-2 c =
-    let s = c .before .before .before .before .before .before .before .before .before .before .before .before .before .before .before .before .before .before .before .before .before .before .before .before .before .before .before .before .before .before .before .before .before .before in
-    request-handed (λ (d : Device) (state : State). formatting (setting (geometryOf (s .args .main) (s .args .spare) (s .args .pages) (s .args .blocks) (s .args .logical)) (now (s .args .mask)) (now (s .args .fates))) d (s .args .allowed) state) (lent (now (s .args .state)) (now (s .args .words)) (now (s .args .array)) (now (s .args .register)) (now (s .args .history)) (now (s .args .sent))) _ _ _ (c .before .before .before .before .before .before .before .before .before .before .before .before .before .before .before .before .before .before .before .before .before .before .load .result) (c .before .before .before .before .before .before .before .before .before .before .before .before .before .before .before .before .before .before .before .before .interface-of .result) (sym (c .before .before .before .before .before .before .before .before .before .before .before .before .before .before .before .before .before .before .before .before .before .before .before .before .before .is-lent-rightly .ensures) ∙ not-false _ (c .before .before .before .before .before .before .before .before .before .before .before .before .before .before .before .before .before .before .before .before .before .before .before .before .if1 .left)) (c .before .before .before .before .before .before .before .before .before .before .before .before .before .before .before .before .before .before .before .before .before .before .load .ensures) (c .before .before .before .before .before .before .before .before .before .before .before .before .before .before .before .before .before .before .before .before .interface-of .ensures) (c .before .before .before .before .before .before .before .before .before .before .before .before .before .before .before .before .format .ensures) (c .before .before .before .before .before .before .hand-back .ensures .0 _ _ _) (c .before .before .before .before .before .before .hand-back .ensures .1)
+    let at-hand-back = c .before .before .before .before .before .before in
+    let way = at-hand-back .before .before .before .before .before .before .before .before .before in
+    let at-format = way .before in
+    let at-interface-of = at-format .before .before .before .before in
+    let at-load = at-interface-of .before .before in
+    let at-if1 = at-load .before .before in
+    let at-is-lent-rightly = at-if1 .before in
+    let s = at-is-lent-rightly .before .before .before .before .before .before .before .before .before in
+    request-handed (λ (d : Device) (state : State). formatting (setting (geometryOf (s .args .main) (s .args .spare) (s .args .pages) (s .args .blocks) (s .args .logical)) (now (s .args .mask)) (now (s .args .fates))) d (s .args .allowed) state) (lent (now (s .args .state)) (now (s .args .words)) (now (s .args .array)) (now (s .args .register)) (now (s .args .history)) (now (s .args .sent))) _ _ _ (at-load .load .result) (at-interface-of .interface-of .result) (sym (at-is-lent-rightly .is-lent-rightly .ensures) ∙ not-false _ (at-if1 .if1 .left)) (at-load .load .ensures) (at-interface-of .interface-of .ensures) (at-format .format .ensures) (at-hand-back .hand-back .ensures .0 _ _ _) (at-hand-back .hand-back .ensures .1)
 
 pub flash-store-format-spec : {M : Type 1} → statement M
 flash-store-format-spec =

@@ -32,8 +32,10 @@ same-length-3 c = search needs
 
 returns : tie.Need-returns
 returns c =
-    let s = c .before .before .before .before .before .before .before .before .before .before .before .before .before .before .before .before .before .before .before in
-    mark-read (setting (s .args .g) (now (s .args .mask)) (now (s .args .fates))) (line (s .args .from) (now (s .args .array)) (now (s .args .register)) (now (s .args .history))) (s .args .block) (s .args .place) (s .pre .0) (s .pre .1 .0) (s .pre .1 .1) (c .before .before .before .before .before .before .before .before .before .before .before .before .before .row-of .result) (c .before .before .before .before .before .before .before .before .before .before .before .before .before .row-of .ensures) _ (c .before .before .before .before .before .before .before .before .read .result .outcome) (replicate 1 0) _ refl (c .before .before .before .before .before .before .before .before .read .ensures .0) (c .before .before .before .before .before .before .before .before .read .ensures .1 .0) (c .before .before .before .before .before .before .before .before .read .ensures .1 .1) refl
+    let at-read = c .before .before .before .before .before .before .before .before in
+    let at-row-of = at-read .before .before .before .before .before in
+    let s = at-row-of .before .before .before .before .before .before in
+    mark-read (setting (s .args .g) (now (s .args .mask)) (now (s .args .fates))) (line (s .args .from) (now (s .args .array)) (now (s .args .register)) (now (s .args .history))) (s .args .block) (s .args .place) (s .pre .0) (s .pre .1 .0) (s .pre .1 .1) (at-row-of .row-of .result) (at-row-of .row-of .ensures) _ (at-read .read .result .outcome) (replicate 1 0) _ refl (at-read .read .ensures .0) (at-read .read .ensures .1 .0) (at-read .read .ensures .1 .1) refl
 
 pub read-mark-spec : {M : Type 1} → statement M
 read-mark-spec =

@@ -36,7 +36,8 @@ blank-requires c κs = search needs
 
 end-requires : tie.Need-end-requires
 end-requires c κs =
-    let begun = c .before .before .before .before .before .before .before .before .before .before in
+    let way = c .before .before .before .before .before .before .before .before .before in
+    let begun = way .before in
     let entry = begun .before .before .before .before .before .before .before .before .before in
     let set = setting (entry .args .g) (now (entry .args .mask)) (now (entry .args .fates)) in
     let d = device (entry .args .interface) (now (entry .args .array)) (now (entry .args .register)) (now (entry .args .history)) in
@@ -54,7 +55,8 @@ same-length-6 c = search needs
 returns-2 : tie.Need-returns-2
 unfolding mounting
 returns-2 c =
-    let begun = c .before .before .before .before .before .before .before .before .before .before .before in
+    let way = c .before .before .before .before .before .before .before .before .before in
+    let begun = way .before .before in
     let entry = begun .before .before .before .before .before .before .before .before .before in
     let set = setting (entry .args .g) (now (entry .args .mask)) (now (entry .args .fates)) in
     let d = device (entry .args .interface) (now (entry .args .array)) (now (entry .args .register)) (now (entry .args .history)) in
@@ -63,11 +65,12 @@ returns-2 c =
 
 scan-and-judge-requires : tie.Need-scan-and-judge-requires
 scan-and-judge-requires c κs =
-    let begun = c .before .before .before .before .before .before .before .before .before .before .before .before in
+    let at-if1 = c .before .before .before .before in
+    let begun = at-if1 .before .before .before .before .before .before .before .before in
     let entry = begun .before .before .before .before .before .before .before .before .before in
     let set = setting (entry .args .g) (now (entry .args .mask)) (now (entry .args .fates)) in
     let d = device (entry .args .interface) (now (entry .args .array)) (now (entry .args .register)) (now (entry .args .history)) in
-    (start-called set d (entry .args .allowed) _ _ (begun .start .ensures) (c .before .before .before .if2 .left), start-left set d (entry .args .allowed) _ _ (begun .start .ensures) (c .before .before .before .before .if1 .left))
+    (start-called set d (entry .args .allowed) _ _ (begun .start .ensures) (c .before .before .before .if2 .left), start-left set d (entry .args .allowed) _ _ (begun .start .ensures) (at-if1 .if1 .left))
 
 same-length-7 : tie.Need-same-length-7
 same-length-7 c = search needs
@@ -81,12 +84,13 @@ same-length-9 c = search needs
 returns-3 : tie.Need-returns-3
 unfolding mounting
 returns-3 c =
-    let tested = c .before .before .before .before .before .before .before .before .before .before in
+    let at-scan-and-judge = c .before .before .before .before .before .before in
+    let tested = at-scan-and-judge .before .before .before .before in
     let begun = tested .before .before .before .before .before .before .before .before .before in
     let entry = begun .before .before .before .before .before .before .before .before .before in
     let set = setting (entry .args .g) (now (entry .args .mask)) (now (entry .args .fates)) in
     let d = device (entry .args .interface) (now (entry .args .array)) (now (entry .args .register)) (now (entry .args .history)) in
-    goes-on set d (entry .args .allowed) _ _ (begun .start .ensures) (entry .args .state) (λ p. mountEnd set (entry .args .allowed) (blocksRead set (entry .args .g .blocks) p)) (tested .if2 .left) _ (c .before .before .before .before .before .before .scan-and-judge .ensures)
+    goes-on set d (entry .args .allowed) _ _ (begun .start .ensures) (entry .args .state) (λ p. mountEnd set (entry .args .allowed) (blocksRead set (entry .args .g .blocks) p)) (tested .if2 .left) _ (at-scan-and-judge .scan-and-judge .ensures)
 
 pub mount-spec : {M : Type 1} → statement M
 mount-spec =

@@ -19,17 +19,37 @@ poll-requires : tie.Need-poll-requires
 poll-requires c κs = search needs
 
 same-length : tie.Need-same-length
-same-length c = c .before .before .before .array3 .given ∙ c .before .before .before .before .before .before .before .before .before .before .before .before .before .array2 .given ∙ c .before .before .before .before .before .before .before .before .before .before .before .before .before .before .before .before .before .before .before .before .before .before .before .before .array .given
+same-length c =
+    let way = c .before .before .before .before .before .before .before .before .before in
+    let at-array2 = way .before .before .before .before in
+    let way-2 = at-array2 .before .before .before .before .before .before .before .before .before in
+    let at-array = way-2 .before .before in
+    c .before .before .before .array3 .given ∙ at-array2 .array2 .given ∙ at-array .array .given
 
 same-length-2 : tie.Need-same-length-2
-same-length-2 c = c .before .before .before .before .before .before .before .before .before .before .before .register2 .given ∙ c .before .before .before .before .before .before .before .before .before .before .before .before .before .before .before .before .before .before .before .before .before .before .register .given
+same-length-2 c =
+    let way = c .before .before .before .before .before .before .before .before .before in
+    let at-register2 = way .before .before in
+    let way-2 = at-register2 .before .before .before .before .before .before .before .before .before in
+    let at-register = way-2 .before .before in
+    at-register2 .register2 .given ∙ at-register .register .given
 
 same-length-3 : tie.Need-same-length-3
-same-length-3 c = c .before .history3 .given ∙ c .before .before .before .before .before .before .before .before .before .history2 .given ∙ c .before .before .before .before .before .before .before .before .before .before .before .before .before .before .before .before .before .before .before .before .history .given
+same-length-3 c =
+    let at-history2 = c .before .before .before .before .before .before .before .before .before in
+    let way = at-history2 .before .before .before .before .before .before .before .before .before in
+    let at-history = way .before .before in
+    c .before .history3 .given ∙ at-history2 .history2 .given ∙ at-history .history .given
 
 returns : tie.Need-returns
 returns c =
-    (confirmed-all _ _ (eraseAddress (c .before .before .before .before .before .before .before .before .before .before .before .before .before .before .before .before .before .before .before .before .before .before .before .before .before .before .before .before .before .before .before .before .before .before .args .row)) 208 (onward _ _ _ _ (c .before .before .before .before .before .before .before .before .before .before .before .before .before .before .before .before .before .before .before .before .before .before .before .before .before .command .ensures) (c .before .before .before .before .before .before .before .before .before .before .before .before .before .before .before .before .before .before .send-row .ensures (c .before .before .before .before .before .before .before .before .before .before .before .before .before .before .before .before .before .before .before .before .before .before .before .before .before .before .before .before .before .before .before .before .before .before .args .mask .now) (c .before .before .before .before .before .before .before .before .before .before .before .before .before .before .before .before .before .before .before .before .before .before .before .before .before .before .before .before .before .before .before .before .before .before .args .fates .now) _ _ _)) (c .before .before .before .before .before .before .before .before .before .before .before .before .before .before .confirm .ensures) (c .before .before .before .before .poll .ensures .0 (c .before .before .before .before .before .before .before .before .before .before .before .before .before .before .before .before .before .before .before .before .before .before .before .before .before .before .before .before .before .before .before .before .before .before .args .mask .now) (c .before .before .before .before .before .before .before .before .before .before .before .before .before .before .before .before .before .before .before .before .before .before .before .before .before .before .before .before .before .before .before .before .before .before .args .fates .now)), c .before .before .before .before .poll .ensures .1)
+    let at-poll = c .before .before .before .before in
+    let way = at-poll .before .before .before .before .before .before .before .before .before in
+    let at-confirm = way .before in
+    let at-send-row = at-confirm .before .before .before .before in
+    let at-command = at-send-row .before .before .before .before .before .before .before in
+    let entry = at-command .before .before .before .before .before .before .before .before .before in
+    (confirmed-all _ _ (eraseAddress (entry .args .row)) 208 (onward _ _ _ _ (at-command .command .ensures) (at-send-row .send-row .ensures (entry .args .mask .now) (entry .args .fates .now) _ _ _)) (at-confirm .confirm .ensures) (at-poll .poll .ensures .0 (entry .args .mask .now) (entry .args .fates .now)), at-poll .poll .ensures .1)
 
 pub erase-spec : {M : Type 1} → statement M
 erase-spec =

@@ -22,23 +22,45 @@ poll-requires : tie.Need-poll-requires
 poll-requires c κs = search needs
 
 same-length : tie.Need-same-length
-same-length c = c .before .before .before .array3 .given ∙ c .before .before .before .before .before .before .before .before .before .before .before .before .before .array2 .given ∙ c .before .before .before .before .before .before .before .before .before .before .before .before .before .before .before .before .before .before .before .before .before .before .before .before .before .before .before .before .array .given
+same-length c =
+    let way = c .before .before .before .before .before .before .before .before .before in
+    let at-array2 = way .before .before .before .before in
+    let way-2 = at-array2 .before .before .before .before .before .before .before .before .before in
+    let at-array = way-2 .before .before .before .before .before .before in
+    c .before .before .before .array3 .given ∙ at-array2 .array2 .given ∙ at-array .array .given
 
 same-length-2 : tie.Need-same-length-2
-same-length-2 c = c .before .before .before .before .before .before .before .before .before .before .before .register3 .given ∙ c .before .before .before .before .before .before .before .before .before .before .before .before .before .before .before .before .before .before .before .register2 .given ∙ c .before .before .before .before .before .before .before .before .before .before .before .before .before .before .before .before .before .before .before .before .before .before .before .before .before .before .register .given
+same-length-2 c =
+    let way = c .before .before .before .before .before .before .before .before .before in
+    let at-register3 = way .before .before in
+    let at-register2 = at-register3 .before .before .before .before .before .before .before .before in
+    let at-register = at-register2 .before .before .before .before .before .before .before in
+    at-register3 .register3 .given ∙ at-register2 .register2 .given ∙ at-register .register .given
 
 same-length-3 : tie.Need-same-length-3
-same-length-3 c = c .before .history3 .given ∙ c .before .before .before .before .before .before .before .before .before .history2 .given ∙ c .before .before .before .before .before .before .before .before .before .before .before .before .before .before .before .before .before .before .before .before .before .before .before .before .history .given
+same-length-3 c =
+    let at-history2 = c .before .before .before .before .before .before .before .before .before in
+    let way = at-history2 .before .before .before .before .before .before .before .before .before in
+    let at-history = way .before .before .before .before .before .before in
+    c .before .history3 .given ∙ at-history2 .history2 .given ∙ at-history .history .given
 
 returns : tie.Need-returns
-returns c = (
-  confirmed-all _ _ (programData (c .before .before .before .before .before .before .before .before .before .before .before .before .before .before .before .before .before .before .before .before .before .before .before .before .before .before .before .before .before .before .before .before .before .before .before .before .before .before .before .args .row) (c .before .before .before .before .before .before .before .before .before .before .before .before .before .before .before .before .before .before .before .before .before .before .before .before .before .before .before .before .before .before .before .before .before .before .before .before .before .before .before .args .data .now)) 16
-      (onward _ _ _ _ (c .before .before .before .before .before .before .before .before .before .before .before .before .before .before .before .before .before .before .before .before .before .before .before .before .before .before .before .before .before .command .ensures)
-      (joined _ _ (addressCycles 0 (c .before .before .before .before .before .before .before .before .before .before .before .before .before .before .before .before .before .before .before .before .before .before .before .before .before .before .before .before .before .before .before .before .before .before .before .before .before .before .before .args .row)) _ (c .before .before .before .before .before .before .before .before .before .before .before .before .before .before .before .before .before .before .before .before .before .before .send-address .ensures (c .before .before .before .before .before .before .before .before .before .before .before .before .before .before .before .before .before .before .before .before .before .before .before .before .before .before .before .before .before .before .before .before .before .before .before .before .before .before .before .args .mask .now) (c .before .before .before .before .before .before .before .before .before .before .before .before .before .before .before .before .before .before .before .before .before .before .before .before .before .before .before .before .before .before .before .before .before .before .before .before .before .before .before .args .fates .now) _ _ _) (c .before .before .before .before .before .before .before .before .before .before .before .before .before .before .before .before .before .before .before .before .send-data .ensures _ _ _)))
-      (c .before .before .before .before .before .before .before .before .before .before .before .before .before .before .confirm .ensures)
-      (c .before .before .before .before .poll .ensures .0 (c .before .before .before .before .before .before .before .before .before .before .before .before .before .before .before .before .before .before .before .before .before .before .before .before .before .before .before .before .before .before .before .before .before .before .before .before .before .before .before .args .mask .now) (c .before .before .before .before .before .before .before .before .before .before .before .before .before .before .before .before .before .before .before .before .before .before .before .before .before .before .before .before .before .before .before .before .before .before .before .before .before .before .before .args .fates .now)),
-  c .before .before .before .before .poll .ensures .1,
-)
+returns c =
+    let at-poll = c .before .before .before .before in
+    let way = at-poll .before .before .before .before .before .before .before .before .before in
+    let at-confirm = way .before in
+    let at-send-data = at-confirm .before .before .before .before .before .before in
+    let at-send-address = at-send-data .before .before in
+    let at-command = at-send-address .before .before .before .before .before .before .before in
+    let way-2 = at-command .before .before .before .before .before .before .before .before .before in
+    let entry = way-2 .before in (
+      confirmed-all _ _ (programData (entry .args .row) (entry .args .data .now)) 16
+          (onward _ _ _ _ (at-command .command .ensures)
+          (joined _ _ (addressCycles 0 (entry .args .row)) _ (at-send-address .send-address .ensures (entry .args .mask .now) (entry .args .fates .now) _ _ _) (at-send-data .send-data .ensures _ _ _)))
+          (at-confirm .confirm .ensures)
+          (at-poll .poll .ensures .0 (entry .args .mask .now) (entry .args .fates .now)),
+      at-poll .poll .ensures .1,
+    )
 
 pub program-spec : {M : Type 1} → statement M
 program-spec =

@@ -28,18 +28,41 @@ enum-told : tie.Need-enum-told
 enum-told c = search needs
 
 same-length : tie.Need-same-length
-same-length c = c .before .before .before .before .before .array3 .given ∙ c .before .before .before .before .before .before .before .before .before .before .before .before .before .before .before .array2 .given ∙ c .before .before .before .before .before .before .before .before .before .before .before .before .before .before .before .before .before .before .before .before .before .before .before .before .before .before .array .given
+same-length c =
+    let at-array3 = c .before .before .before .before .before in
+    let way = at-array3 .before .before .before .before .before .before .before .before .before in
+    let at-array2 = way .before in
+    let way-2 = at-array2 .before .before .before .before .before .before .before .before .before in
+    let at-array = way-2 .before .before in
+    at-array3 .array3 .given ∙ at-array2 .array2 .given ∙ at-array .array .given
 
 same-length-2 : tie.Need-same-length-2
-same-length-2 c = c .before .before .before .before .before .before .before .before .before .before .before .before .before .register2 .given ∙ c .before .before .before .before .before .before .before .before .before .before .before .before .before .before .before .before .before .before .before .before .before .before .before .before .register .given
+same-length-2 c =
+    let way = c .before .before .before .before .before .before .before .before .before in
+    let at-register2 = way .before .before .before .before in
+    let way-2 = at-register2 .before .before .before .before .before .before .before .before .before in
+    let at-register = way-2 .before .before in
+    at-register2 .register2 .given ∙ at-register .register .given
 
 same-length-3 : tie.Need-same-length-3
-same-length-3 c = c .before .before .before .history3 .given ∙ c .before .before .before .before .before .before .before .before .before .before .before .history2 .given ∙ c .before .before .before .before .before .before .before .before .before .before .before .before .before .before .before .before .before .before .before .before .before .before .history .given
+same-length-3 c =
+    let way = c .before .before .before .before .before .before .before .before .before in
+    let at-history2 = way .before .before in
+    let way-2 = at-history2 .before .before .before .before .before .before .before .before .before in
+    let at-history = way-2 .before .before in
+    c .before .before .before .history3 .given ∙ at-history2 .history2 .given ∙ at-history .history .given
 
 returns : tie.Need-returns
 returns c =
-    let r = read-stops _ _ (c .before .before .before .before .before .before .before .before .before .before .before .before .before .before .before .before .before .before .before .before .before .before .before .before .before .before .before .before .before .before .before .before .before .before .before .before .before .args .row) (c .before .before .before .before .before .before .before .before .before .before .before .before .before .before .before .before .before .before .before .before .before .before .before .before .before .before .before .before .before .before .before .before .before .before .before .before .before .args .column) (length (c .before .before .before .before .before .before .before .before .before .before .before .before .before .before .before .before .before .before .before .before .before .before .before .before .before .before .before .before .before .before .before .before .before .before .before .before .before .args .buffer .now)) (confirmed-all _ _ (readAddress (c .before .before .before .before .before .before .before .before .before .before .before .before .before .before .before .before .before .before .before .before .before .before .before .before .before .before .before .before .before .before .before .before .before .before .before .before .before .args .row) (c .before .before .before .before .before .before .before .before .before .before .before .before .before .before .before .before .before .before .before .before .before .before .before .before .before .before .before .before .before .before .before .before .before .before .before .before .before .args .column)) 48 (onward _ _ _ _ (c .before .before .before .before .before .before .before .before .before .before .before .before .before .before .before .before .before .before .before .before .before .before .before .before .before .before .before .command .ensures) (c .before .before .before .before .before .before .before .before .before .before .before .before .before .before .before .before .before .before .before .before .send-address .ensures (c .before .before .before .before .before .before .before .before .before .before .before .before .before .before .before .before .before .before .before .before .before .before .before .before .before .before .before .before .before .before .before .before .before .before .before .before .before .args .mask .now) (c .before .before .before .before .before .before .before .before .before .before .before .before .before .before .before .before .before .before .before .before .before .before .before .before .before .before .before .before .before .before .before .before .before .before .before .before .before .args .fates .now) _ _ _)) (c .before .before .before .before .before .before .before .before .before .before .before .before .before .before .before .before .confirm .ensures) (c .before .before .before .before .before .before .poll .ensures .0 (c .before .before .before .before .before .before .before .before .before .before .before .before .before .before .before .before .before .before .before .before .before .before .before .before .before .before .before .before .before .before .before .before .before .before .before .before .before .args .mask .now) (c .before .before .before .before .before .before .before .before .before .before .before .before .before .before .before .before .before .before .before .before .before .before .before .before .before .before .before .before .before .before .before .before .before .before .before .before .before .args .fates .now))) (ap isPassed (sym (c .before .before .before .before .before .before .poll .ensures .1)) ∙ other-by-tag _ (c .match .keys2)) in
-    (r .0, (c .before .before .before .before .before .before .poll .ensures .1 ∙ r .1, r .2 _))
+    let at-poll = c .before .before .before .before .before .before in
+    let way = at-poll .before .before .before .before .before .before .before .before .before in
+    let at-confirm = way .before in
+    let at-send-address = at-confirm .before .before .before .before in
+    let at-command = at-send-address .before .before .before .before .before .before .before in
+    let way-2 = at-command .before .before .before .before .before .before .before .before .before in
+    let entry = way-2 .before in
+    let r = read-stops _ _ (entry .args .row) (entry .args .column) (length (entry .args .buffer .now)) (confirmed-all _ _ (readAddress (entry .args .row) (entry .args .column)) 48 (onward _ _ _ _ (at-command .command .ensures) (at-send-address .send-address .ensures (entry .args .mask .now) (entry .args .fates .now) _ _ _)) (at-confirm .confirm .ensures) (at-poll .poll .ensures .0 (entry .args .mask .now) (entry .args .fates .now))) (ap isPassed (sym (at-poll .poll .ensures .1)) ∙ other-by-tag _ (c .match .keys2)) in
+    (r .0, (at-poll .poll .ensures .1 ∙ r .1, r .2 _))
 
 command-requires-2 : tie.Need-command-requires-2
 command-requires-2 c κs = search needs
@@ -51,21 +74,54 @@ ended-requires : tie.Need-ended-requires
 ended-requires c κs = search needs
 
 same-length-4 : tie.Need-same-length-4
-same-length-4 c = c .before .before .before .before .before .before .before .before .before .before .before .array4 .given ∙ c .before .before .before .before .before .before .before .before .before .before .before .before .before .before .before .before .before .before .before .before .before .before .array3 .given ∙ c .before .before .before .before .before .before .before .before .before .before .before .before .before .before .before .before .before .before .before .before .before .before .before .before .before .before .before .before .before .before .before .before .array2 .given ∙ c .before .before .before .before .before .before .before .before .before .before .before .before .before .before .before .before .before .before .before .before .before .before .before .before .before .before .before .before .before .before .before .before .before .before .before .before .before .before .before .before .before .before .before .array .given
+same-length-4 c =
+    let way = c .before .before .before .before .before .before .before .before .before in
+    let at-array4 = way .before .before in
+    let way-2 = at-array4 .before .before .before .before .before .before .before .before .before in
+    let at-array3 = way-2 .before .before in
+    let way-3 = at-array3 .before .before .before .before .before .before .before .before .before in
+    let at-array2 = way-3 .before in
+    let way-4 = at-array2 .before .before .before .before .before .before .before .before .before in
+    let at-array = way-4 .before .before in
+    at-array4 .array4 .given ∙ at-array3 .array3 .given ∙ at-array2 .array2 .given ∙ at-array .array .given
 
 same-length-5 : tie.Need-same-length-5
-same-length-5 c = c .before .before .before .before .before .before .before .before .before .register3 .given ∙ c .before .before .before .before .before .before .before .before .before .before .before .before .before .before .before .before .before .before .before .before .before .before .before .before .before .before .before .before .before .before .register2 .given ∙ c .before .before .before .before .before .before .before .before .before .before .before .before .before .before .before .before .before .before .before .before .before .before .before .before .before .before .before .before .before .before .before .before .before .before .before .before .before .before .before .before .before .register .given
+same-length-5 c =
+    let at-register3 = c .before .before .before .before .before .before .before .before .before in
+    let way = at-register3 .before .before .before .before .before .before .before .before .before in
+    let way-2 = way .before .before .before .before .before .before .before .before .before in
+    let at-register2 = way-2 .before .before .before in
+    let way-3 = at-register2 .before .before .before .before .before .before .before .before .before in
+    let at-register = way-3 .before .before in
+    at-register3 .register3 .given ∙ at-register2 .register2 .given ∙ at-register .register .given
 
 same-length-6 : tie.Need-same-length-6
-same-length-6 c = c .before .before .before .before .before .before .before .history4 .given ∙ c .before .before .before .before .before .before .before .before .before .before .before .before .before .before .before .before .before .before .before .before .history3 .given ∙ c .before .before .before .before .before .before .before .before .before .before .before .before .before .before .before .before .before .before .before .before .before .before .before .before .before .before .before .before .history2 .given ∙ c .before .before .before .before .before .before .before .before .before .before .before .before .before .before .before .before .before .before .before .before .before .before .before .before .before .before .before .before .before .before .before .before .before .before .before .before .before .before .before .history .given
+same-length-6 c =
+    let at-history4 = c .before .before .before .before .before .before .before in
+    let way = at-history4 .before .before .before .before .before .before .before .before .before in
+    let at-history3 = way .before .before .before .before in
+    let at-history2 = at-history3 .before .before .before .before .before .before .before .before in
+    let way-2 = at-history2 .before .before .before .before .before .before .before .before .before in
+    let at-history = way-2 .before .before in
+    at-history4 .history4 .given ∙ at-history3 .history3 .given ∙ at-history2 .history2 .given ∙ at-history .history .given
 
 same-length-7 : tie.Need-same-length-7
 same-length-7 c = search needs
 
 returns-2 : tie.Need-returns-2
 returns-2 c =
-    let r = read-goes _ _ (c .before .before .before .before .before .before .before .before .before .before .before .before .before .before .before .before .before .before .before .before .before .before .before .before .before .before .before .before .before .before .before .before .before .before .before .before .before .before .before .before .before .before .before .before .before .before .before .before .before .before .before .before .before .before .args .row) (c .before .before .before .before .before .before .before .before .before .before .before .before .before .before .before .before .before .before .before .before .before .before .before .before .before .before .before .before .before .before .before .before .before .before .before .before .before .before .before .before .before .before .before .before .before .before .before .before .before .before .before .before .before .before .args .column) (length (c .before .before .before .before .before .before .before .before .before .before .before .before .before .before .before .before .before .before .before .before .before .before .before .before .before .before .before .before .before .before .before .before .before .before .before .before .before .before .before .before .before .before .before .before .before .before .before .before .before .before .before .before .before .before .args .buffer .now)) (confirmed-all _ _ (readAddress (c .before .before .before .before .before .before .before .before .before .before .before .before .before .before .before .before .before .before .before .before .before .before .before .before .before .before .before .before .before .before .before .before .before .before .before .before .before .before .before .before .before .before .before .before .before .before .before .before .before .before .before .before .before .before .args .row) (c .before .before .before .before .before .before .before .before .before .before .before .before .before .before .before .before .before .before .before .before .before .before .before .before .before .before .before .before .before .before .before .before .before .before .before .before .before .before .before .before .before .before .before .before .before .before .before .before .before .before .before .before .before .before .args .column)) 48 (onward _ _ _ _ (c .before .before .before .before .before .before .before .before .before .before .before .before .before .before .before .before .before .before .before .before .before .before .before .before .before .before .before .before .before .before .before .before .before .before .before .before .before .before .before .before .before .before .before .before .command .ensures) (c .before .before .before .before .before .before .before .before .before .before .before .before .before .before .before .before .before .before .before .before .before .before .before .before .before .before .before .before .before .before .before .before .before .before .before .before .before .send-address .ensures (c .before .before .before .before .before .before .before .before .before .before .before .before .before .before .before .before .before .before .before .before .before .before .before .before .before .before .before .before .before .before .before .before .before .before .before .before .before .before .before .before .before .before .before .before .before .before .before .before .before .before .before .before .before .before .args .mask .now) (c .before .before .before .before .before .before .before .before .before .before .before .before .before .before .before .before .before .before .before .before .before .before .before .before .before .before .before .before .before .before .before .before .before .before .before .before .before .before .before .before .before .before .before .before .before .before .before .before .before .before .before .before .before .before .args .fates .now) _ _ _)) (c .before .before .before .before .before .before .before .before .before .before .before .before .before .before .before .before .before .before .before .before .before .before .before .before .before .before .before .before .before .before .before .before .before .confirm .ensures) (c .before .before .before .before .before .before .before .before .before .before .before .before .before .before .before .before .before .before .before .before .before .before .before .poll .ensures .0 (c .before .before .before .before .before .before .before .before .before .before .before .before .before .before .before .before .before .before .before .before .before .before .before .before .before .before .before .before .before .before .before .before .before .before .before .before .before .before .before .before .before .before .before .before .before .before .before .before .before .before .before .before .before .before .args .mask .now) (c .before .before .before .before .before .before .before .before .before .before .before .before .before .before .before .before .before .before .before .before .before .before .before .before .before .before .before .before .before .before .before .before .before .before .before .before .before .before .before .before .before .before .before .before .before .before .before .before .before .before .before .before .before .before .args .fates .now))) (ap isPassed (sym (c .before .before .before .before .before .before .before .before .before .before .before .before .before .before .before .before .before .before .before .before .before .before .before .poll .ensures .1)) ∙ passed-by-tag _ (c .before .before .before .before .before .before .before .before .before .before .before .before .before .before .before .before .before .match .keys1)) (c .before .before .before .before .before .before .before .before .before .before .before .before .command2 .ensures) (c .before .before .before .take-data .ensures .0 _ _ _) in
-    (r .0, (c .ended .ensures _ _ _ ∙ r .1, c .before .before .before .take-data .ensures .1 _ _ _ ∙ ap (λ (ys : List ℕ). over ys (c .before .before .before .before .before .before .before .before .before .before .before .before .before .before .before .before .before .before .before .before .before .before .before .before .before .before .before .before .before .before .before .before .before .before .before .before .before .before .before .before .before .before .before .before .before .before .before .before .before .before .before .before .before .before .args .buffer .now)) (r .2)))
+    let way = c .before .before .before .before .before .before .before .before .before in
+    let at-command2 = way .before .before .before in
+    let at-match = at-command2 .before .before .before .before .before in
+    let at-poll = at-match .before .before .before .before .before .before in
+    let way-2 = at-poll .before .before .before .before .before .before .before .before .before in
+    let at-confirm = way-2 .before in
+    let at-send-address = at-confirm .before .before .before .before in
+    let at-command = at-send-address .before .before .before .before .before .before .before in
+    let way-3 = at-command .before .before .before .before .before .before .before .before .before in
+    let entry = way-3 .before in
+    let r = read-goes _ _ (entry .args .row) (entry .args .column) (length (entry .args .buffer .now)) (confirmed-all _ _ (readAddress (entry .args .row) (entry .args .column)) 48 (onward _ _ _ _ (at-command .command .ensures) (at-send-address .send-address .ensures (entry .args .mask .now) (entry .args .fates .now) _ _ _)) (at-confirm .confirm .ensures) (at-poll .poll .ensures .0 (entry .args .mask .now) (entry .args .fates .now))) (ap isPassed (sym (at-poll .poll .ensures .1)) ∙ passed-by-tag _ (at-match .match .keys1)) (at-command2 .command2 .ensures) (c .before .before .before .take-data .ensures .0 _ _ _) in
+    (r .0, (c .ended .ensures _ _ _ ∙ r .1, c .before .before .before .take-data .ensures .1 _ _ _ ∙ ap (λ (ys : List ℕ). over ys (entry .args .buffer .now)) (r .2)))
 
 pub read-spec : {M : Type 1} → statement M
 read-spec =

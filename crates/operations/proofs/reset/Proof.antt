@@ -28,8 +28,11 @@ same-length-3 c = search needs
 returns : tie.Need-returns
 unfolding resetStatus
 returns c =
-    let commands = c .before .before .before .before .before .before .before .before .before .before .before .before .before .before .before .before .confirm .ensures in
-    let read = c .before .before .before .before .before .before .status .ensures in
+    let at-status = c .before .before .before .before .before .before in
+    let way = at-status .before .before .before .before .before .before .before .before .before in
+    let at-confirm = way .before in
+    let commands = at-confirm .confirm .ensures in
+    let read = at-status .status .ensures in
     (joined _ _ _ _ commands (lone _ _ _ (read .0 _ _)), (c .ended .ensures _ _ _, read .1 _ _ _ ∙ ap statusOut commands))
 
 pub reset-spec : {M : Type 1} → statement M

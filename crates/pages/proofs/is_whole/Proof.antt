@@ -69,12 +69,14 @@ part-zero-bits-start c = search needs
 
 part-zero-bits-end : tie.Need-part-zero-bits-end
 part-zero-bits-end c =
-    let s = c .before .before .before .before .before .before .before .before .before .before in
-    omega (arith, small (c .before .before .before .before .before .before .before), s .pre)
+    let place = c .before .before .before .before .before .before .before in
+    let s = place .before .before .before in
+    omega (arith, small (place), s .pre)
 
 zero-bits-requires : tie.Need-zero-bits-requires
 zero-bits-requires c κs =
-    let s = c .before .before .before .before .before .before .before .before .before .before .before in
+    let way = c .before .before .before .before .before .before .before .before .before in
+    let s = way .before .before in
     rw length-take (omega (arith, s .pre))
 
 -- what follows the check is all ones or not
@@ -90,8 +92,8 @@ rest c =
 
 returns-3 : tie.Need-returns-3
 returns-3 c =
-    let s = c .before .before .before .before .before .before .before .before .before .before .before .before in
     let e = c .before .before .before .before in
+    let s = e .before .before .before .before .before .before .before .before in
     let n = e .before .before .before .before .before in
     let at = s .args .main + 5 + n .number-width .result in
     let w : s .args .main + (5 + numberWidth (kindOf (s .args .main) (s .args .page .now))) ≡ at = omega (arith, width n) in

@@ -19,7 +19,7 @@ width : (c : tie.After-number-width) → numberWidth (kindOf (c .before .before 
 width c = ap numberWidth (sym (c .before .kind-of .ensures)) ∙ sym (c .number-width .ensures)
 
 returns : tie.Need-returns
-returns c = (number-none _ _ (width (c .before) ∙ c .if1 .taken), omega arith)
+returns c = number-none _ _ (width (c .before) ∙ c .if1 .taken)
 
 add-pair-at : tie.Need-add-pair-at
 add-pair-at c = search needs
@@ -57,11 +57,9 @@ add-result c = omega (arith, high c, low (c .before))
 
 returns-2 : tie.Need-returns-2
 returns-2 c =
-    let s = c .before .before .before .before .before .before in (
-      rw (c .pair-at2 .ensures, c .before .pair-at .ensures)
-          (number-four (s .args .main) (s .args .page .now) (omega arith) (λ e. c .before .before .if1 .left (sym (width (c .before .before .before)) ∙ e))),
-      omega (arith, high c, low (c .before)),
-    )
+    let s = c .before .before .before .before .before .before in
+    rw (c .pair-at2 .ensures, c .before .pair-at .ensures)
+    (number-four (s .args .main) (s .args .page .now) (omega arith) (λ e. c .before .before .if1 .left (sym (width (c .before .before .before)) ∙ e)))
 
 pub number-of-spec : {M : Type 1} → statement M
 number-of-spec =

@@ -43,8 +43,10 @@ same-length-2 c = search needs
 
 returns : tie.Need-returns Inv-loop μ-loop
 returns c =
+    let at-status = c .before .before .before .before .before .before .before .before in
+    let turn = at-status .before .before .before .before in
     let stopped = sym (c .before .before .goes-on .ensures _ _ _) ∙ not-true _ (c .before .if1 .taken) in (
-      λ m f. poll-stops _ _ 256 (c .before .before .before .before .before .before .before .before .before .before .before .before .loop .reads) (omega arith) (c .before .before .before .before .before .before .before .before .status .ensures .0 m f) stopped ∙ c .before .before .before .before .before .before .before .before .before .before .before .before .loop .inv .3 m f,
+      λ m f. poll-stops _ _ 256 (turn .loop .reads) (omega arith) (at-status .status .ensures .0 m f) stopped ∙ turn .loop .inv .3 m f,
       c .ended .ensures _ _ _ ∙ ended-stopped _ stopped,
     )
 
@@ -62,8 +64,11 @@ same-length-4 c = search needs
 
 returns-2 : tie.Need-returns-2 Inv-loop μ-loop
 returns-2 c =
-    let r = poll-ready _ _ 256 (c .before .before .before .before .before .before .before .before .before .before .before .before .before .before .loop .reads) (omega arith) (c .before .before .before .before .before .before .before .before .before .before .status .ensures .0) (c .before .before .before .before .before .before .before .before .before .before .status .ensures .1 _ _ _) (sym (c .before .before .before .before .goes-on .ensures _ _ _) ∙ not-false _ (c .before .before .before .if1 .left)) (sym (c .before .before .is-ready .ensures) ∙ c .before .if2 .taken) in
-    (λ m f. r .0 m f ∙ c .before .before .before .before .before .before .before .before .before .before .before .before .before .before .loop .inv .3 m f, c .judge .ensures ∙ r .1)
+    let at-goes-on = c .before .before .before .before in
+    let at-status = at-goes-on .before .before .before .before .before .before in
+    let turn = at-status .before .before .before .before in
+    let r = poll-ready _ _ 256 (turn .loop .reads) (omega arith) (at-status .status .ensures .0) (at-status .status .ensures .1 _ _ _) (sym (at-goes-on .goes-on .ensures _ _ _) ∙ not-false _ (c .before .before .before .if1 .left)) (sym (c .before .before .is-ready .ensures) ∙ c .before .if2 .taken) in
+    (λ m f. r .0 m f ∙ turn .loop .inv .3 m f, c .judge .ensures ∙ r .1)
 
 add-reads : tie.Need-add-reads Inv-loop μ-loop
 add-reads c = search needs
@@ -73,8 +78,10 @@ loop-less c = omega arith
 
 loop-again : tie.Need-loop-again Inv-loop μ-loop
 loop-again c =
-    let r = poll-goes _ _ 256 (c .before .before .before .before .before .before .before .before .before .before .before .before .before .loop .reads) (omega arith) (c .before .before .before .before .before .before .before .before .before .status .ensures .0) (c .before .before .before .before .before .before .before .before .before .status .ensures .1 _ _ _) (sym (c .before .before .before .goes-on .ensures _ _ _) ∙ not-false _ (c .before .before .if1 .left)) (sym (c .before .is-ready .ensures) ∙ c .if2 .left) in
-    (omega arith, search needs, search needs, λ m f. r .0 m f ∙ c .before .before .before .before .before .before .before .before .before .before .before .before .before .loop .inv .3 m f, λ h. r .1)
+    let at-status = c .before .before .before .before .before .before .before .before .before in
+    let turn = at-status .before .before .before .before in
+    let r = poll-goes _ _ 256 (turn .loop .reads) (omega arith) (at-status .status .ensures .0) (at-status .status .ensures .1 _ _ _) (sym (c .before .before .before .goes-on .ensures _ _ _) ∙ not-false _ (c .before .before .if1 .left)) (sym (c .before .is-ready .ensures) ∙ c .if2 .left) in
+    (omega arith, search needs, search needs, λ m f. r .0 m f ∙ turn .loop .inv .3 m f, λ h. r .1)
 
 same-length-5 : tie.Need-same-length-5 Inv-loop μ-loop
 same-length-5 c = search needs

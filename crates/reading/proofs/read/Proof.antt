@@ -47,18 +47,26 @@ same-length c = search needs
 
 returns-2 : tie.Need-returns-2
 returns-2 c =
-    let s = c .before .before .before .before .before .before .before .before .before .before .before .before .before .before .before .before in
+    let at-if2 = c .before .before .before .before .before in
+    let at-wide = at-if2 .before in
+    let at-if1 = at-wide .before .before in
+    let at-refusal = at-if1 .before in
+    let s = at-refusal .before .before .before .before .before .before .before in
     let set = setting (s .args .g) (now (s .args .mask)) (now (s .args .fates)) in
     let d = device (s .args .interface) (now (s .args .array)) (now (s .args .register)) (now (s .args .history)) in
-    ends-empty set d (s .args .allowed) (s .args .state) (s .args .logical) (s .args .page) (now (s .args .buffer)) (c .before .before .before .before .before .before .before .before .before .refusal .result) (c .before .before .before .before .before .before .before .before .before .refusal .ensures) (c .before .before .before .before .before .before .before .before .if1 .left) (c .before .before .before .before .before .before .wide .result) (c .before .before .before .before .before .before .wide .ensures) _ (c .before .before .before .before .before .if2 .taken) (c .unchanged2 .ensures _ _ _) (c .before .before .before .erase-whole .ensures)
+    ends-empty set d (s .args .allowed) (s .args .state) (s .args .logical) (s .args .page) (now (s .args .buffer)) (at-refusal .refusal .result) (at-refusal .refusal .ensures) (at-if1 .if1 .left) (at-wide .wide .result) (at-wide .wide .ensures) _ (at-if2 .if2 .taken) (c .unchanged2 .ensures _ _ _) (c .before .before .before .erase-whole .ensures)
 
 read-block-requires : tie.Need-read-block-requires
 read-block-requires c κs =
-    let s = c .before .before .before .before .before .before .before .before .before .before .before .before .before .before .before in
+    let at-if2 = c .before .before .before .before in
+    let at-wide = at-if2 .before in
+    let at-if1 = at-wide .before .before in
+    let at-refusal = at-if1 .before in
+    let s = at-refusal .before .before .before .before .before .before .before in
     let set = setting (s .args .g) (now (s .args .mask)) (now (s .args .fates)) in
     let d = device (s .args .interface) (now (s .args .array)) (now (s .args .register)) (now (s .args .history)) in
-    let w = c .before .before .before .before .before .wide in
-    (is-valid set d (s .args .allowed) (s .args .state) (s .args .logical) (s .args .page) (now (s .args .buffer)) (c .before .before .before .before .before .before .before .before .refusal .result) (c .before .before .before .before .before .before .before .before .refusal .ensures) (c .before .before .before .before .before .before .before .if1 .left), (block-below set d (s .args .allowed) (s .args .state) (s .args .logical) (s .args .page) (now (s .args .buffer)) (c .before .before .before .before .before .before .before .before .refusal .result) (c .before .before .before .before .before .before .before .before .refusal .ensures) (c .before .before .before .before .before .before .before .if1 .left) (w .result) (w .ensures) (c .before .before .before .before .if2 .left), (not-refused set d (s .args .allowed) (s .args .state) (s .args .logical) (s .args .page) (now (s .args .buffer)) (c .before .before .before .before .before .before .before .before .refusal .result) (c .before .before .before .before .before .before .before .before .refusal .ensures) (c .before .before .before .before .before .before .before .if1 .left) .page-below, not-refused set d (s .args .allowed) (s .args .state) (s .args .logical) (s .args .page) (now (s .args .buffer)) (c .before .before .before .before .before .before .before .before .refusal .result) (c .before .before .before .before .before .before .before .before .refusal .ensures) (c .before .before .before .before .before .before .before .if1 .left) .buffer-long)))
+    let w = at-wide .wide in
+    (is-valid set d (s .args .allowed) (s .args .state) (s .args .logical) (s .args .page) (now (s .args .buffer)) (at-refusal .refusal .result) (at-refusal .refusal .ensures) (at-if1 .if1 .left), (block-below set d (s .args .allowed) (s .args .state) (s .args .logical) (s .args .page) (now (s .args .buffer)) (at-refusal .refusal .result) (at-refusal .refusal .ensures) (at-if1 .if1 .left) (w .result) (w .ensures) (at-if2 .if2 .left), (not-refused set d (s .args .allowed) (s .args .state) (s .args .logical) (s .args .page) (now (s .args .buffer)) (at-refusal .refusal .result) (at-refusal .refusal .ensures) (at-if1 .if1 .left) .page-below, not-refused set d (s .args .allowed) (s .args .state) (s .args .logical) (s .args .page) (now (s .args .buffer)) (at-refusal .refusal .result) (at-refusal .refusal .ensures) (at-if1 .if1 .left) .buffer-long)))
 
 same-length-2 : tie.Need-same-length-2
 same-length-2 c = search needs
@@ -74,10 +82,15 @@ same-length-5 c = search needs
 
 returns-3 : tie.Need-returns-3
 returns-3 c =
-    let s = c .before .before .before .before .before .before .before .before .before .before .before .before .before .before .before .before .before .before .before .before .before .before .before .before in
+    let at-read-block = c .before .before .before .before .before .before .before .before in
+    let at-if2 = at-read-block .before .before .before .before .before in
+    let at-wide = at-if2 .before in
+    let at-if1 = at-wide .before .before in
+    let at-refusal = at-if1 .before in
+    let s = at-refusal .before .before .before .before .before .before .before in
     let set = setting (s .args .g) (now (s .args .mask)) (now (s .args .fates)) in
     let d = device (s .args .interface) (now (s .args .array)) (now (s .args .register)) (now (s .args .history)) in
-    ends-read set d (s .args .allowed) (s .args .state) (s .args .logical) (s .args .page) (now (s .args .buffer)) (c .before .before .before .before .before .before .before .before .before .before .before .before .before .before .before .before .before .refusal .result) (c .before .before .before .before .before .before .before .before .before .before .before .before .before .before .before .before .before .refusal .ensures) (c .before .before .before .before .before .before .before .before .before .before .before .before .before .before .before .before .if1 .left) (c .before .before .before .before .before .before .before .before .before .before .before .before .before .before .wide .result) (c .before .before .before .before .before .before .before .before .before .before .before .before .before .before .wide .ensures) (c .before .before .before .before .before .before .before .before .before .before .before .before .before .if2 .left) (c .before .before .before .before .before .before .before .before .read-block .ensures)
+    ends-read set d (s .args .allowed) (s .args .state) (s .args .logical) (s .args .page) (now (s .args .buffer)) (at-refusal .refusal .result) (at-refusal .refusal .ensures) (at-if1 .if1 .left) (at-wide .wide .result) (at-wide .wide .ensures) (at-if2 .if2 .left) (at-read-block .read-block .ensures)
 
 pub read-spec : {M : Type 1} → statement M
 read-spec =

@@ -28,10 +28,24 @@ returns-4 : tie.Need-returns-4
 returns-4 c = sym (refused-page (c .before .before .before .before .before .before .before .before .args .g) _ (c .before .before .before .before .before .before .before .before .args .state) (c .before .before .before .before .before .before .before .before .args .logical) (c .before .before .before .before .before .before .before .before .args .page) (c .before .before .before .before .before .before .before .before .args .buffer) (sym (c .before .before .before .before .before .before .before .is-sized .ensures) ∙ not-false (c .before .before .before .before .before .before .before .is-sized .result) (c .before .before .before .before .before .before .if1 .left)) (sym (c .before .before .before .before .before .is-mounted .ensures) ∙ not-false (c .before .before .before .before .before .is-mounted .result) (c .before .before .before .before .if2 .left)) (c .before .before .if3 .left) (c .if4 .taken))
 
 returns-5 : tie.Need-returns-5
-returns-5 c = sym (refused-length (c .before .before .before .before .before .before .before .before .before .before .args .g) _ (c .before .before .before .before .before .before .before .before .before .before .args .state) (c .before .before .before .before .before .before .before .before .before .before .args .logical) (c .before .before .before .before .before .before .before .before .before .before .args .page) (c .before .before .before .before .before .before .before .before .before .before .args .buffer) (sym (c .before .before .before .before .before .before .before .before .before .is-sized .ensures) ∙ not-false (c .before .before .before .before .before .before .before .before .before .is-sized .result) (c .before .before .before .before .before .before .before .before .if1 .left)) (sym (c .before .before .before .before .before .before .before .is-mounted .ensures) ∙ not-false (c .before .before .before .before .before .before .before .is-mounted .result) (c .before .before .before .before .before .before .if2 .left)) (c .before .before .before .before .if3 .left) (c .before .before .if4 .left) (c .if5 .taken))
+returns-5 c =
+    let at-if3 = c .before .before .before .before in
+    let at-if2 = at-if3 .before .before in
+    let at-is-mounted = at-if2 .before in
+    let at-if1 = at-is-mounted .before in
+    let at-is-sized = at-if1 .before in
+    let entry = at-is-sized .before in
+    sym (refused-length (entry .args .g) _ (entry .args .state) (entry .args .logical) (entry .args .page) (entry .args .buffer) (sym (at-is-sized .is-sized .ensures) ∙ not-false (at-is-sized .is-sized .result) (at-if1 .if1 .left)) (sym (at-is-mounted .is-mounted .ensures) ∙ not-false (at-is-mounted .is-mounted .result) (at-if2 .if2 .left)) (at-if3 .if3 .left) (c .before .before .if4 .left) (c .if5 .taken))
 
 returns-6 : tie.Need-returns-6
-returns-6 c = sym (accepted (c .before .before .before .before .before .before .before .before .before .before .args .g) _ (c .before .before .before .before .before .before .before .before .before .before .args .state) (c .before .before .before .before .before .before .before .before .before .before .args .logical) (c .before .before .before .before .before .before .before .before .before .before .args .page) (c .before .before .before .before .before .before .before .before .before .before .args .buffer) (record { sizes-fit = sym (c .before .before .before .before .before .before .before .before .before .is-sized .ensures) ∙ not-false (c .before .before .before .before .before .before .before .before .before .is-sized .result) (c .before .before .before .before .before .before .before .before .if1 .left); is-mounted = sym (c .before .before .before .before .before .before .before .is-mounted .ensures) ∙ not-false (c .before .before .before .before .before .before .before .is-mounted .result) (c .before .before .before .before .before .before .if2 .left); logical-below = c .before .before .before .before .if3 .left; page-below = c .before .before .if4 .left; buffer-long = c .if5 .left }))
+returns-6 c =
+    let at-if3 = c .before .before .before .before in
+    let at-if2 = at-if3 .before .before in
+    let at-is-mounted = at-if2 .before in
+    let at-if1 = at-is-mounted .before in
+    let at-is-sized = at-if1 .before in
+    let entry = at-is-sized .before in
+    sym (accepted (entry .args .g) _ (entry .args .state) (entry .args .logical) (entry .args .page) (entry .args .buffer) (record { sizes-fit = sym (at-is-sized .is-sized .ensures) ∙ not-false (at-is-sized .is-sized .result) (at-if1 .if1 .left); is-mounted = sym (at-is-mounted .is-mounted .ensures) ∙ not-false (at-is-mounted .is-mounted .result) (at-if2 .if2 .left); logical-below = at-if3 .if3 .left; page-below = c .before .before .if4 .left; buffer-long = c .if5 .left }))
 
 pub refusal-spec : {M : Type 1} → statement M
 refusal-spec =

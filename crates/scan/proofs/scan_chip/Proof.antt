@@ -29,7 +29,8 @@ blank-requires c κs = search needs
 
 loop-holds : tie.Need-loop-holds Inv-loop μ-loop
 loop-holds c =
-    let s = c .before .before .before .before .before .before .before .before .before .before in
+    let way = c .before .before .before .before .before .before .before .before .before in
+    let s = way .before in
     (omega arith, refl, refl, refl, refl, refl, refl, refl, chip-begins (setting (s .args .g) (now (s .args .mask)) (now (s .args .fates))) (line (s .args .from) (now (s .args .array)) (now (s .args .register)) (now (s .args .history))) (c .blank .result) (contents (now (s .args .kinds)) (now (s .args .logicals)) (now (s .args .numbers))) (c .blank .ensures) (s .pre .0))
 
 slice-aggregate-scan-block : tie.Need-slice-aggregate-scan-block Inv-loop μ-loop
@@ -37,76 +38,142 @@ slice-aggregate-scan-block c = search needs
 
 scan-block-requires : tie.Need-scan-block-requires Inv-loop μ-loop
 scan-block-requires c κs =
-    let s = c .before .before .before .before .before .before .before .before .before .before .before .before .before .before .before .before .before in
-    let lp = c .before .before .before .before .before .before .loop in
+    let at-loop-test = c .before .before .before .before .before in
+    let turn = at-loop-test .before in
+    let way = turn .before .before .before .before .before .before .before .before .before in
+    let s = way .before .before in
+    let lp = turn .loop in
     let v = lp .inv .8 .called .is-valid in
-    (lp .inv .8 .called, (c .before .before .before .before .before .loop-test .taken, (lp .inv .4 ∙ s .pre .1 .0, omega (arith, v .blocks-most))))
+    (lp .inv .8 .called, (at-loop-test .loop-test .taken, (lp .inv .4 ∙ s .pre .1 .0, omega (arith, v .blocks-most))))
 
 enum-told : tie.Need-enum-told Inv-loop μ-loop
 enum-told c = search needs
 
 same-length : tie.Need-same-length Inv-loop μ-loop
-same-length c = c .before .before .before .before .before .before .before .before .before .before .array .given ∙ c .before .before .before .before .before .before .before .before .before .before .before .before .before .before .before .before .before .before .loop .inv .1
+same-length c =
+    let way = c .before .before .before .before .before .before .before .before .before in
+    let at-array = way .before in
+    let turn = at-array .before .before .before .before .before .before .before .before in
+    at-array .array .given ∙ turn .loop .inv .1
 
 same-length-2 : tie.Need-same-length-2 Inv-loop μ-loop
-same-length-2 c = c .before .before .before .before .before .before .before .before .register .given ∙ c .before .before .before .before .before .before .before .before .before .before .before .before .before .before .before .before .before .before .loop .inv .2
+same-length-2 c =
+    let at-register = c .before .before .before .before .before .before .before .before in
+    let way = at-register .before .before .before .before .before .before .before .before .before in
+    let turn = way .before in
+    at-register .register .given ∙ turn .loop .inv .2
 
 same-length-3 : tie.Need-same-length-3 Inv-loop μ-loop
-same-length-3 c = c .before .before .before .before .before .before .history .given ∙ c .before .before .before .before .before .before .before .before .before .before .before .before .before .before .before .before .before .before .loop .inv .3
+same-length-3 c =
+    let at-history = c .before .before .before .before .before .before in
+    let way = at-history .before .before .before .before .before .before .before .before .before in
+    let turn = way .before .before .before in
+    at-history .history .given ∙ turn .loop .inv .3
 
 same-length-4 : tie.Need-same-length-4 Inv-loop μ-loop
-same-length-4 c = c .before .before .before .before .page .given ∙ c .before .before .before .before .before .before .before .before .before .before .before .before .before .before .before .before .before .before .loop .inv .4
+same-length-4 c =
+    let at-page = c .before .before .before .before in
+    let way = at-page .before .before .before .before .before .before .before .before .before in
+    let turn = way .before .before .before .before .before in
+    at-page .page .given ∙ turn .loop .inv .4
 
 same-length-5 : tie.Need-same-length-5 Inv-loop μ-loop
-same-length-5 c = c .before .before .before .before .before .before .before .before .before .before .before .before .before .before .before .before .before .before .loop .inv .5
+same-length-5 c =
+    let way = c .before .before .before .before .before .before .before .before .before in
+    let turn = way .before .before .before .before .before .before .before .before .before in
+    turn .loop .inv .5
 
 same-length-6 : tie.Need-same-length-6 Inv-loop μ-loop
-same-length-6 c = c .before .before .before .before .before .before .before .before .before .before .before .before .before .before .before .before .before .before .loop .inv .6
+same-length-6 c =
+    let way = c .before .before .before .before .before .before .before .before .before in
+    let turn = way .before .before .before .before .before .before .before .before .before in
+    turn .loop .inv .6
 
 same-length-7 : tie.Need-same-length-7 Inv-loop μ-loop
-same-length-7 c = c .before .before .before .before .before .before .before .before .before .before .before .before .before .before .before .before .before .before .loop .inv .7
+same-length-7 c =
+    let way = c .before .before .before .before .before .before .before .before .before in
+    let turn = way .before .before .before .before .before .before .before .before .before in
+    turn .loop .inv .7
 
 returns : tie.Need-returns Inv-loop μ-loop
 returns c =
-    let s = c .before .before .before .before .before .before .before .before .before .before .before .before .before .before .before .before .before .before .before .before .before .before .before .before .before .before .before .before .before in
-    let lp = c .before .before .before .before .before .before .before .before .before .before .before .before .before .before .before .before .before .before .loop in
-    let f = c .before .before .before .before .before .before .before .before .before .before .before .scan-block .ensures in
+    let way = c .before .before .before .before .before .before .before .before .before in
+    let at-scan-block = way .before .before in
+    let at-loop-test = at-scan-block .before .before .before .before .before .before in
+    let turn = at-loop-test .before in
+    let way-2 = turn .before .before .before .before .before .before .before .before .before in
+    let s = way-2 .before .before in
+    let lp = turn .loop in
+    let f = at-scan-block .scan-block .ensures in
     let t = other-by-tag _ (c .match .keys2) in
     let r = lp .inv .8 in
-    let stops = chip-stops (setting (s .args .g) (now (s .args .mask)) (now (s .args .fates))) (line (s .args .from) (now (s .args .array)) (now (s .args .register)) (now (s .args .history))) (line (lp .b) (lp .array) (lp .register) (lp .history)) (lp .block) (lp .found) (contents (now (s .args .kinds)) (now (s .args .logicals)) (now (s .args .numbers))) (contents (lp .kinds) (lp .logicals) (lp .numbers)) (c .before .before .before .before .before .before .before .before .before .before .before .before .before .before .before .before .before .loop-test .taken) r _ (c .before .before .before .before .before .before .before .before .before .before .before .scan-block .result .outcome) (f .0) (f .1 .0) t in
+    let stops = chip-stops (setting (s .args .g) (now (s .args .mask)) (now (s .args .fates))) (line (s .args .from) (now (s .args .array)) (now (s .args .register)) (now (s .args .history))) (line (lp .b) (lp .array) (lp .register) (lp .history)) (lp .block) (lp .found) (contents (now (s .args .kinds)) (now (s .args .logicals)) (now (s .args .numbers))) (contents (lp .kinds) (lp .logicals) (lp .numbers)) (at-loop-test .loop-test .taken) r _ (at-scan-block .scan-block .result .outcome) (f .0) (f .1 .0) t in
     (λ cs os. stops cs os .0, (λ cs os. stops cs os .1, (f .1 .1 .0 ∙ r .same-array, (f .1 .1 .1 .0 ∙ r .same-history, (λ p. absurd (false≢true (sym t ∙ p)), (λ p. absurd (false≢true (sym t ∙ p)), λ p. absurd (false≢true (sym t ∙ p))))))))
 
 note-requires : tie.Need-note-requires Inv-loop μ-loop
-note-requires c κs = omega (arith, c .before .before .before .before .before .before .before .before .before .before .before .before .before .before .before .before .before .before .before .loop-test .taken, c .before .before .before .before .before .before .before .before .before .before .before .before .before .before .before .before .before .before .before .before .loop .inv .8 .called .is-valid .blocks-most)
+note-requires c κs =
+    let way = c .before .before .before .before .before .before .before .before .before in
+    let way-2 = way .before .before .before .before .before .before .before .before .before in
+    let at-loop-test = way-2 .before in
+    let turn = at-loop-test .before in
+    omega (arith, at-loop-test .loop-test .taken, turn .loop .inv .8 .called .is-valid .blocks-most)
 
 note-copy-requires : tie.Need-note-copy-requires Inv-loop μ-loop
 note-copy-requires c κs =
-    let s = c .before .before .before .before .before .before .before .before .before .before .before .before .before .before .before .before .before .before .before .before .before .before .before .before .before .before .before .before .before .before .before .before .before .before .before in
-    let lp = c .before .before .before .before .before .before .before .before .before .before .before .before .before .before .before .before .before .before .before .before .before .before .before .before .loop in
-    (omega (arith, c .before .before .before .before .before .before .before .before .before .before .before .before .before .before .before .before .before .before .before .before .before .before .before .loop-test .taken, lp .inv .5, s .pre .1 .1 .0), (omega (arith, c .before .before .before .before .before .before .before .before .before .before .before .before .before .before .before .before .before .before .before .before .before .before .before .loop-test .taken, lp .inv .6, s .pre .1 .1 .1 .0), omega (arith, c .before .before .before .before .before .before .before .before .before .before .before .before .before .before .before .before .before .before .before .before .before .before .before .loop-test .taken, lp .inv .7, s .pre .1 .1 .1 .1)))
+    let way = c .before .before .before .before .before .before .before .before .before in
+    let way-2 = way .before .before .before .before .before .before .before .before .before in
+    let at-loop-test = way-2 .before .before .before .before .before in
+    let turn = at-loop-test .before in
+    let way-3 = turn .before .before .before .before .before .before .before .before .before in
+    let s = way-3 .before .before in
+    let lp = turn .loop in
+    (omega (arith, at-loop-test .loop-test .taken, lp .inv .5, s .pre .1 .1 .0), (omega (arith, at-loop-test .loop-test .taken, lp .inv .6, s .pre .1 .1 .1 .0), omega (arith, at-loop-test .loop-test .taken, lp .inv .7, s .pre .1 .1 .1 .1)))
 
 add-block : tie.Need-add-block Inv-loop μ-loop
-add-block c = search (needs, c .before .before .before .before .before .before .before .before .before .before .before .before .before .before .before .before .before .before .before .before .before .before .before .before .before .before .before .before .before .before .loop-test .taken, c .before .before .before .before .before .before .before .before .before .before .before .before .before .before .before .before .before .before .before .before .before .before .before .before .before .before .before .before .before .before .before .loop .inv .8 .called .is-valid .blocks-most)
+add-block c =
+    let way = c .before .before .before .before .before .before .before .before .before in
+    let way-2 = way .before .before .before .before .before .before .before .before .before in
+    let way-3 = way-2 .before .before .before .before .before .before .before .before .before in
+    let at-loop-test = way-3 .before .before .before in
+    let turn = at-loop-test .before in
+    search (needs, at-loop-test .loop-test .taken, turn .loop .inv .8 .called .is-valid .blocks-most)
 
 loop-less : tie.Need-loop-less Inv-loop μ-loop
-loop-less c = omega (arith, c .before .before .before .before .before .before .before .before .before .before .before .before .before .before .before .before .before .before .before .before .before .before .before .before .before .before .before .before .before .before .loop-test .taken)
+loop-less c =
+    let way = c .before .before .before .before .before .before .before .before .before in
+    let way-2 = way .before .before .before .before .before .before .before .before .before in
+    let way-3 = way-2 .before .before .before .before .before .before .before .before .before in
+    let at-loop-test = way-3 .before .before .before in
+    omega (arith, at-loop-test .loop-test .taken)
 
 loop-again : tie.Need-loop-again Inv-loop μ-loop
 loop-again c =
-    let s = c .before .before .before .before .before .before .before .before .before .before .before .before .before .before .before .before .before .before .before .before .before .before .before .before .before .before .before .before .before .before .before .before .before .before .before .before .before .before .before .before .before .before in
-    let lp = c .before .before .before .before .before .before .before .before .before .before .before .before .before .before .before .before .before .before .before .before .before .before .before .before .before .before .before .before .before .before .before .loop in
-    let f = c .before .before .before .before .before .before .before .before .before .before .before .before .before .before .before .before .before .before .before .before .before .before .before .before .scan-block .ensures in
-    let p = passed-by-tag _ (c .before .before .before .before .before .before .before .before .before .before .before .before .before .match .keys1) in
+    let at-kinds = c .before .before .before .before .before in
+    let at-note-copy = at-kinds .before in
+    let at-note = at-note-copy .before .before .before .before in
+    let at-match = at-note .before .before .before in
+    let at-page = at-match .before .before .before .before in
+    let at-history = at-page .before .before in
+    let at-register = at-history .before .before in
+    let at-array = at-register .before .before in
+    let at-scan-block = at-array .before in
+    let at-loop-test = at-scan-block .before .before .before .before .before .before in
+    let turn = at-loop-test .before in
+    let way = turn .before .before .before .before .before .before .before .before .before in
+    let s = way .before .before in
+    let lp = turn .loop in
+    let f = at-scan-block .scan-block .ensures in
+    let p = passed-by-tag _ (at-match .match .keys1) in
     let t = is-passed _ p in (
-      omega (arith, c .before .before .before .before .before .before .before .before .before .before .before .before .before .before .before .before .before .before .before .before .before .before .before .before .before .before .before .before .before .before .loop-test .taken),
-      c .before .before .before .before .before .before .before .before .before .before .before .before .before .before .before .before .before .before .before .before .before .before .before .array .given ∙ lp .inv .1,
-      c .before .before .before .before .before .before .before .before .before .before .before .before .before .before .before .before .before .before .before .before .before .register .given ∙ lp .inv .2,
-      c .before .before .before .before .before .before .before .before .before .before .before .before .before .before .before .before .before .before .before .history .given ∙ lp .inv .3,
-      c .before .before .before .before .before .before .before .before .before .before .before .before .before .before .before .before .before .page .given ∙ lp .inv .4,
-      c .before .before .before .before .before .kinds .given ∙ lp .inv .5,
+      omega (arith, at-loop-test .loop-test .taken),
+      at-array .array .given ∙ lp .inv .1,
+      at-register .register .given ∙ lp .inv .2,
+      at-history .history .given ∙ lp .inv .3,
+      at-page .page .given ∙ lp .inv .4,
+      at-kinds .kinds .given ∙ lp .inv .5,
       c .before .before .before .logicals .given ∙ lp .inv .6,
       c .before .numbers .given ∙ lp .inv .7,
-      chip-goes (setting (s .args .g) (now (s .args .mask)) (now (s .args .fates))) (line (s .args .from) (now (s .args .array)) (now (s .args .register)) (now (s .args .history))) (line (lp .b) (lp .array) (lp .register) (lp .history)) (lp .block) (lp .found) (contents (now (s .args .kinds)) (now (s .args .logicals)) (now (s .args .numbers))) (contents (lp .kinds) (lp .logicals) (lp .numbers)) (c .before .before .before .before .before .before .before .before .before .before .before .before .before .before .before .before .before .before .before .before .before .before .before .before .before .before .before .before .before .before .loop-test .taken) (lp .inv .8) _ (c .before .before .before .before .before .before .before .before .before .before .before .before .before .before .before .before .before .before .before .before .before .before .before .before .scan-block .result .outcome) (f .0) (f .1 .0) t (f .1 .1 .1 .1 .0 p) (f .1 .1 .0) (f .1 .1 .1 .0) (c .before .before .before .before .before .before .before .before .before .before .before .before .before .before .before .before .before .before .before .before .before .before .before .before .scan-block .result .summary) (c .before .before .before .before .before .before .before .before .before .before .before .before .before .before .before .before .before .before .before .before .before .before .before .before .scan-block .result .right) _ (f .1 .1 .1 .1 .1 .0 p) (f .1 .1 .1 .1 .1 .1 .0 p) (f .1 .1 .1 .1 .1 .1 .1 p) (c .before .before .before .before .before .before .before .before .before .before .note .ensures) (c .before .before .before .before .before .before .note-copy .ensures),
+      chip-goes (setting (s .args .g) (now (s .args .mask)) (now (s .args .fates))) (line (s .args .from) (now (s .args .array)) (now (s .args .register)) (now (s .args .history))) (line (lp .b) (lp .array) (lp .register) (lp .history)) (lp .block) (lp .found) (contents (now (s .args .kinds)) (now (s .args .logicals)) (now (s .args .numbers))) (contents (lp .kinds) (lp .logicals) (lp .numbers)) (at-loop-test .loop-test .taken) (lp .inv .8) _ (at-scan-block .scan-block .result .outcome) (f .0) (f .1 .0) t (f .1 .1 .1 .1 .0 p) (f .1 .1 .0) (f .1 .1 .1 .0) (at-scan-block .scan-block .result .summary) (at-scan-block .scan-block .result .right) _ (f .1 .1 .1 .1 .1 .0 p) (f .1 .1 .1 .1 .1 .1 .0 p) (f .1 .1 .1 .1 .1 .1 .1 p) (at-note .note .ensures) (at-note-copy .note-copy .ensures),
     )
 
 same-length-8 : tie.Need-same-length-8 Inv-loop μ-loop
@@ -132,7 +199,8 @@ same-length-14 c = c .before .loop .inv .7
 
 returns-2 : tie.Need-returns-2 Inv-loop μ-loop
 returns-2 c =
-    let s = c .before .before .before .before .before .before .before .before .before .before .before .before in
+    let way = c .before .before .before .before .before .before .before .before .before in
+    let s = way .before .before .before in
     let lp = c .before .loop in
     let e : lp .block ≡ s .args .g .blocks = omega arith in
     let r = subst (λ (k : ℕ). Through (setting (s .args .g) (now (s .args .mask)) (now (s .args .fates))) (line (s .args .from) (now (s .args .array)) (now (s .args .register)) (now (s .args .history))) (line (lp .b) (lp .array) (lp .register) (lp .history)) k (lp .found) (contents (now (s .args .kinds)) (now (s .args .logicals)) (now (s .args .numbers))) (contents (lp .kinds) (lp .logicals) (lp .numbers))) e (lp .inv .8) in

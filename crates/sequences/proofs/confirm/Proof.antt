@@ -20,7 +20,11 @@ same-length-3 : tie.Need-same-length-3
 same-length-3 c = search needs
 
 returns : tie.Need-returns
-returns c = onward _ _ _ _ (c .before .before .before .before .before .before .before .before .before .before .before .before .before .before .before .before .command .ensures) (lone _ _ _ (c .before .before .before .before .before .before .command2 .ensures))
+returns c =
+    let at-command2 = c .before .before .before .before .before .before in
+    let way = at-command2 .before .before .before .before .before .before .before .before .before in
+    let at-command = way .before in
+    onward _ _ _ _ (at-command .command .ensures) (lone _ _ _ (at-command2 .command2 .ensures))
 
 pub confirm-spec : {M : Type 1} → statement M
 confirm-spec =

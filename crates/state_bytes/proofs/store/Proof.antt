@@ -39,10 +39,20 @@ write-bitmaps-requires : tie.Need-write-bitmaps-requires
 write-bitmaps-requires c κs = search needs
 
 slice-aggregate-write-map : tie.Need-slice-aggregate-write-map
-slice-aggregate-write-map c = sym (map-long (c .before .before .before .before .before .before .before .before .before .before .before .before .before .before .before .before .before .before .before .before .before .before .before .before .before .before .before .before))
+slice-aggregate-write-map c =
+    let way = c .before .before .before .before .before .before .before .before .before in
+    let way-2 = way .before .before .before .before .before .before .before .before .before in
+    let way-3 = way-2 .before .before .before .before .before .before .before .before .before in
+    let place = way-3 .before in
+    sym (map-long (place))
 
 write-map-requires : tie.Need-write-map-requires
-write-map-requires c κs = (omega arith, map-long (c .before .before .before .before .before .before .before .before .before .before .before .before .before .before .before .before .before .before .before .before .before .before .before .before .before .before .before .before))
+write-map-requires c κs =
+    let way = c .before .before .before .before .before .before .before .before .before in
+    let way-2 = way .before .before .before .before .before .before .before .before .before in
+    let way-3 = way-2 .before .before .before .before .before .before .before .before .before in
+    let place = way-3 .before in
+    (omega arith, map-long (place))
 
 same-length : tie.Need-same-length
 same-length c = search needs

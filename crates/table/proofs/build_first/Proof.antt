@@ -12,7 +12,11 @@ use Rattle.table.proofs.TableLaws.{built, copied}
 
 -- the page stays as long as it is
 fourth : (c : tie.After-write-pair4) → length (c .write-pair4 .last .0) ≡ length (c .before .before .before .before .before .before .before .before .before .before .before .before .before .before .before .before .before .before .args .main .now)
-fourth c = c .write-pair4 .kept .0 ∙ c .before .before .before .before .write-pair3 .kept .0 ∙ c .before .before .before .before .before .before .before .before .write-pair2 .kept .0 ∙ c .before .before .before .before .before .before .before .before .before .before .before .before .write-pair .kept .0
+fourth c =
+    let at-write-pair3 = c .before .before .before .before in
+    let at-write-pair2 = at-write-pair3 .before .before .before .before in
+    let at-write-pair = at-write-pair2 .before .before .before .before in
+    c .write-pair4 .kept .0 ∙ at-write-pair3 .write-pair3 .kept .0 ∙ at-write-pair2 .write-pair2 .kept .0 ∙ at-write-pair .write-pair .kept .0
 
 count-set-requires : tie.Need-count-set-requires
 count-set-requires c κs = search needs

@@ -44,13 +44,28 @@ count-set-requires : tie.Need-count-set-requires
 count-set-requires c κs = search needs
 
 returns-3 : tie.Need-returns-3
-returns-3 c = wrong-count (c .before .before .before .before .before .before .before .before .before .before .args .blocks) (c .before .before .before .before .before .before .before .before .before .before .args .logical) (now (c .before .before .before .before .before .before .before .before .before .before .args .main)) (sym (c .before .before .before .before .before .before .before .before .pair-at .ensures) ∙ c .before .before .before .before .before .before .before .if1 .left) (sym (c .before .before .before .before .before .before .pair-at2 .ensures) ∙ c .before .before .before .before .before .if2 .left) (λ e. c .if3 .taken (c .before .before .pair-at3 .ensures ∙ e ∙ sym (c .before .count-set .ensures ∙ ap (λ (x : List ℕ). countBits x (c .before .before .before .before .before .before .before .before .before .before .args .blocks)) (bits-are (c .before .before .before .before .before .before .before .before .before .before .args .blocks) (c .before .before .before .before .bitmap-bytes .result) (now (c .before .before .before .before .before .before .before .before .before .before .args .main)) (c .before .before .before .before .bitmap-bytes .ensures)))))
+returns-3 c =
+    let at-bitmap-bytes = c .before .before .before .before in
+    let at-if2 = at-bitmap-bytes .before in
+    let at-pair-at2 = at-if2 .before in
+    let at-if1 = at-pair-at2 .before in
+    let at-pair-at = at-if1 .before in
+    let entry = at-pair-at .before .before in
+    wrong-count (entry .args .blocks) (entry .args .logical) (now (entry .args .main)) (sym (at-pair-at .pair-at .ensures) ∙ at-if1 .if1 .left) (sym (at-pair-at2 .pair-at2 .ensures) ∙ at-if2 .if2 .left) (λ e. c .if3 .taken (c .before .before .pair-at3 .ensures ∙ e ∙ sym (c .before .count-set .ensures ∙ ap (λ (x : List ℕ). countBits x (entry .args .blocks)) (bits-are (entry .args .blocks) (at-bitmap-bytes .bitmap-bytes .result) (now (entry .args .main)) (at-bitmap-bytes .bitmap-bytes .ensures)))))
 
 pair-at-requires-4 : tie.Need-pair-at-requires-4
 pair-at-requires-4 c κs = search needs
 
 returns-4 : tie.Need-returns-4
-returns-4 c = wrong-offset (c .before .before .before .before .before .before .before .before .before .before .before .before .args .blocks) (c .before .before .before .before .before .before .before .before .before .before .before .before .args .logical) (now (c .before .before .before .before .before .before .before .before .before .before .before .before .args .main)) (sym (c .before .before .before .before .before .before .before .before .before .before .pair-at .ensures) ∙ c .before .before .before .before .before .before .before .before .before .if1 .left) (sym (c .before .before .before .before .before .before .before .before .pair-at2 .ensures) ∙ c .before .before .before .before .before .before .before .if2 .left) (sym (c .before .before .before .before .pair-at3 .ensures) ∙ c .before .before .if3 .left ∙ (c .before .before .before .count-set .ensures ∙ ap (λ (x : List ℕ). countBits x (c .before .before .before .before .before .before .before .before .before .before .before .before .args .blocks)) (bits-are (c .before .before .before .before .before .before .before .before .before .before .before .before .args .blocks) (c .before .before .before .before .before .before .bitmap-bytes .result) (now (c .before .before .before .before .before .before .before .before .before .before .before .before .args .main)) (c .before .before .before .before .before .before .bitmap-bytes .ensures)))) (λ e. c .if4 .taken (c .before .pair-at4 .ensures ∙ e))
+returns-4 c =
+    let at-pair-at3 = c .before .before .before .before in
+    let at-bitmap-bytes = at-pair-at3 .before .before in
+    let at-if2 = at-bitmap-bytes .before in
+    let at-pair-at2 = at-if2 .before in
+    let at-if1 = at-pair-at2 .before in
+    let at-pair-at = at-if1 .before in
+    let entry = at-pair-at .before .before in
+    wrong-offset (entry .args .blocks) (entry .args .logical) (now (entry .args .main)) (sym (at-pair-at .pair-at .ensures) ∙ at-if1 .if1 .left) (sym (at-pair-at2 .pair-at2 .ensures) ∙ at-if2 .if2 .left) (sym (at-pair-at3 .pair-at3 .ensures) ∙ c .before .before .if3 .left ∙ (c .before .before .before .count-set .ensures ∙ ap (λ (x : List ℕ). countBits x (entry .args .blocks)) (bits-are (entry .args .blocks) (at-bitmap-bytes .bitmap-bytes .result) (now (entry .args .main)) (at-bitmap-bytes .bitmap-bytes .ensures)))) (λ e. c .if4 .taken (c .before .pair-at4 .ensures ∙ e))
 
 mul-is-clear-from : tie.Need-mul-is-clear-from
 mul-is-clear-from c = search needs
@@ -71,10 +86,32 @@ all-ones-requires : tie.Need-all-ones-requires
 all-ones-requires c κs = search needs
 
 returns-5 : tie.Need-returns-5
-returns-5 c = c .all-ones .ensures ∙ ap allOnes (rest-is (c .before .before .before .before .before .before .before .before .before .before .before .before .before .before .before .before .args .blocks) (c .before .before .before .before .before .before .before .before .before .before .bitmap-bytes .result) (now (c .before .before .before .before .before .before .before .before .before .before .before .before .before .before .before .before .args .main)) (c .before .before .before .before .before .before .before .before .before .before .bitmap-bytes .ensures)) ∙ right-rest (c .before .before .before .before .before .before .before .before .before .before .before .before .before .before .before .before .args .blocks) (c .before .before .before .before .before .before .before .before .before .before .before .before .before .before .before .before .args .logical) (now (c .before .before .before .before .before .before .before .before .before .before .before .before .before .before .before .before .args .main)) (sym (c .before .before .before .before .before .before .before .before .before .before .before .before .before .before .pair-at .ensures) ∙ c .before .before .before .before .before .before .before .before .before .before .before .before .before .if1 .left) (sym (c .before .before .before .before .before .before .before .before .before .before .before .before .pair-at2 .ensures) ∙ c .before .before .before .before .before .before .before .before .before .before .before .if2 .left) (sym (c .before .before .before .before .before .before .before .before .pair-at3 .ensures) ∙ c .before .before .before .before .before .before .if3 .left ∙ (c .before .before .before .before .before .before .before .count-set .ensures ∙ ap (λ (x : List ℕ). countBits x (c .before .before .before .before .before .before .before .before .before .before .before .before .before .before .before .before .args .blocks)) (bits-are (c .before .before .before .before .before .before .before .before .before .before .before .before .before .before .before .before .args .blocks) (c .before .before .before .before .before .before .before .before .before .before .bitmap-bytes .result) (now (c .before .before .before .before .before .before .before .before .before .before .before .before .before .before .before .before .args .main)) (c .before .before .before .before .before .before .before .before .before .before .bitmap-bytes .ensures)))) (sym (c .before .before .before .before .before .pair-at4 .ensures) ∙ c .before .before .before .before .if4 .left) (ap₂ (λ (x : List ℕ) (k : ℕ). clearFrom x (c .before .before .before .before .before .before .before .before .before .before .before .before .before .before .before .before .args .blocks) (8 * k - c .before .before .before .before .before .before .before .before .before .before .before .before .before .before .before .before .args .blocks)) (sym (bits-are (c .before .before .before .before .before .before .before .before .before .before .before .before .before .before .before .before .args .blocks) (c .before .before .before .before .before .before .before .before .before .before .bitmap-bytes .result) (now (c .before .before .before .before .before .before .before .before .before .before .before .before .before .before .before .before .args .main)) (c .before .before .before .before .before .before .before .before .before .before .bitmap-bytes .ensures))) (sym (c .before .before .before .before .before .before .before .before .before .before .bitmap-bytes .ensures)) ∙ sym (c .before .before .before .is-clear-from .ensures) ∙ c .before .before .if5 .taken)
+returns-5 c =
+    let at-if4 = c .before .before .before .before in
+    let at-pair-at4 = at-if4 .before in
+    let at-if3 = at-pair-at4 .before in
+    let at-count-set = at-if3 .before in
+    let at-pair-at3 = at-count-set .before in
+    let at-bitmap-bytes = at-pair-at3 .before .before in
+    let at-if2 = at-bitmap-bytes .before in
+    let at-pair-at2 = at-if2 .before in
+    let at-if1 = at-pair-at2 .before in
+    let at-pair-at = at-if1 .before in
+    let entry = at-pair-at .before .before in
+    c .all-ones .ensures ∙ ap allOnes (rest-is (entry .args .blocks) (at-bitmap-bytes .bitmap-bytes .result) (now (entry .args .main)) (at-bitmap-bytes .bitmap-bytes .ensures)) ∙ right-rest (entry .args .blocks) (entry .args .logical) (now (entry .args .main)) (sym (at-pair-at .pair-at .ensures) ∙ at-if1 .if1 .left) (sym (at-pair-at2 .pair-at2 .ensures) ∙ at-if2 .if2 .left) (sym (at-pair-at3 .pair-at3 .ensures) ∙ at-if3 .if3 .left ∙ (at-count-set .count-set .ensures ∙ ap (λ (x : List ℕ). countBits x (entry .args .blocks)) (bits-are (entry .args .blocks) (at-bitmap-bytes .bitmap-bytes .result) (now (entry .args .main)) (at-bitmap-bytes .bitmap-bytes .ensures)))) (sym (at-pair-at4 .pair-at4 .ensures) ∙ at-if4 .if4 .left) (ap₂ (λ (x : List ℕ) (k : ℕ). clearFrom x (entry .args .blocks) (8 * k - entry .args .blocks)) (sym (bits-are (entry .args .blocks) (at-bitmap-bytes .bitmap-bytes .result) (now (entry .args .main)) (at-bitmap-bytes .bitmap-bytes .ensures))) (sym (at-bitmap-bytes .bitmap-bytes .ensures)) ∙ sym (c .before .before .before .is-clear-from .ensures) ∙ c .before .before .if5 .taken)
 
 returns-6 : tie.Need-returns-6
-returns-6 c = wrong-bits (c .before .before .before .before .before .before .before .before .before .before .before .before .before .before .args .blocks) (c .before .before .before .before .before .before .before .before .before .before .before .before .before .before .args .logical) (now (c .before .before .before .before .before .before .before .before .before .before .before .before .before .before .args .main)) (sym (c .before .before .before .before .before .before .before .before .before .before .before .before .pair-at .ensures) ∙ c .before .before .before .before .before .before .before .before .before .before .before .if1 .left) (sym (c .before .before .before .before .before .before .before .before .before .before .pair-at2 .ensures) ∙ c .before .before .before .before .before .before .before .before .before .if2 .left) (sym (c .before .before .before .before .before .before .pair-at3 .ensures) ∙ c .before .before .before .before .if3 .left ∙ (c .before .before .before .before .before .count-set .ensures ∙ ap (λ (x : List ℕ). countBits x (c .before .before .before .before .before .before .before .before .before .before .before .before .before .before .args .blocks)) (bits-are (c .before .before .before .before .before .before .before .before .before .before .before .before .before .before .args .blocks) (c .before .before .before .before .before .before .before .before .bitmap-bytes .result) (now (c .before .before .before .before .before .before .before .before .before .before .before .before .before .before .args .main)) (c .before .before .before .before .before .before .before .before .bitmap-bytes .ensures)))) (sym (c .before .before .before .pair-at4 .ensures) ∙ c .before .before .if4 .left) (ap₂ (λ (x : List ℕ) (k : ℕ). clearFrom x (c .before .before .before .before .before .before .before .before .before .before .before .before .before .before .args .blocks) (8 * k - c .before .before .before .before .before .before .before .before .before .before .before .before .before .before .args .blocks)) (sym (bits-are (c .before .before .before .before .before .before .before .before .before .before .before .before .before .before .args .blocks) (c .before .before .before .before .before .before .before .before .bitmap-bytes .result) (now (c .before .before .before .before .before .before .before .before .before .before .before .before .before .before .args .main)) (c .before .before .before .before .before .before .before .before .bitmap-bytes .ensures))) (sym (c .before .before .before .before .before .before .before .before .bitmap-bytes .ensures)) ∙ sym (c .before .is-clear-from .ensures) ∙ c .if5 .left)
+returns-6 c =
+    let at-if3 = c .before .before .before .before in
+    let at-count-set = at-if3 .before in
+    let at-pair-at3 = at-count-set .before in
+    let at-bitmap-bytes = at-pair-at3 .before .before in
+    let at-if2 = at-bitmap-bytes .before in
+    let at-pair-at2 = at-if2 .before in
+    let at-if1 = at-pair-at2 .before in
+    let at-pair-at = at-if1 .before in
+    let entry = at-pair-at .before .before in
+    wrong-bits (entry .args .blocks) (entry .args .logical) (now (entry .args .main)) (sym (at-pair-at .pair-at .ensures) ∙ at-if1 .if1 .left) (sym (at-pair-at2 .pair-at2 .ensures) ∙ at-if2 .if2 .left) (sym (at-pair-at3 .pair-at3 .ensures) ∙ at-if3 .if3 .left ∙ (at-count-set .count-set .ensures ∙ ap (λ (x : List ℕ). countBits x (entry .args .blocks)) (bits-are (entry .args .blocks) (at-bitmap-bytes .bitmap-bytes .result) (now (entry .args .main)) (at-bitmap-bytes .bitmap-bytes .ensures)))) (sym (c .before .before .before .pair-at4 .ensures) ∙ c .before .before .if4 .left) (ap₂ (λ (x : List ℕ) (k : ℕ). clearFrom x (entry .args .blocks) (8 * k - entry .args .blocks)) (sym (bits-are (entry .args .blocks) (at-bitmap-bytes .bitmap-bytes .result) (now (entry .args .main)) (at-bitmap-bytes .bitmap-bytes .ensures))) (sym (at-bitmap-bytes .bitmap-bytes .ensures)) ∙ sym (c .before .is-clear-from .ensures) ∙ c .if5 .left)
 
 pub is-right-first-spec : {M : Type 1} → statement M
 is-right-first-spec =

@@ -59,7 +59,9 @@ loop-less c = omega arith
 
 loop-again : tie.Need-loop-again Inv-loop μ-loop
 loop-again c =
-    let a = c .before .before .before .before .before .before .before .before .before .before .args in
+    let way = c .before .before .before .before .before .before .before .before .before in
+    let entry = way .before in
+    let a = entry .args in
     let l = c .before .before .before .loop in
     let block = c .before .wide .result in
     let on = takes-block (a .self .map) (a .blocks) (l .taken) (c .if1 .taken) (a .logical) (l .l) (l .unsound) (c .if1 .unsound) block (c .before .before .loop-test .taken) (c .before .wide .ensures) in

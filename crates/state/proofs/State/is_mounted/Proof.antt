@@ -36,7 +36,10 @@ slice-aggregate-is-never-both-2 : tie.Need-slice-aggregate-is-never-both-2
 slice-aggregate-is-never-both-2 c = search needs
 
 is-never-both-requires : tie.Need-is-never-both-requires
-is-never-both-requires c κs = let h : length (c .before .before .before .before .before .before .before .before .before .before .before .before .args .self .marked) ≡ 512 = search needs in let g : length (c .before .before .before .before .before .before .before .before .before .before .before .before .args .self .invalid) ≡ 512 = search needs in (omega (arith, h), omega (arith, g))
+is-never-both-requires c κs =
+    let way = c .before .before .before .before .before .before .before .before .before in
+    let entry = way .before .before .before in
+    let h : length (entry .args .self .marked) ≡ 512 = search needs in let g : length (entry .args .self .invalid) ≡ 512 = search needs in (omega (arith, h), omega (arith, g))
 
 has-sound-entries-requires : tie.Need-has-sound-entries-requires
 has-sound-entries-requires c κs = search needs
@@ -44,18 +47,36 @@ has-sound-entries-requires c κs = search needs
 returns-3 : tie.Need-returns-3
 unfolding mounted
 returns-3 c =
-    rw (eq-eqb (c .before .before .before .before .before .before .before .before .before .before .before .before .before .before .before .args .self .status) 1 (c .before .before .before .before .before .before .before .before .before .before .before .before .before .before .if1 .left), lt-ltb (c .before .before .before .before .before .before .before .before .before .before .before .before .before .before .before .args .self .last) (c .before .before .before .before .before .before .before .before .before .before .before .before .before .before .before .args .blocks) (c .before .before .before .before .before .before .before .before .before .before .before .before .before .if2 .left), sym (c .before .before .before .before .before .before .before .before .before .is-clear-from .ensures) ∙ c .before .before .before .before .before .before .before .before .if3 .taken, sym (c .before .before .before .before .before .before .is-clear-from2 .ensures) ∙ c .before .before .before .before .before .if4 .taken, sym (c .before .before .is-never-both .ensures) ∙ c .before .if5 .taken)
+    let at-if4 = c .before .before .before .before .before in
+    let at-is-clear-from2 = at-if4 .before in
+    let at-if3 = at-is-clear-from2 .before .before in
+    let at-is-clear-from = at-if3 .before in
+    let at-if2 = at-is-clear-from .before .before .before .before in
+    let at-if1 = at-if2 .before in
+    let entry = at-if1 .before in
+    rw (eq-eqb (entry .args .self .status) 1 (at-if1 .if1 .left), lt-ltb (entry .args .self .last) (entry .args .blocks) (at-if2 .if2 .left), sym (at-is-clear-from .is-clear-from .ensures) ∙ at-if3 .if3 .taken, sym (at-is-clear-from2 .is-clear-from2 .ensures) ∙ at-if4 .if4 .taken, sym (c .before .before .is-never-both .ensures) ∙ c .before .if5 .taken)
     (c .has-sound-entries .ensures)
 
 returns-4 : tie.Need-returns-4
 unfolding mounted
 returns-4 c =
-    rw (eq-eqb (c .before .before .before .before .before .before .before .before .before .before .before .before .before .before .args .self .status) 1 (c .before .before .before .before .before .before .before .before .before .before .before .before .before .if1 .left), lt-ltb (c .before .before .before .before .before .before .before .before .before .before .before .before .before .before .args .self .last) (c .before .before .before .before .before .before .before .before .before .before .before .before .before .before .args .blocks) (c .before .before .before .before .before .before .before .before .before .before .before .before .if2 .left), sym (c .before .before .before .before .before .before .before .before .is-clear-from .ensures) ∙ c .before .before .before .before .before .before .before .if3 .taken, sym (c .before .before .before .before .before .is-clear-from2 .ensures) ∙ c .before .before .before .before .if4 .taken, sym (c .before .is-never-both .ensures) ∙ c .if5 .left)
+    let at-if4 = c .before .before .before .before in
+    let at-is-clear-from2 = at-if4 .before in
+    let at-if3 = at-is-clear-from2 .before .before in
+    let at-is-clear-from = at-if3 .before in
+    let at-if2 = at-is-clear-from .before .before .before .before in
+    let at-if1 = at-if2 .before in
+    let entry = at-if1 .before in
+    rw (eq-eqb (entry .args .self .status) 1 (at-if1 .if1 .left), lt-ltb (entry .args .self .last) (entry .args .blocks) (at-if2 .if2 .left), sym (at-is-clear-from .is-clear-from .ensures) ∙ at-if3 .if3 .taken, sym (at-is-clear-from2 .is-clear-from2 .ensures) ∙ at-if4 .if4 .taken, sym (c .before .is-never-both .ensures) ∙ c .if5 .left)
 
 returns-5 : tie.Need-returns-5
 unfolding mounted
 returns-5 c =
-    rw (eq-eqb (c .before .before .before .before .before .before .before .before .before .before .args .self .status) 1 (c .before .before .before .before .before .before .before .before .before .if1 .left), lt-ltb (c .before .before .before .before .before .before .before .before .before .before .args .self .last) (c .before .before .before .before .before .before .before .before .before .before .args .blocks) (c .before .before .before .before .before .before .before .before .if2 .left), sym (c .before .before .before .before .is-clear-from .ensures) ∙ c .before .before .before .if3 .taken, sym (c .before .is-clear-from2 .ensures) ∙ c .if4 .left)
+    let at-is-clear-from = c .before .before .before .before in
+    let at-if2 = at-is-clear-from .before .before .before .before in
+    let at-if1 = at-if2 .before in
+    let entry = at-if1 .before in
+    rw (eq-eqb (entry .args .self .status) 1 (at-if1 .if1 .left), lt-ltb (entry .args .self .last) (entry .args .blocks) (at-if2 .if2 .left), sym (at-is-clear-from .is-clear-from .ensures) ∙ c .before .before .before .if3 .taken, sym (c .before .is-clear-from2 .ensures) ∙ c .if4 .left)
 
 returns-6 : tie.Need-returns-6
 unfolding mounted

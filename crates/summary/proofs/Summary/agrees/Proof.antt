@@ -32,14 +32,14 @@ number-of-requires c κs = search needs
 
 returns-3 : tie.Need-returns-3
 unfolding labelOf
-returns-3 c = other-number (label (c .before .before .before .before .before .before .before .before .args .self .kind) (c .before .before .before .before .before .before .before .before .args .self .logical) 0 (c .before .before .before .before .before .before .before .before .args .self .number)) (c .before .before .before .before .before .before .before .before .args .place) (labelOf (c .before .before .before .before .before .before .before .before .args .main) (now (c .before .before .before .before .before .before .before .before .args .page))) (sym (c .before .before .before .before .before .before .kind-of .ensures) ∙ sym (c .before .before .before .before .before .wide .ensures) ∙ c .before .before .before .before .if1 .left) (sym (c .before .before .before .logical-of .ensures) ∙ c .before .before .if2 .left) (λ e. c .if3 .taken (c .before .number-of .ensures .0 ∙ e))
+returns-3 c = other-number (label (c .before .before .before .before .before .before .before .before .args .self .kind) (c .before .before .before .before .before .before .before .before .args .self .logical) 0 (c .before .before .before .before .before .before .before .before .args .self .number)) (c .before .before .before .before .before .before .before .before .args .place) (labelOf (c .before .before .before .before .before .before .before .before .args .main) (now (c .before .before .before .before .before .before .before .before .args .page))) (sym (c .before .before .before .before .before .before .kind-of .ensures) ∙ sym (c .before .before .before .before .before .wide .ensures) ∙ c .before .before .before .before .if1 .left) (sym (c .before .before .before .logical-of .ensures) ∙ c .before .before .if2 .left) (λ e. c .if3 .taken (c .before .number-of .ensures ∙ e))
 
 place-of-requires : tie.Need-place-of-requires
 place-of-requires c κs = search needs
 
 returns-4 : tie.Need-returns-4
 unfolding labelOf
-returns-4 c = ap (λ (x : ℕ). eqb x (c .before .before .before .before .before .before .before .before .before .args .place)) (c .place-of .ensures) ∙ same-copy (label (c .before .before .before .before .before .before .before .before .before .args .self .kind) (c .before .before .before .before .before .before .before .before .before .args .self .logical) 0 (c .before .before .before .before .before .before .before .before .before .args .self .number)) (c .before .before .before .before .before .before .before .before .before .args .place) (labelOf (c .before .before .before .before .before .before .before .before .before .args .main) (now (c .before .before .before .before .before .before .before .before .before .args .page))) (sym (c .before .before .before .before .before .before .before .kind-of .ensures) ∙ sym (c .before .before .before .before .before .before .wide .ensures) ∙ c .before .before .before .before .before .if1 .left) (sym (c .before .before .before .before .logical-of .ensures) ∙ c .before .before .before .if2 .left) (sym (c .before .before .number-of .ensures .0) ∙ c .before .if3 .left)
+returns-4 c = ap (λ (x : ℕ). eqb x (c .before .before .before .before .before .before .before .before .before .args .place)) (c .place-of .ensures) ∙ same-copy (label (c .before .before .before .before .before .before .before .before .before .args .self .kind) (c .before .before .before .before .before .before .before .before .before .args .self .logical) 0 (c .before .before .before .before .before .before .before .before .before .args .self .number)) (c .before .before .before .before .before .before .before .before .before .args .place) (labelOf (c .before .before .before .before .before .before .before .before .before .args .main) (now (c .before .before .before .before .before .before .before .before .before .args .page))) (sym (c .before .before .before .before .before .before .before .kind-of .ensures) ∙ sym (c .before .before .before .before .before .before .wide .ensures) ∙ c .before .before .before .before .before .if1 .left) (sym (c .before .before .before .before .logical-of .ensures) ∙ c .before .before .before .if2 .left) (sym (c .before .before .number-of .ensures) ∙ c .before .if3 .left)
 
 pub agrees-spec : {M : Type 1} → statement M
 agrees-spec =
