@@ -9,12 +9,13 @@ ghost use Prim.Native.Nat.{_*_, _≤_, _<_};
 ghost use lib.ListN.{length, take, getD};
 ghost use Rattle.geometry.specs.Limits.{Valid};
 ghost use Rattle.geometry.specs.Sizes.{pageSize, rowOf};
+ghost use Rattle.interface.specs.Interface.{outputPhase};
 ghost use Rattle.array.specs.Device.{setting};
 ghost use Rattle.bus.specs.Line.{line, sendAll};
 ghost use Rattle.polling.specs.Outcomes.{isPassed};
 ghost use Rattle.polling.specs.Polling.{outcomeOf};
 ghost use Rattle.sequences.specs.Cycles.{programCycles};
-ghost use Rattle.operations.specs.Ends.{Called};
+ghost use Rattle.operations.specs.Ends.{Called, Lent};
 ghost use Rattle.progress.specs.Steps.{ComesTo};
 ghost use Rattle.fill.specs.Fill.{copy, copyPage, Fillable, mainOf, mainRead, erasedFor, dataSource, isGiven, givenMain};
 
@@ -70,7 +71,7 @@ pub fn program_page(
     operations::program(from, g, array, register, history, mask, fates, row, page)
 }
 
-// Erases the block before its first page.
+// Erases the block before its first page. The chip need not be ready for the erase.
 pub fn erase_for(
     from: Bus,
     g: Geometry,
@@ -82,7 +83,8 @@ pub fn erase_for(
     block: usize,
     place: usize,
 ) -> Done
-    requires { ⌜ Called (setting g (now mask) (now fates)) (line from (now array) (now register) (now history)) ⌝ }
+    requires { ⌜ Lent (setting g (now mask) (now fates)) (line from (now array) (now register) (now history)) ⌝ }
+    requires { ⌜ (0 < place → from .interface .phase ≤ outputPhase) ⌝ }
     requires { ⌜ block < g .blocks ⌝ }
     requires { ⌜ (0 < place → getD (now history) block 0 ≤ place) ⌝ }
     ensures { λ r. ⌜ ComesTo (setting g (now (mask .entry)) (now (fates .entry))) (erasedFor (setting g (now (mask .entry)) (now (fates .entry))) block place) (line from (now (array .entry)) (now (register .entry)) (now (history .entry))) (line (r .bus) (now (array .exit)) (now (register .exit)) (now (history .exit))) (r .outcome) ⌝ }

@@ -5,8 +5,12 @@ use mathlib.Core.List.{List}
 use mathlib.Core.Path.{_≡_, refl, sym, ap, subst, _∙_}
 use native.Mathlib.Numerals.{add-one}
 use native.Mathlib.Omega.{arith}
+use borrow.Table.Steps.{cases}
+use borrow.Author.Tests.{eqb-true, eqb-false}
+use lib.Dec.{eqb}
 use lib.ListN.{length, take, getD}
 use Rattle.geometry.specs.Sizes.{rowOf}
+use Rattle.interface.specs.Interface.{outputPhase}
 use Rattle.array.specs.Device.{Setting}
 use Rattle.chip.specs.Chip.{Cycle}
 use Rattle.bus.specs.Line.{Line, sendAll}
@@ -15,13 +19,14 @@ use Rattle.polling.specs.Polling.{outcomeOf}
 use Rattle.polling.specs.declared.Outcome.{Outcome}
 use Rattle.polling.specs.declared.Outcome.the-variants.{Passed}
 use Rattle.sequences.specs.Cycles.{programCycles}
-use Rattle.operations.specs.Ends.{Called, CanProgram}
+use Rattle.operations.specs.Ends.{Lent, CanProgram}
 use Rattle.operations.specs.Trace.{ArrayOperation}
+use Rattle.operations.proofs.UnreadyLaws.{called-lent}
 use Rattle.progress.specs.Progress.{Progress, progress}
 use Rattle.polling.proofs.OutcomeLaws.{is-passed, passed-answered}
 use Rattle.fill.specs.Fill.{Copy, Source, Fillable, copyPage, mainOf, mainRead, pageFilled, pagesFilled, filled, erasedFor, stepFilled, stepsFilled}
 use Rattle.progress.specs.Steps.{eraseOn, programOn, ComesTo}
-use Rattle.progress.proofs.ComesLaws.{comes-still, comes-as, comes-on, comes-no-further, program-comes, program-order}
+use Rattle.progress.proofs.ComesLaws.{comes-as, comes-on, comes-no-further, program-comes, program-order}
 use Rattle.progress.proofs.StepLaws.{program-stopped}
 use Rattle.fill.proofs.PageLaws.{page-long, main-long}
 use Rattle.fill.proofs.FillLaws.{page-stopped, fill-stopped, steps-are, steps-fill}
@@ -77,29 +82,55 @@ module _ (s : Setting) (block : ℕ) (c : Copy) (source : ℕ → Source) (n : �
   pub step-stops : isPassed o ≡ false → ComesTo s (stepFilled s block c source n) l m o
   step-stops f = comes-no-further s (erasedFor s block n) (pageFilled s block c n (source n)) l m o r f (page-stopped s block c n (source n))
 
--- after the first n steps all passed
+-- after the first n steps all passed; before the first the chip need not be ready
 pub record Filling (s : Setting) (l m : Line) (block : ℕ) (c : Copy) (source : ℕ → Source) (n : ℕ) : Type 0 where
-  pub so-far : ComesTo s (stepsFilled s block c source n) l m Passed
-  pub called : Called s m
+  pub at-first : n ≡ 0 → l ≡ m
+  pub so-far : 0 < n → ComesTo s (stepsFilled s block c source n) l m Passed
+  pub lent : Lent s m
+  pub ready : 0 < n → m .chip .port .phase ≤ outputPhase
   pub in-order : 0 < n → getD (m .chip .history) block 0 ≤ n
 
-pub fill-begins : (s : Setting) (l : Line) (block : ℕ) (c : Copy) (source : ℕ → Source) → Called s l → Filling s l l block c source 0
-unfolding stepsFilled
-fill-begins s l block c source called = record { so-far = comes-still called; called = called; in-order = λ h. absurd (omega (arith, h)) }
+pub fill-begins : (s : Setting) (l : Line) (block : ℕ) (c : Copy) (source : ℕ → Source) → Lent s l → Filling s l l block c source 0
+fill-begins s l block c source lent =
+    record {
+      at-first = λ z. refl;
+      so-far = λ h. absurd (omega (arith, h));
+      lent = lent;
+      ready = λ h. absurd (omega (arith, h));
+      in-order = λ h. absurd (omega (arith, h));
+    }
 
 -- step n leaves line m' and outcome o
 module _ (s : Setting) (l m : Line) (block : ℕ) (c : Copy) (source : ℕ → Source) (n : ℕ) (r : Filling s l m block c source n) (m' : Line) (o : Outcome) (q : ComesTo s (stepFilled s block c source n) m m' o) where
-  steps-next : ComesTo s (stepsFilled s block c source (suc n)) l m' o
+  first-step : n ≡ 0 → ComesTo s (stepsFilled s block c source (suc n)) l m' o
+  unfolding stepsFilled
+  first-step z =
+      let none : (p : Progress) → p ≡ stepsFilled s block c source n p = λ p. ap (λ (k : ℕ). stepsFilled s block c source k p) (sym z) in
+      let from : ComesTo s (stepFilled s block c source n) l m' o = subst (λ (x : Line). ComesTo s (stepFilled s block c source n) x m' o) (sym (r .at-first z)) q in
+      comes-as (λ p. ap (stepFilled s block c source n) (none p)) from
+
+  later-step : 0 < n → ComesTo s (stepsFilled s block c source (suc n)) l m' o
   unfolding stepsFilled isPassed
-  steps-next = comes-on s (stepsFilled s block c source n) (stepFilled s block c source n) l m Passed (r .so-far) refl m' o q
+  later-step h = comes-on s (stepsFilled s block c source n) (stepFilled s block c source n) l m Passed (r .so-far h) refl m' o q
+
+  steps-next : ComesTo s (stepsFilled s block c source (suc n)) l m' o
+  steps-next =
+      cases (eqb n 0) (λ t. first-step (eqb-true n 0 t)) (λ f. later-step (omega (arith, eqb-false n 0 f)))
 
   -- after it passed
   pub fill-goes : isPassed o ≡ true → getD (m' .chip .history) block 0 ≤ n + 1 → Filling s l m' block c source (n + 1)
   unfolding answered
   fill-goes t h =
       let so-far = subst (λ (x : Outcome). ComesTo s (stepsFilled s block c source (suc n)) l m' x) (is-passed o t) steps-next in
+      let called = so-far .next-called refl in
       subst (λ (k : ℕ). Filling s l m' block c source k) (sym (add-one n))
-      (record { so-far = so-far; called = so-far .next-called refl; in-order = λ z. omega (arith, h) })
+      (record {
+        at-first = λ z. absurd (omega (arith, z));
+        so-far = λ z. so-far;
+        lent = called-lent called;
+        ready = λ z. called .ready;
+        in-order = λ z. omega (arith, h);
+      })
 
   -- after it did not
   pub fill-stops : n < s .geometry .pages → isPassed o ≡ false → ComesTo s (filled s block c source) l m' o
@@ -118,4 +149,5 @@ module _ (s : Setting) (l m : Line) (block : ℕ) (c : Copy) (source : ℕ → S
 
 pub fill-ends : (s : Setting) (l m : Line) (block : ℕ) (c : Copy) (source : ℕ → Source) (n : ℕ) → n ≡ s .geometry .pages → Filling s l m block c source n → ComesTo s (filled s block c source) l m Passed
 fill-ends s l m block c source n e r =
-    comes-as (steps-fill s (r .called .is-valid) block c source) (subst (λ (k : ℕ). ComesTo s (stepsFilled s block c source k) l m Passed) e (r .so-far))
+    let v = r .lent .is-valid in
+    comes-as (steps-fill s v block c source) (subst (λ (k : ℕ). ComesTo s (stepsFilled s block c source k) l m Passed) e (r .so-far (omega (arith, e, v .pages-least))))

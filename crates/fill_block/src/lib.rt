@@ -9,10 +9,11 @@ ghost use mathlib.Core.Path.{_≡_};
 ghost use Prim.Native.Nat.{_+_, _*_, _≤_, _<_, _^_};
 ghost use lib.ListN.{length, getD};
 ghost use Rattle.geometry.specs.Sizes.{pageSize};
+ghost use Rattle.interface.specs.Interface.{outputPhase};
 ghost use Rattle.array.specs.Device.{setting};
 ghost use Rattle.bus.specs.Line.{line};
 ghost use Rattle.polling.specs.Outcomes.{isPassed};
-ghost use Rattle.operations.specs.Ends.{Called};
+ghost use Rattle.operations.specs.Ends.{Lent};
 ghost use Rattle.progress.specs.Steps.{ComesTo};
 ghost use Rattle.pages.specs.Layout.{numberWidth, tableKind};
 ghost use Rattle.fill.specs.Fill.{copy, Fillable, stepFilled, filled, dataSource, tableFilled};
@@ -32,7 +33,8 @@ pub fn fill_page(
     bytes: &[u8],
     page: &mut [u8],
 ) -> Done
-    requires { ⌜ Called (setting g (now mask) (now fates)) (line from (now array) (now register) (now history)) ⌝ }
+    requires { ⌜ Lent (setting g (now mask) (now fates)) (line from (now array) (now register) (now history)) ⌝ }
+    requires { ⌜ (0 < place → from .interface .phase ≤ outputPhase) ⌝ }
     requires { ⌜ Fillable g block place (content .kind) (content .logical) (content .number) (length (now page)) ⌝ }
     requires { ⌜ (0 < place → getD (now history) block 0 ≤ place) ⌝ }
     requires { ⌜ length (now bytes) ≡ content .count * g .main ⌝ }
@@ -90,7 +92,7 @@ pub fn fill_copy(
     bytes: &[u8],
     page: &mut [u8],
 ) -> Done
-    requires { ⌜ Called (setting g (now mask) (now fates)) (line from (now array) (now register) (now history)) ⌝ }
+    requires { ⌜ Lent (setting g (now mask) (now fates)) (line from (now array) (now register) (now history)) ⌝ }
     requires { ⌜ Fillable g block 0 (content .kind) (content .logical) (content .number) (length (now page)) ⌝ }
     requires { ⌜ length (now bytes) ≡ content .count * g .main ⌝ }
     ensures { λ r. ⌜ ComesTo (setting g (now (mask .entry)) (now (fates .entry))) (filled (setting g (now (mask .entry)) (now (fates .entry))) block (copy (content .kind) (content .logical) (content .number)) (dataSource g (content .old) (content .first) (content .count) (now (bytes .entry)))) (line from (now (array .entry)) (now (register .entry)) (now (history .entry))) (line (r .bus) (now (array .exit)) (now (register .exit)) (now (history .exit))) (r .outcome) ⌝ }
@@ -140,7 +142,7 @@ pub fn fill_table(
     invalid: &[u8; 512],
     page: &mut [u8],
 ) -> Done
-    requires { ⌜ Called (setting g (now mask) (now fates)) (line from (now array) (now register) (now history)) ⌝ }
+    requires { ⌜ Lent (setting g (now mask) (now fates)) (line from (now array) (now register) (now history)) ⌝ }
     requires { ⌜ block < g .blocks ⌝ }
     requires { ⌜ number < 256 ^ numberWidth tableKind ⌝ }
     requires { ⌜ length (now page) ≡ pageSize g ⌝ }

@@ -7,3 +7,4 @@ pub mod ProgramLaws
 pub mod ReadLaws
 pub mod ResetLaws
 pub mod TraceLaws
+pub mod UnreadyLaws

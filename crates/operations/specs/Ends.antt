@@ -10,12 +10,12 @@ use Rattle.geometry.specs.Sizes.{pageSize, blockSize, chipSize, rowCount, rowOf
 use Rattle.cells.specs.Cells.{programmed, weakened, raised}
 use Rattle.cells.specs.Part.{part, put}
 use Rattle.interface.specs.Interface.{fateWord, nextFate, busyOf, failedFor, resetCode, outputPhase}
-use Rattle.array.specs.Device.{Setting, Device}
-use Rattle.bus.specs.Line.{Line, sendAll, statusOut}
+use Rattle.array.specs.Device.{Setting, Device, illegalCycle}
+use Rattle.bus.specs.Line.{Line, sendAll, statusOut, uncutLine, cutLine}
 use Rattle.polling.specs.Polling.{outcomeOf, endedAs}
 use Rattle.sequences.specs.Cycles.{resetCycles, confirmCycles, readCycles, readOutcome}
 use Rattle.polling.specs.declared.Outcome.{Outcome}
-use Rattle.polling.specs.declared.Outcome.the-variants.{Passed, Failed, Silent, Cut}
+use Rattle.polling.specs.declared.Outcome.the-variants.{Passed, Failed, Silent, Cut, Illegal}
 
 -- the chip as the store calls it: all lengths fit, no command under way, nothing refused or cut
 pub record Called (s : Setting) (l : Line) : Type 0 where
@@ -25,6 +25,16 @@ pub record Called (s : Setting) (l : Line) : Type 0 where
   pub history-long : length (l .chip .history) ≡ s .geometry .blocks
   pub mask-long : length (s .mask) ≡ blockSize (s .geometry)
   pub ready : l .chip .port .phase ≤ outputPhase
+  pub legal : l .chip .port .illegal ≡ 0
+  pub uncut : l .cut ≡ 0
+
+-- the same with any interface words: a command may be under way, or the chip busy
+pub record Lent (s : Setting) (l : Line) : Type 0 where
+  pub is-valid : Valid (s .geometry)
+  pub array-long : length (l .chip .array) ≡ chipSize (s .geometry)
+  pub register-long : length (l .chip .register) ≡ pageSize (s .geometry)
+  pub history-long : length (l .chip .history) ≡ s .geometry .blocks
+  pub mask-long : length (s .mask) ≡ blockSize (s .geometry)
   pub legal : l .chip .port .illegal ≡ 0
   pub uncut : l .cut ≡ 0
 
@@ -134,6 +144,21 @@ pub record CanRead (s : Setting) (l : Line) (row column n : ℕ) : Type 0 where
   pub row-below : row < rowCount (s .geometry)
   pub column-below : column < pageSize (s .geometry)
   pub within : column + n ≤ pageSize (s .geometry)
+
+-- an operation on a chip that is not ready: its first cycle is refused, or cut off where none is left
+unfoldable pub unreadyLine : Line → Line
+unreadyLine l =
+    cond (eqb (l .left) 0) (cutLine (l .chip)) (uncutLine (illegalCycle (l .chip)) (l .left - 1))
+
+unfoldable pub unreadyEnd : Line → End
+unreadyEnd l =
+    record {
+      outcome = cond (eqb (l .left) 0) Cut Illegal;
+      array = l .chip .array;
+      history = l .chip .history;
+      left = l .left - 1;
+      fate = l .chip .port .fate;
+    }
 
 -- cycles of a read of n bytes
 abbrev pub readTotal : Setting → Device → ℕ → ℕ

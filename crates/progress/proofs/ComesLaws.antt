@@ -1,24 +1,29 @@
 -- Parts of a request: one after the other, and what erases and programs come to. Assumes nothing.
-use Prim.Native.Nat.{ℕ, _+_, _≤_}
-use mathlib.Core.Bool.{true, false}
+use Prim.Native.Nat.{ℕ, _+_, _≤_, _<_}
+use mathlib.Core.Bool.{true, false, false≢true}
 use mathlib.Core.List.{List}
 use mathlib.Core.Path.{_≡_, refl, sym, ap, _∙_}
 use native.Mathlib.Omega.{arith}
+use borrow.Table.Steps.{cases}
+use borrow.Author.Tests.{leb-true, leb-false}
+use lib.Dec.{leb}
 use lib.ListN.{getD, set}
 use lib.Seq.{getD-set-same}
 use Rattle.geometry.specs.Sizes.{rowOf}
+use Rattle.interface.specs.Interface.{outputPhase}
 use Rattle.array.specs.Device.{Setting}
 use Rattle.chip.specs.Chip.{Cycle}
 use Rattle.bus.specs.Line.{Line, sendAll}
-use Rattle.polling.specs.Outcomes.{isPassed}
+use Rattle.polling.specs.Outcomes.{isPassed, answered}
 use Rattle.polling.specs.Polling.{outcomeOf}
 use Rattle.polling.specs.declared.Outcome.{Outcome}
 use Rattle.polling.specs.declared.Outcome.the-variants.{Passed}
 use Rattle.sequences.specs.Cycles.{eraseCycles, programCycles}
-use Rattle.operations.specs.Ends.{Called, CanErase, CanProgram, End, endOf, eraseEnd, programEnd}
+use Rattle.operations.specs.Ends.{Called, Lent, CanErase, CanProgram, End, endOf, eraseEnd, programEnd}
 use Rattle.operations.specs.Trace.{ArrayOperation}
 use Rattle.progress.specs.Progress.{Progress, progress}
-use Rattle.polling.proofs.OutcomeLaws.{is-passed}
+use Rattle.polling.proofs.OutcomeLaws.{is-passed, passed-answered}
+use Rattle.operations.proofs.UnreadyLaws.{lent-called, erase-unanswered}
 use Rattle.progress.specs.Steps.{eraseOn, programOn, ComesTo}
 use Rattle.progress.proofs.StepLaws.{erase-end, erase-outcome, erase-called, program-end, program-outcome, program-called, erase-on-line, erase-on-outcome, program-on-line, program-on-outcome, whole-effect}
 
@@ -61,25 +66,34 @@ module _ (s : Setting) (f g : Progress → Progress) (l m : Line) (o : Outcome) 
         next-called = r .next-called;
       }
 
--- an erase leaves line m and outcome o
-module _ (s : Setting) (l : Line) (block : ℕ) (can : CanErase s l block) (m : Line) (o : Outcome) (e : m ≡ sendAll s l (eraseCycles s l (rowOf (s .geometry) block 0))) (q : o ≡ outcomeOf m) where
+-- an erase on a chip that may not be ready: where it is not, the erase is not answered
+module _ (s : Setting) (l : Line) (block : ℕ) (lent : Lent s l) (below : block < s .geometry .blocks) (m : Line) (o : Outcome) (e : m ≡ sendAll s l (eraseCycles s l (rowOf (s .geometry) block 0))) (q : o ≡ outcomeOf m) where
+  can-erase : answered o ≡ true → CanErase s l block
+  can-erase t =
+      cases (leb (l .chip .port .phase) outputPhase)
+      (λ r. record { called = lent-called lent (leb-true (l .chip .port .phase) outputPhase r); block-below = below })
+      (λ r.
+      let unready = erase-unanswered s l lent (leb-false (l .chip .port .phase) outputPhase r) (rowOf (s .geometry) block 0) in
+      absurd (false≢true (sym unready ∙ sym (ap (λ (x : Line). answered (outcomeOf x)) e) ∙ sym (ap answered q) ∙ t)))
+
   pub erase-comes : ComesTo s (eraseOn s block) l m o
   unfolding isPassed
   erase-comes =
       record {
         line-is = λ cs os. e ∙ sym (erase-on-line s block (progress l Passed cs os) l refl refl);
         outcome-is = λ cs os. q ∙ ap outcomeOf e ∙ sym (erase-on-outcome s block (progress l Passed cs os) l refl refl);
-        next-called = erase-called s l block can m o e q;
+        next-called = λ t. erase-called s l block (can-erase t) m o e q t;
       }
 
   -- it passed: the block's pages may be programmed from page 0 on
   pub erase-order : isPassed o ≡ true → getD (m .chip .history) block 0 ≤ 0
   unfolding endOf eraseEnd
   erase-order t =
+      let can = can-erase (passed-answered o t) in
       let ends = erase-end s l block can m o e q in
       let passed = sym (ap isPassed (erase-outcome s l block can m o e q)) ∙ t in
       let history : m .chip .history ≡ set (l .chip .history) block 0 = ap (λ (x : End). x .history) ends ∙ whole-effect s l 3 4 _ _ _ _ passed .1 in
-      let zero-is = getD-set-same (l .chip .history) block 0 0 (omega (arith, can .block-below, can .called .history-long)) in
+      let zero-is = getD-set-same (l .chip .history) block 0 0 (omega (arith, below, lent .history-long)) in
       omega (arith, ap (λ (x : List ℕ). getD x block 0) history, zero-is)
 
 -- a program leaves line m and outcome o

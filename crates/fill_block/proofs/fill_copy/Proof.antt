@@ -36,7 +36,7 @@ fill-page-requires c κs =
     let s = turn .before .before .before .before .before .before .before .before in
     let f = s .pre .1 .0 in
     let lp = turn .loop in
-    (lp .inv .5 .called, (record { is-valid = f .is-valid; block-below = f .block-below; place-below = at-loop-test .loop-test .taken; width-some = f .width-some; logical-fits = f .logical-fits; number-fits = f .number-fits; page-long = lp .inv .4 ∙ f .page-long }, (lp .inv .5 .in-order, s .pre .1 .1)))
+    (lp .inv .5 .lent, (lp .inv .5 .ready, (record { is-valid = f .is-valid; block-below = f .block-below; place-below = at-loop-test .loop-test .taken; width-some = f .width-some; logical-fits = f .logical-fits; number-fits = f .number-fits; page-long = lp .inv .4 ∙ f .page-long }, (lp .inv .5 .in-order, s .pre .1 .1))))
 
 enum-told : tie.Need-enum-told Inv-loop μ-loop
 enum-told c = search needs

@@ -15,7 +15,10 @@ use Rattle.fill_block.proofs.fill_page.Statement.{statement}
 use Rattle.fill_block.proofs.fill_page.Tie as tie
 
 erase-for-requires : tie.Need-erase-for-requires
-erase-for-requires c κs = search needs
+erase-for-requires c κs =
+    let way = c .before .before .before .before .before .before .before .before in
+    let s = way .before .before in
+    (s .pre .0, (s .pre .1 .0, (s .pre .1 .1 .0 .block-below, s .pre .1 .1 .1 .0)))
 
 enum-told : tie.Need-enum-told
 enum-told c = search needs
@@ -48,7 +51,7 @@ put-main-requires c κs =
     let way = at-erase-for .before .before .before .before .before .before .before .before .before in
     let s = way .before .before in
     let p = passed-by-tag _ (at-match .match .keys1) in
-    (at-erase-for .erase-for .ensures .0 .next-called (passed-answered _ p), (s .pre .1 .0 .place-below, (s .pre .1 .0 .page-long, s .pre .1 .1 .1)))
+    (at-erase-for .erase-for .ensures .0 .next-called (passed-answered _ p), (s .pre .1 .1 .0 .place-below, (s .pre .1 .1 .0 .page-long, s .pre .1 .1 .1 .1)))
 
 enum-told-2 : tie.Need-enum-told-2
 enum-told-2 c = search needs
@@ -88,7 +91,7 @@ program-page-requires c κs =
     let way-2 = way .before .before .before .before .before .before .before .before .before in
     let way-3 = way-2 .before .before .before .before .before .before .before .before .before in
     let entry = way-3 .before .before .before .before in
-    let f = entry .pre .1 .0 in
+    let f = entry .pre .1 .1 .0 in
     record { is-valid = f .is-valid; block-below = f .block-below; place-below = f .place-below; width-some = f .width-some; logical-fits = f .logical-fits; number-fits = f .number-fits; page-long = at-page .page .given ∙ f .page-long }
 
 same-length-8 : tie.Need-same-length-8
@@ -140,7 +143,7 @@ returns-3 c =
     let d = at-put-main .put-main in
     let p₀ = passed-by-tag _ (at-match .match .keys1) in
     let p₁ = passed-by-tag _ (at-match2 .match2 .keys1) in
-    let f = s .pre .1 .0 in
+    let f = s .pre .1 .1 .0 in
     let fillable : Fillable (s .args .g) (s .args .block) (s .args .place) (s .args .content .kind) (s .args .content .logical) (s .args .content .number) _ = record { is-valid = f .is-valid; block-below = f .block-below; place-below = f .place-below; width-some = f .width-some; logical-fits = f .logical-fits; number-fits = f .number-fits; page-long = at-page .page .given ∙ f .page-long } in
     let order = subst (λ (x : List ℕ). getD x (s .args .block) 0 ≤ s .args .place) (sym (d .ensures .1 .1)) (at-erase-for .erase-for .ensures .1 p₀) in
     let page = page-programmed set (s .args .block) k (s .args .place) (source (s .args .place)) _ _ (d .result .outcome) (d .ensures .0) p₁ _ fillable (d .ensures .1 .0 p₁) order _ (at-program-page .program-page .result .outcome) (at-program-page .program-page .ensures .0) (at-program-page .program-page .ensures .1) in

@@ -4,6 +4,7 @@ use mathlib.Core.Path.{sym, ap, subst, _∙_}
 use native.Mathlib.Omega.{arith}
 use denote.Ref.{now}
 use Rattle.array.specs.Device.{setting}
+use Rattle.operations.proofs.UnreadyLaws.{called-lent}
 use Rattle.pages.specs.Layout.{numberWidth, tableKind}
 use Rattle.state.specs.State.{nextNumber}
 use Rattle.bus.specs.Line.{line}
@@ -40,7 +41,7 @@ fill-table-requires c κs =
     let at-next-number = at-choose-block .before in
     let s = at-next-number .before .before .before .before .before .before .before .before in
     let e = sym (at-choose-block .choose-block .ensures) ∙ at-choice .choice .given .1 in
-    (s .pre .0, (chosen-below (s .args .state .marked) (s .args .state .invalid) (now (s .args .held)) (s .args .g .blocks) (s .args .state .last) _ (s .pre .1 .1 .1) e, (subst (λ (n : ℕ). n < 256 ^ numberWidth tableKind) (sym (at-next-number .next-number .ensures)) (table-fits (nextNumber (s .args .state)) (s .pre .1 .1 .0)), s .pre .1 .0)))
+    (called-lent (s .pre .0), (chosen-below (s .args .state .marked) (s .args .state .invalid) (now (s .args .held)) (s .args .g .blocks) (s .args .state .last) _ (s .pre .1 .1 .1) e, (subst (λ (n : ℕ). n < 256 ^ numberWidth tableKind) (sym (at-next-number .next-number .ensures)) (table-fits (nextNumber (s .args .state)) (s .pre .1 .1 .0)), s .pre .1 .0)))
 
 take-number-requires : tie.Need-take-number-requires
 take-number-requires c κs =
