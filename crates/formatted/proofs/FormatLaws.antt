@@ -275,6 +275,8 @@ module _ (s : Setting) (v : Valid (s .geometry)) (mask-bytes : Bytes (s .mask)) 
             number-next = d .number-is ∙ ap (λ (k : ℕ). k + 1) (sym (settled.number-is (d .settled)));
             table-pages = λ i h.
                 d .settled .table-pages i h ∙ ap (λ (k : ℕ). copyPage g (tableCopy k) i (tableMain g (t .state .invalid) i)) (sym (settled.number-is (d .settled)));
+            table-whole = settled.table-whole (d .settled);
+            table-bytes = settled.page-bytes (d .settled);
             erased = λ b h x m l. d .settled .erased b h x m (sym (settled.lists-invalid (d .settled) b h) ∙ l);
             only-table = λ b h c l. settled.only-table (d .settled) b h c (sym (settled.lists-invalid (d .settled) b h) ∙ l);
             mounts = settled.mounts-well (d .settled);

@@ -36,7 +36,7 @@ use Rattle.found.specs.Found.{bitsAt}
 use Rattle.found.proofs.MapLaws.{length-tabulate, getD-tabulate}
 use Rattle.fill.specs.Fill.{tableCopy, tableMain, copyPage}
 use Rattle.runs.specs.Run.{Labelled}
-use Rattle.runs.proofs.CopyLaws.{erased-unwhole, erased-greatest, greatest-least, copy-label, copy-main, copy-complete, copy-any, copy-greatest, copy-unmarked}
+use Rattle.runs.proofs.CopyLaws.{erased-unwhole, erased-greatest, greatest-least, copy-label, copy-main, copy-complete, copy-any, copy-greatest, copy-unmarked, copy-whole, copy-bytes}
 use Rattle.geometry.specs.Sizes.{pageSize, chipSize}
 use Rattle.state.specs.State.{blank, numberEnd}
 use Rattle.bitmaps.proofs.BitmapLaws.{Bitmap}
@@ -157,6 +157,13 @@ module _ {g : Geometry} {array invalid : List ℕ} {table number : ℕ} (r : Set
 
   table-unmarked : isMarked g (row table) ≡ false
   table-unmarked = copy-unmarked g v (tableCopy number) labelled (tableMain g invalid) main-long main-bytes (row table) (r .table-pages)
+
+  pub table-whole : (i : ℕ) → i < g .pages → wholeIn g (row table) i ≡ true
+  table-whole = copy-whole g v (tableCopy number) labelled (tableMain g invalid) main-long main-bytes (row table) (r .table-pages)
+
+  pub page-bytes : (i : ℕ) → i < g .pages → Bytes (pageIn g (row table) i)
+  page-bytes i h =
+      subst Bytes (sym (r .table-pages i h)) (copy-bytes g v (tableCopy number) labelled (tableMain g invalid) main-long main-bytes i h)
 
   table-any : anyTo g (row table) (g .pages) ≡ true
   table-any = copy-any g v (tableCopy number) labelled (tableMain g invalid) main-long main-bytes (row table) (r .table-pages)

@@ -9,7 +9,8 @@ use Rattle.geometry.specs.declared.Geometry.{Geometry}
 use Rattle.geometry.specs.Sizes.{pageSize}
 use Rattle.array.specs.Device.{Device, Setting}
 use Rattle.bitmaps.specs.Bitmap.{bitAt}
-use Rattle.copies.specs.Blocks.{blockIn, pageIn, isMarked, isComplete}
+use Rattle.cells.specs.Bytes.{Bytes}
+use Rattle.copies.specs.Blocks.{blockIn, pageIn, isMarked, isComplete, wholeIn}
 use Rattle.copies.specs.Current.{currentTable, mountAnswer, numberAt, reading}
 use Rattle.copies.specs.Pick.{at}
 use Rattle.copies.specs.Table.{lists}
@@ -38,6 +39,8 @@ pub record Formatted (g : Geometry) (array : List ℕ) (st : State) : Type 0 whe
   pub number-next : st .number ≡ numberAt g array (st .table) + 1
   pub table-pages : (i : ℕ) → i < g .pages
       → pageIn g (blockIn g array (st .table)) i ≡ copyPage g (tableCopy (numberAt g array (st .table))) i (tableMain g (st .invalid) i)
+  pub table-whole : (i : ℕ) → i < g .pages → wholeIn g (blockIn g array (st .table)) i ≡ true
+  pub table-bytes : (i : ℕ) → i < g .pages → Bytes (pageIn g (blockIn g array (st .table)) i)
   pub erased : (b : ℕ) → b < g .blocks → (b ≡ st .table → ⊥) → isMarked g (blockIn g array b) ≡ false → lists g (blockIn g array (st .table)) b ≡ false
       → (i : ℕ) → i < g .pages → pageIn g (blockIn g array b) i ≡ replicate (pageSize g) 255
   pub only-table : (b : ℕ) → b < g .blocks → isComplete g (blockIn g array b) ≡ true → lists g (blockIn g array (st .table)) b ≡ false → b ≡ st .table

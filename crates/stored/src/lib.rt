@@ -1,0 +1,1 @@
+// What this store can leave of a chip, page by page: laws of arrays. No code.
