@@ -15,10 +15,11 @@ use Rattle.array.specs.Device.{Device, Setting, illegalCycle}
 use Rattle.chip.specs.Chip.{Cycle, exec, commanded, isConfirm}
 use Rattle.chip.specs.Chip.Cycle.{command}
 use Rattle.bus.specs.Line.{Line, admits, send, sendAll, sent, goesOn, uncutLine, cutLine}
-use Rattle.bus.proofs.LineLaws.{admits-more, admits-none, admits-stopped, send-one, send-none, sendAll-stopped}
+use Rattle.bus.proofs.LineLaws.{admits-more, admits-none, send-one, send-none, sendAll-stopped}
 use Rattle.polling.specs.Outcomes.{isPassed, isSilent, isCut}
 use Rattle.polling.specs.Polling.{outcomeOf}
 use Rattle.sequences.specs.Cycles.{readCycles, pageLine, readOutcome}
+use Rattle.operations.proofs.UnreadyLaws.{sent-stopped}
 use Rattle.progress.specs.Progress.{readOn}
 use Rattle.state.specs.State.{none}
 use Rattle.state.specs.declared.State.{State}
@@ -42,12 +43,6 @@ answer-below k is-length = omega arith
 answer-below k is-unmounted = omega arith
 answer-below k is-silent = omega arith
 answer-below k is-cut = omega arith
-
--- a bus that stopped sends none of a list
-sent-stopped : (s : Setting) (l : Line) (cs : List Cycle) → goesOn l ≡ false → sent s l cs ≡ []
-unfolding sent
-sent-stopped s l [] g = refl
-sent-stopped s l (c ∷ cs) g = rw (admits-stopped l g)
 
 -- 00h on a chip that is not ready
 unready-refuses : (s : Setting) (d : Device) → Unready d → exec s d (command 0) ≡ illegalCycle d

@@ -75,7 +75,7 @@ module _ (l : Line) where
   unready-unanswered = cases (eqb (l .left) 0) (λ t. rw t) (λ f. rw f)
 
 -- a bus that stopped sends none of a list
-sent-stopped : (s : Setting) (l : Line) (cs : List Cycle) → goesOn l ≡ false → sent s l cs ≡ []
+pub sent-stopped : (s : Setting) (l : Line) (cs : List Cycle) → goesOn l ≡ false → sent s l cs ≡ []
 unfolding sent
 sent-stopped s l [] g = refl
 sent-stopped s l (c ∷ cs) g = rw (admits-stopped l g)
