@@ -1,4 +1,4 @@
-// Runs format, mount and read on the small chip: a word for each case, then answer, cycles sent and free blocks.
+// Runs format and read on the small chip: a word for each case, then answer, cycles sent and free blocks.
 use calls::Returned;
 use geometry::Geometry;
 use interface::Interface;
@@ -90,8 +90,8 @@ fn wide(x: u8) -> u64 {
     x as u64
 }
 
-// A new chip formatted, mounted and read.
-fn show_mounts() {
+// A new chip formatted and read.
+fn show_first_read() {
     let mut array = [0xffu8; 768];
     let mut register = [0xffu8; 48];
     let mut history = [0u8; 4];
@@ -109,26 +109,12 @@ fn show_mounts() {
         UNCUT,
     );
     show(b"format", 2, formatted);
-    let state = formatted.state;
-    let interface = formatted.interface;
-    let mounted = mount::mount(
-        state,
-        small(2),
-        interface,
-        &mut array,
-        &mut register,
-        &mut history,
-        &mask,
-        &fates,
-        UNCUT,
-    );
-    show(b"mount", 2, mounted);
-    show_read(mounted, &mut array, &mut register, &mut history);
+    show_read(formatted, &mut array, &mut register, &mut history);
 }
 
 fn main() {
     let none = [0u32; 0];
-    show_mounts();
+    show_first_read();
     show_format(b"marked-block", 2, 0, &none, UNCUT);
     show_format(b"three-logical", 3, 0xff, &none, UNCUT);
     show_format(b"busy-255", 2, 0xff, &[255u32], UNCUT);
