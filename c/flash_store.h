@@ -8,7 +8,7 @@
  *
  * Start with struct flash_store, struct flash_store_call and the functions flash_store_do_..., at the end of this file.
  *
- * Stack that a call takes, measured as docs/BENCHMARKS.md says: format under 90,000 bytes, mount under 125,000, read under
+ * Stack that a call takes, measured as docs/BENCHMARKS.md says: format under 90,000 bytes, mount under 130,000, read under
  * 45,000. No call takes memory from a heap, and the library keeps nothing between calls.
  */
 #ifndef FLASH_STORE_H
