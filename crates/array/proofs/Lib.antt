@@ -1,2 +1,3 @@
 pub mod DeviceLaws
+pub mod RefusedTests
 pub mod IllegalLaws

@@ -1,2 +1,3 @@
 pub mod ConfirmableLaws
+pub mod RefusedTests
 pub mod IllegalLaws

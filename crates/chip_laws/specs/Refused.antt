@@ -1,26 +1,21 @@
--- The cycles that the chip refuses, each after the cycles that lead there, and neighbours that it takes: the rules of
--- docs/CHIP-MODEL.md on the small chip.
+-- The cycles that the chip refuses, and neighbours that it takes: the rules of docs/CHIP-MODEL.md on the small chip. The rows that
+-- interface, array and chip have each for itself, on the whole chip, and rows that several cycles lead to.
 use Prim.Native.Nat.{ℕ}
 use mathlib.Core.List.{List, [], _∷_, _++_, map}
 use mathlib.Core.Path.{_≡_}
 use lib.ListN.{replicate}
-use Rattle.geometry.specs.declared.Geometry.{Geometry}
 use Rattle.geometry.specs.Sizes.{columnBytes, rowBytes}
-use Rattle.interface.specs.Interface.{poweredOn, inPhase, started}
+use Rattle.interface.specs.Interface.{poweredOn}
+use Rattle.interface.specs.Refused.{InterfaceRow, interfaceRows, startingCodes}
 use Rattle.array.specs.Device.{Device, Setting, device, setting, illegalCycle}
+use Rattle.array.specs.Refused.{call, erasedChip, refusedReads, refusedPrograms, refusedErases}
 use Rattle.chip.specs.Chip.{Cycle, exec}
 use Rattle.chip.specs.Chip.Cycle.{command, address, dataIn, dataOut, status}
+use Rattle.chip.specs.Refused.{ChipRow, flagsAfter, finishedWith, chipRows}
 use Rattle.bus.specs.Line.{run, Legal}
 
--- the small chip, erased and powered on
-abbrev pub small : Geometry
-small = record { main = 32; spare = 16; pages = 4; blocks = 4; logical = 2 }
-
-abbrev pub call : List ℕ → Setting
-call fates = setting small (replicate 192 0) fates
-
 abbrev pub fresh : Device
-fresh = device poweredOn (replicate 768 255) (replicate 48 255) (replicate 4 0)
+fresh = erasedChip poweredOn
 
 -- a call, a chip, the cycles that lead to the place, and the cycles looked at there, each for itself
 pub record Place : Type 0 where
@@ -34,11 +29,6 @@ place s d b cs = record { setting = s; chip = d; before = b; cycles = cs }
 
 abbrev pub at : List Cycle → List Cycle → Place
 at b cs = place (call []) fresh b cs
-
--- the flag of illegal answers after each of these cycles, each for itself
-unfoldable pub flagsAfter : Setting → Device → List Cycle → List ℕ
-flagsAfter s d [] = []
-flagsAfter s d (c ∷ cs) = exec s d c .port .illegal ∷ flagsAfter s d cs
 
 -- for each place the flag there, and the flag after each of its cycles
 unfoldable pub flags : List Place → List (List ℕ)
@@ -101,82 +91,44 @@ programmed row = programs 0 row 48 ++ finishes 16
 abbrev pub erased : ℕ → List Cycle
 erased row = erases row ++ finishes 208
 
--- commands that start or confirm an operation, and all cycles that a busy chip refuses
+-- commands that begin or confirm an operation
 abbrev pub starting : List Cycle
-starting = command 0 ∷ command 128 ∷ command 96 ∷ []
+starting = map command startingCodes
 
 abbrev pub confirming : List Cycle
 confirming = command 48 ∷ command 16 ∷ command 208 ∷ []
 
+-- what a busy chip refuses
 abbrev pub unlessBusy : List Cycle
 unlessBusy = starting ++ (confirming ++ (address 0 ∷ dataIn 0 ∷ dataOut ∷ []))
 
--- every other command of 002, Table 5, and one that is in no table
-abbrev pub otherCommands : List Cycle
-otherCommands =
-    map command
-    (5 ∷ 17 ∷ 21 ∷ 49 ∷ 53 ∷ 63 ∷ 120 ∷ 129 ∷ 133 ∷ 144 ∷ 209 ∷ 224 ∷ 236 ∷ 239 ∷ 242 ∷ 243 ∷ 1 ∷ [])
+-- the rows of the interface, the array and the chip
+abbrev pub ofInterface : InterfaceRow → Place
+ofInterface r =
+    place (setting (r .geometry) (replicate 192 0) []) (erasedChip (r .port)) [] (map command (r .commands) ++ map address (r .addresses))
 
--- a chip with these lengths, and a mask of this length
-abbrev pub long : ℕ → ℕ → ℕ → Device
-long a r h = device poweredOn (replicate a 255) (replicate r 255) (replicate h 0)
+abbrev pub ofArray : ℕ → Device → Place
+ofArray code d = place (call []) d [] (command code ∷ [])
 
-abbrev pub masked : ℕ → Setting
-masked n = setting small (replicate n 0) []
+abbrev pub ofChip : ChipRow → Place
+ofChip r = place (r .setting) (r .chip) [] (r .cycles)
 
--- confirm cycles with these lengths of mask, array, register and history
-abbrev pub unfit : ℕ → ℕ → ℕ → ℕ → List Place
-unfit m a r h =
-    place (masked m) (long a r h) (reads 0 0) (command 48 ∷ [])
-    ∷ place (masked m) (long a r h) (programs 0 0 48) (command 16 ∷ [])
-    ∷ place (masked m) (long a r h) (erases 0) (command 208 ∷ [])
-    ∷ []
-
--- a busy chip whose memory has these lengths by the time its status says ready
-abbrev pub busy : ℕ → ℕ → ℕ → Device
-busy a r h = device (inPhase 8 (started 1 [] poweredOn)) (replicate a 255) (replicate r 255) (replicate h 0)
+abbrev pub decidedBelow : List Place
+decidedBelow =
+    map ofInterface interfaceRows
+    ++ (map (ofArray 48) refusedReads
+    ++ (map (ofArray 16) refusedPrograms ++ (map (ofArray 208) refusedErases ++ map ofChip chipRows)))
 
 abbrev pub refusals : List Place
 refusals =
-    -- commands that the model does not have
-    at [] otherCommands
-    ∷ at (reads 0 0) otherCommands
-    ∷ at (programs 0 0 48) otherCommands
-    ∷ at (reads 0 0 ++ (command 48 ∷ [])) otherCommands
-    -- nothing begun: no confirm cycle, no address, no data, no status without 70h
-    ∷ at [] (confirming ++ (address 0 ∷ dataIn 0 ∷ dataOut ∷ status ∷ []))
-    -- 30h and 10h before five address bytes, D0h before three
-    ∷ at (command 0 ∷ map address (0 ∷ 0 ∷ 0 ∷ 0 ∷ [])) confirming
-    ∷ at (command 128 ∷ map address (0 ∷ 0 ∷ 0 ∷ 0 ∷ [])) confirming
-    ∷ at (command 96 ∷ map address (0 ∷ 0 ∷ [])) confirming
-    -- a sixth address byte, a fourth of an erase
-    ∷ at (reads 0 0) (address 0 ∷ [])
-    ∷ at (programs 0 0 0) (address 0 ∷ [])
-    ∷ at (erases 0) (address 0 ∷ [])
-    -- a row or a column outside the geometry, and a geometry outside its limits
-    ∷ at (command 0 ∷ map address (0 ∷ 0 ∷ 16 ∷ 0 ∷ [])) (address 0 ∷ [])
-    ∷ at (command 0 ∷ map address (0 ∷ 0 ∷ 0 ∷ 0 ∷ [])) (address 1 ∷ [])
-    ∷ at (command 128 ∷ map address (48 ∷ 0 ∷ 0 ∷ 0 ∷ [])) (address 0 ∷ [])
-    ∷ at (command 96 ∷ map address (16 ∷ 0 ∷ [])) (address 0 ∷ [])
-    ∷ place (setting (record { main = 32; spare = 16; pages = 4; blocks = 4; logical = 3 }) (replicate 192 0) []) fresh
-    (command 0 ∷ map address (0 ∷ 0 ∷ 0 ∷ 0 ∷ []))
-    (address 0 ∷ [])
     -- 10h after no data, after fewer than main + spare bytes, and after fewer from a later column on
-    ∷ at (programs 0 0 0) (command 16 ∷ [])
+    at (programs 0 0 0) (command 16 ∷ [])
     ∷ at (programs 0 0 47) (command 16 ∷ [])
     ∷ at (programs 1 0 47) (command 16 ∷ [])
     -- data in past the last column
     ∷ at (programs 0 0 48) (dataIn 0 ∷ [])
-    -- 70h and status reads between the first cycle and the confirm cycle
-    ∷ at (command 128 ∷ []) (command 112 ∷ status ∷ [])
-    ∷ at (programs 0 0 48) (command 112 ∷ status ∷ [])
-    ∷ at (reads 0 0) (command 112 ∷ status ∷ [])
-    ∷ at (erases 0) (command 112 ∷ status ∷ [])
-    -- another operation in the middle of one, and the confirm cycle of another
-    ∷ at (command 0 ∷ []) (starting ++ confirming)
-    ∷ at (reads 0 0) (starting ++ (command 16 ∷ command 208 ∷ []))
-    ∷ at (programs 0 0 48) (starting ++ (command 48 ∷ command 208 ∷ []))
-    ∷ at (erases 0) (starting ++ (command 48 ∷ command 16 ∷ []))
+    -- after the last byte in: 70h and a status read, another operation, and the confirm cycle of another
+    ∷ at (programs 0 0 48) (command 112 ∷ status ∷ (starting ++ (command 48 ∷ command 208 ∷ [])))
     -- data out before ready, with status shown, past the last column
     ∷ at (reads 0 0 ++ (command 48 ∷ command 112 ∷ [])) (dataOut ∷ [])
     ∷ at (reads 0 0 ++ finishes 48) (dataOut ∷ [])
@@ -188,10 +140,7 @@ refusals =
     ∷ at (shown 0 ++ (erased 0 ++ (command 0 ∷ []))) (dataOut ∷ [])
     -- an address byte among data out
     ∷ at (shown 0 ++ (dataOut ∷ [])) (address 0 ∷ [])
-    -- anything but 70h, FFh and status reads while busy, before 70h and after it
-    ∷ at (reads 0 0 ++ (command 48 ∷ [])) (status ∷ unlessBusy)
-    ∷ at (programs 0 0 48 ++ (command 16 ∷ [])) (status ∷ unlessBusy)
-    ∷ at (erases 0 ++ (command 208 ∷ [])) (status ∷ unlessBusy)
+    -- after a status read that was answered busy
     ∷ place (call (2 ∷ [])) fresh (reads 0 0 ++ finishes 48) unlessBusy
     ∷ place (call (2 ∷ [])) fresh (programs 0 0 48 ++ finishes 16) unlessBusy
     ∷ place (call (2 ∷ [])) fresh (erases 0 ++ finishes 208) unlessBusy
@@ -206,12 +155,7 @@ refusals =
     ∷ place (call (65536 ∷ [])) fresh (erased 4 ++ programs 0 7 48) (command 16 ∷ [])
     ∷ at (erases 4 ++ (command 208 ∷ command 255 ∷ programs 0 7 48)) (command 16 ∷ [])
     ∷ place (call []) (device poweredOn (replicate 768 255) (replicate 48 255) (0 ∷ 255 ∷ 0 ∷ 0 ∷ [])) (programs 0 7 48) (command 16 ∷ [])
-    -- a status read that would report ready, where array, register or history has another length
-    ∷ place (call []) (busy 767 48 4) [] (status ∷ [])
-    ∷ place (call []) (busy 768 49 4) [] (status ∷ [])
-    ∷ place (call []) (busy 768 48 3) [] (status ∷ [])
-    -- confirm cycles where mask, array, register or history has another length than the geometry asks
-    ∷ (unfit 191 768 48 4 ++ (unfit 192 767 48 4 ++ (unfit 192 768 49 4 ++ unfit 192 768 48 3)))
+    ∷ decidedBelow
 
 -- the neighbours that are taken
 abbrev pub accepted : List Place
@@ -239,7 +183,7 @@ accepted =
     ∷ at (programs 0 0 48 ++ (command 16 ∷ [])) (command 112 ∷ command 255 ∷ [])
     ∷ at (erases 0 ++ (command 208 ∷ [])) (command 112 ∷ command 255 ∷ [])
     ∷ place (call (2 ∷ [])) fresh (erases 0 ++ finishes 208) (status ∷ command 112 ∷ command 255 ∷ [])
-    ∷ place (call []) (busy 768 48 4) [] (status ∷ [])
+    ∷ ofChip (finishedWith 768 48 4)
     -- FFh in the middle of an operation, and again
     ∷ at (reads 0 0) (command 255 ∷ [])
     ∷ at (programs 0 0 48) (command 255 ∷ [])

@@ -1,1 +1,2 @@
+pub mod RefusedTests
 pub mod IllegalLaws
