@@ -2,40 +2,148 @@
 use bus::Bus;
 use geometry::Geometry;
 use polling::Outcome;
-ghost use mathlib.Core.Bool.{cond};
+ghost use mathlib.Core.Bool.{cond, true};
 ghost use lib.Dec.{eqb};
 ghost use mathlib.Core.Path.{_≡_};
-ghost use Prim.Native.Nat.{_<_, max};
+ghost use Prim.Native.Nat.{_<_};
 ghost use lib.ListN.{length};
 ghost use Rattle.geometry.specs.Sizes.{pageSize};
 ghost use Rattle.array.specs.Device.{setting};
 ghost use Rattle.bus.specs.Line.{line};
+ghost use Rattle.polling.specs.Outcomes.{answered};
+ghost use Rattle.polling.specs.declared.Outcome.the-variants.{Failed};
 ghost use Rattle.operations.specs.Ends.{Called};
 ghost use Rattle.bitmaps.specs.Bitmap.{withBit};
-ghost use Rattle.erasing.specs.Round.{BlockDone, RoundDone};
+ghost use Rattle.erasing.specs.Round.{noNumbers, joined, AfterDone, BlockDone, RoundDone};
 
-// The bus after one block of the first round, how its last operation ended, 1 where the erase failed, and then the greatest
-// number on a whole page, 0 if there is none.
+// The greatest number on whole pages, and whether there is one: `any` is 1 then. Else both are 0.
+pub struct Numbers {
+    pub any: usize,
+    pub greatest: u64,
+}
+
+impl Numbers {
+    fn none() -> Self
+        ensures { λ r. ⌜ r ≡ noNumbers ⌝ }
+    {
+        Self {
+            any: 0,
+            greatest: 0,
+        }
+    }
+
+    // The numbers of two blocks.
+    fn join(self, more: Self) -> Self
+        ensures { λ r. ⌜ r ≡ joined self more ⌝ }
+    {
+        let some = more.any;
+        if some == 0 {
+            return self;
+        }
+        let any = self.any;
+        if any == 0 {
+            return more;
+        }
+        let greatest = self.greatest;
+        let greater = more.greatest;
+        if greatest < greater {
+            return more;
+        }
+        self
+    }
+}
+
+// The bus after one block of the first round, how its last operation ended, 1 where the erase failed, and then the
+// numbers on what is left.
 struct BlockErased {
     bus: Bus,
     outcome: Outcome,
     failed: usize,
-    greatest: u64,
+    numbers: Numbers,
 }
 
 // The end of a block whose erase did not fail.
 fn not_failed(bus: Bus, outcome: Outcome) -> BlockErased
-    ensures { λ r. ⌜ r ≡ record { bus = bus; outcome = outcome; failed = 0; greatest = 0 } ⌝ }
+    ensures { λ r. ⌜ r ≡ record { bus = bus; outcome = outcome; failed = 0; numbers = noNumbers } ⌝ }
 {
     BlockErased {
         bus,
         outcome,
         failed: 0,
-        greatest: 0,
+        numbers: Numbers::none(),
     }
 }
 
-// Erases a block unless it bears a factory mark. Directly after an erase that failed every page is read whole.
+// Directly after an erase that failed every page is read whole.
+fn read_failed(
+    from: Bus,
+    g: Geometry,
+    array: &mut [u8],
+    register: &mut [u8],
+    history: &mut [u8],
+    mask: &[u8],
+    fates: &[u32],
+    block: usize,
+    page: &mut [u8],
+) -> BlockErased
+    requires { ⌜ Called (setting g (now mask) (now fates)) (line from (now array) (now register) (now history)) ⌝ }
+    requires { ⌜ block < g .blocks ⌝ }
+    requires { ⌜ length (now page) ≡ pageSize g ⌝ }
+    ensures { λ r. ⌜ AfterDone (setting g (now (mask .entry)) (now (fates .entry))) (line from (now (array .entry)) (now (register .entry)) (now (history .entry))) (line (r .bus) (now (array .exit)) (now (register .exit)) (now (history .exit))) Failed (r .outcome) block (r .failed) (r .numbers) ⌝ }
+{
+    let mut bits = [0u8; 512];
+    let scanned = block_scan::scan_block(
+        from,
+        g,
+        array,
+        register,
+        history,
+        mask,
+        fates,
+        block,
+        page,
+        &mut bits,
+    );
+    let bus = scanned.bus;
+    let outcome = scanned.outcome;
+    let summary = scanned.summary;
+    let numbers = Numbers {
+        any: summary.any,
+        greatest: summary.greatest,
+    };
+    BlockErased {
+        bus,
+        outcome,
+        failed: 1,
+        numbers,
+    }
+}
+
+// After an erase that did not pass.
+fn after_erase(
+    from: Bus,
+    outcome: Outcome,
+    g: Geometry,
+    array: &mut [u8],
+    register: &mut [u8],
+    history: &mut [u8],
+    mask: &[u8],
+    fates: &[u32],
+    block: usize,
+    page: &mut [u8],
+) -> BlockErased
+    requires { ⌜ (answered outcome ≡ true → Called (setting g (now mask) (now fates)) (line from (now array) (now register) (now history))) ⌝ }
+    requires { ⌜ block < g .blocks ⌝ }
+    requires { ⌜ length (now page) ≡ pageSize g ⌝ }
+    ensures { λ r. ⌜ AfterDone (setting g (now (mask .entry)) (now (fates .entry))) (line from (now (array .entry)) (now (register .entry)) (now (history .entry))) (line (r .bus) (now (array .exit)) (now (register .exit)) (now (history .exit))) outcome (r .outcome) block (r .failed) (r .numbers) ⌝ }
+{
+    match outcome {
+        Outcome::Failed => read_failed(from, g, array, register, history, mask, fates, block, page),
+        _ => not_failed(from, outcome),
+    }
+}
+
+// Erases a block unless it bears a factory mark.
 fn erase_block(
     from: Bus,
     g: Geometry,
@@ -51,7 +159,7 @@ fn erase_block(
     requires { ⌜ Called (setting g (now mask) (now fates)) (line from (now array) (now register) (now history)) ⌝ }
     requires { ⌜ block < g .blocks ⌝ }
     requires { ⌜ length (now page) ≡ pageSize g ⌝ }
-    ensures { λ r. ⌜ BlockDone (setting g (now (mask .entry)) (now (fates .entry))) (now (marked .entry)) (line from (now (array .entry)) (now (register .entry)) (now (history .entry))) (line (r .bus) (now (array .exit)) (now (register .exit)) (now (history .exit))) (r .outcome) block (r .failed) (r .greatest) ⌝ }
+    ensures { λ r. ⌜ BlockDone (setting g (now (mask .entry)) (now (fates .entry))) (now (marked .entry)) (line from (now (array .entry)) (now (register .entry)) (now (history .entry))) (line (r .bus) (now (array .exit)) (now (register .exit)) (now (history .exit))) (r .outcome) block (r .failed) (r .numbers) ⌝ }
 {
     if bitmaps::is_set(marked, block) {
         return not_failed(from, Outcome::Passed);
@@ -60,40 +168,30 @@ fn erase_block(
     let erased = operations::erase(from, g, array, register, history, mask, fates, row);
     let b = erased.bus;
     let outcome = erased.outcome;
-    let Outcome::Failed = outcome else {
-        return not_failed(b, outcome);
+    let Outcome::Passed = outcome else {
+        return after_erase(
+            b,
+            outcome,
+            g,
+            array,
+            register,
+            history,
+            mask,
+            fates,
+            block,
+            page,
+        );
     };
-    let mut bits = [0u8; 512];
-    let scanned = block_scan::scan_block(
-        b,
-        g,
-        array,
-        register,
-        history,
-        mask,
-        fates,
-        block,
-        page,
-        &mut bits,
-    );
-    let bus = scanned.bus;
-    let ended = scanned.outcome;
-    let summary = scanned.summary;
-    BlockErased {
-        bus,
-        outcome: ended,
-        failed: 1,
-        greatest: summary.greatest,
-    }
+    not_failed(b, outcome)
 }
 
-// The bus after the first round, how its last operation ended, the blocks that failed, and the greatest number on a whole
-// page of them, 0 if there is none.
+// The bus after the first round, how its last operation ended, the blocks that failed, and the numbers on what is left of
+// them.
 pub struct Erased {
     pub bus: Bus,
     pub outcome: Outcome,
     pub invalid: [u8; 512],
-    pub greatest: u64,
+    pub numbers: Numbers,
 }
 
 // Sets the bit of a block whose erase failed.
@@ -104,16 +202,6 @@ fn note_failed(invalid: &mut [u8; 512], block: usize, failed: usize)
     if failed != 0 {
         bitmaps::set_bit(invalid, block);
     }
-}
-
-// The greater of two numbers.
-fn greater(x: u64, y: u64) -> u64
-    ensures { λ r. ⌜ r ≡ max x y ⌝ }
-{
-    if x < y {
-        return y;
-    }
-    x
 }
 
 // Erases every block that bears no factory mark, blocks rising.
@@ -130,11 +218,11 @@ pub fn erase_all(
 ) -> Erased
     requires { ⌜ Called (setting g (now mask) (now fates)) (line from (now array) (now register) (now history)) ⌝ }
     requires { ⌜ length (now page) ≡ pageSize g ⌝ }
-    ensures { λ r. ⌜ RoundDone (setting g (now (mask .entry)) (now (fates .entry))) (now (marked .entry)) (line from (now (array .entry)) (now (register .entry)) (now (history .entry))) (line (r .bus) (now (array .exit)) (now (register .exit)) (now (history .exit))) (r .outcome) (r .invalid) (r .greatest) ⌝ }
+    ensures { λ r. ⌜ RoundDone (setting g (now (mask .entry)) (now (fates .entry))) (now (marked .entry)) (line from (now (array .entry)) (now (register .entry)) (now (history .entry))) (line (r .bus) (now (array .exit)) (now (register .exit)) (now (history .exit))) (r .outcome) (r .invalid) (r .numbers) ⌝ }
 {
     let mut b = from;
     let mut invalid = [0u8; 512];
-    let mut greatest: u64 = 0;
+    let mut numbers = Numbers::none();
     let mut block: usize = 0;
     let blocks = g.blocks;
     while block < blocks {
@@ -157,17 +245,18 @@ pub fn erase_all(
                 bus: b,
                 outcome,
                 invalid,
-                greatest,
+                numbers,
             };
         };
         note_failed(&mut invalid, block, done.failed);
-        greatest = greater(greatest, done.greatest);
+        let more = done.numbers;
+        numbers = numbers.join(more);
         block += 1;
     }
     Erased {
         bus: b,
         outcome: Outcome::Passed,
         invalid,
-        greatest,
+        numbers,
     }
 }

@@ -24,6 +24,7 @@ use Rattle.marks.proofs.MarkLaws.{marks-stopped}
 use Rattle.marks.proofs.KeepLaws.{marks-keep}
 use Rattle.erasing.proofs.KeepLaws.{round-keeps}
 use Rattle.marks.specs.Marks.{marksRead, MarksFound}
+use Rattle.erasing.specs.declared.Numbers.{Numbers}
 use Rattle.erasing.specs.Round.{erasedTo, RoundDone}
 use Rattle.format.specs.Format.{endOfRun, stopped, tablesRun, roundRun, marksRun}
 
@@ -31,8 +32,8 @@ pub marks-left : (s : Setting) (l m : Line) (o : Outcome) (marked : List ℕ) �
 marks-left s l m o marked d =
     omega (arith, marks-keep s _ (allowance-kept s _) (s .geometry .blocks) (progress l Passed [] []) refl, ap (λ (x : Line). x .left) (d .line-is [] []))
 
-pub round-left : (s : Setting) (marked : List ℕ) (l m : Line) (o : Outcome) (invalid : List ℕ) (greatest : ℕ) → RoundDone s marked l m o invalid greatest → m .left ≤ l .left
-round-left s marked l m o invalid greatest d =
+pub round-left : (s : Setting) (marked : List ℕ) (l m : Line) (o : Outcome) (invalid : List ℕ) (numbers : Numbers) → RoundDone s marked l m o invalid numbers → m .left ≤ l .left
+round-left s marked l m o invalid numbers d =
     omega (arith, round-keeps s _ (allowance-kept s _) marked (s .geometry .blocks) (progress l Passed [] []) refl, ap (λ (x : Line). x .left) (d .line-is [] []))
 
 -- the end after an operation that did not pass
@@ -69,7 +70,7 @@ module _ (s : Setting) (n : ℕ) (l m : Line) (o : Outcome) (marked : List ℕ) 
         ∙ ap (λ (x : List ℕ). endOfRun n (roundRun s x q)) (marked-is cs os)
         ∙ rw passed
 
-module _ (s : Setting) (n : ℕ) (marked : List ℕ) (l m : Line) (o : Outcome) (invalid : List ℕ) (greatest : ℕ) (d : RoundDone s marked l m o invalid greatest) where
+module _ (s : Setting) (n : ℕ) (marked : List ℕ) (l m : Line) (o : Outcome) (invalid : List ℕ) (numbers : Numbers) (d : RoundDone s marked l m o invalid numbers) where
   pub round-stop : isPassed o ≡ false → (a : ℕ) (st : State) → a ≡ stopAnswer o → st ≡ blank 2 → (cs : List Cycle) (os : List ArrayOperation) → endAt n a st m ≡ endOfRun n (roundRun s marked (progress l Passed cs os))
   unfolding roundRun
   round-stop f a st h k cs os =
@@ -77,15 +78,15 @@ module _ (s : Setting) (n : ℕ) (marked : List ℕ) (l m : Line) (o : Outcome) 
       let stops : isPassed (q .outcome) ≡ false = sym (ap isPassed (d .outcome-is cs os)) ∙ f in
       rw stops (stop-is n q m o a st (d .line-is cs os) (d .outcome-is cs os) h k)
 
-  pub round-goes-on : isPassed o ≡ true → (r : Result) → ((cs : List Cycle) (os : List ArrayOperation) → r ≡ endOfRun n (tablesRun s marked invalid greatest (progress m Passed cs os))) → (cs : List Cycle) (os : List ArrayOperation) → r ≡ endOfRun n (roundRun s marked (progress l Passed cs os))
+  pub round-goes-on : isPassed o ≡ true → (r : Result) → ((cs : List Cycle) (os : List ArrayOperation) → r ≡ endOfRun n (tablesRun s marked invalid (numbers .greatest) (progress m Passed cs os))) → (cs : List Cycle) (os : List ArrayOperation) → r ≡ endOfRun n (roundRun s marked (progress l Passed cs os))
   unfolding roundRun
   round-goes-on t r f cs os =
       let e = erasedTo s marked (s .geometry .blocks) (progress l Passed cs os) in
       let q = e .progress in
       let passed : isPassed (q .outcome) ≡ true = sym (ap isPassed (d .outcome-is cs os)) ∙ t in
       let same : progress m Passed (q .cycles) (q .started) ≡ q = λ i. record { line = d .line-is cs os i; outcome = (sym (is-passed o t) ∙ d .outcome-is cs os) i; cycles = q .cycles; started = q .started } in
-      let all : endOfRun n (tablesRun s marked invalid greatest (progress m Passed (q .cycles) (q .started))) ≡ endOfRun n (tablesRun s marked (e .invalid) (e .greatest) q) =
-      λ i. endOfRun n (tablesRun s marked (d .invalid-is t cs os i) (d .greatest-is t cs os i) (same i)) in
+      let all : endOfRun n (tablesRun s marked invalid (numbers .greatest) (progress m Passed (q .cycles) (q .started))) ≡ endOfRun n (tablesRun s marked (e .invalid) (e .numbers .greatest) q) =
+      λ i. endOfRun n (tablesRun s marked (d .invalid-is t cs os i) (d .numbers-are t cs os i .greatest) (same i)) in
       f (q .cycles) (q .started) ∙ all ∙ rw passed
 
 -- a formatting ends at the operation that did not pass

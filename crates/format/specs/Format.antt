@@ -45,7 +45,7 @@ tablesRun s marked invalid greatest p =
 unfoldable pub roundRun : Setting → List ℕ → Progress → Tabled
 roundRun s marked p =
     let r = erasedTo s marked (s .geometry .blocks) p in
-    cond (isPassed (r .progress .outcome)) (tablesRun s marked (r .invalid) (r .greatest) (r .progress)) (stopped (r .progress))
+    cond (isPassed (r .progress .outcome)) (tablesRun s marked (r .invalid) (r .numbers .greatest) (r .progress)) (stopped (r .progress))
 
 -- the marks and what follows them
 unfoldable pub marksRun : Setting → Progress → Tabled

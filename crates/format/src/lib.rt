@@ -111,7 +111,8 @@ fn erase_and_fill(
         return calls::end(calls::stop_answer(outcome), State::blank(2), b, allowed);
     };
     let invalid = erased.invalid;
-    let greatest = erased.greatest;
+    let numbers = erased.numbers;
+    let greatest = numbers.greatest;
     let mut first = [0u8; 4352];
     fill_first(
         b,

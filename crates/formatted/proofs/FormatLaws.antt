@@ -205,7 +205,7 @@ module _ (s : Setting) (v : Valid (s .geometry)) (mask-bytes : Bytes (s .mask)) 
   -- the first round passed
   module _ (y : isPassed (r .progress .outcome) ≡ true) where
     abbrev first : State
-    first = firstState g marked (r .invalid) (r .greatest)
+    first = firstState g marked (r .invalid) (r .numbers .greatest)
 
     erased-row : (b : ℕ) → b < g .blocks → bitAt marked b ≡ false → bitAt (r .invalid) b ≡ false → blockOn s (r .progress) b ≡ replicate (blockSize g) 255
     erased-row b h = rounded .erased y b h
@@ -238,7 +238,7 @@ module _ (s : Setting) (v : Valid (s .geometry)) (mask-bytes : Bytes (s .mask)) 
         }
 
     abbrev t : Tabled
-    t = tablesOf s marked (r .invalid) (r .greatest) (r .progress)
+    t = tablesOf s marked (r .invalid) (r .numbers .greatest) (r .progress)
 
     left : Left s (replicate 512 0) first (r .progress) t
     left = tables-leave s mask-bytes (replicate 512 0) (numbersLeft first) first (r .progress) ready (omega arith)
@@ -334,7 +334,7 @@ module _ (s : Setting) (v : Valid (s .geometry)) (mask-bytes : Bytes (s .mask)) 
     unfolding tooFew
     many-blocks enough less = omega (arith, less, round-count, ltb-false (countPermitted marked (r .invalid) (replicate 512 0) (g .blocks)) (g .logical + 2) enough)
 
-    tables-whole : Whole s p (tablesRun s marked (r .invalid) (r .greatest) (r .progress))
+    tables-whole : Whole s p (tablesRun s marked (r .invalid) (r .numbers .greatest) (r .progress))
     unfolding tablesRun
     tables-whole =
         cases (tooFew g marked (r .invalid))

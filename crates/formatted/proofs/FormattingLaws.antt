@@ -51,7 +51,7 @@ module _ (s : Setting) (P : Progress → Type 0) (k : Kept s P) where
   round-run-keeps marked p h =
       let r = erasedTo s marked (s .geometry .blocks) p in
       let here = round-keeps s P k marked (s .geometry .blocks) p h in
-      cases (isPassed (r .progress .outcome)) (λ t. rw t (tables-run-keeps marked (r .invalid) (r .greatest) (r .progress) here)) (λ t. rw t here)
+      cases (isPassed (r .progress .outcome)) (λ t. rw t (tables-run-keeps marked (r .invalid) (r .numbers .greatest) (r .progress) here)) (λ t. rw t here)
 
   marks-run-keeps : (p : Progress) → P p → P (marksRun s p .progress)
   unfolding marksRun

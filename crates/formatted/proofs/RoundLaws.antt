@@ -30,7 +30,9 @@ use Rattle.block_scan.specs.Pages.{pagesRead}
 use Rattle.progress.specs.Steps.{eraseOn, resumed}
 use Rattle.polling.proofs.OutcomeLaws.{passed-answered, failed-answered, read-end-unfailed, failed-unpassed, unfailed-end}
 use Rattle.progress.proofs.StepLaws.{erase-stopped}
-use Rattle.erasing.specs.Round.{Round, round, afterErase, blockErased, failedAt, erasedTo, greatestAt}
+use Rattle.erasing.specs.declared.Numbers.{Numbers}
+use Rattle.erasing.specs.Round.{Round, round, afterErase, blockErased, failedAt, numbersOf, joined, erasedTo, numbersAt}
+use Rattle.erasing.proofs.NumberLaws.{numbers-none, joined-most, joined-none}
 use Rattle.runs.specs.Run.{failedIn, NoneFailed, Sound, Unchanged, Erased, Spent, readMost, blockOn, Failing}
 use Rattle.runs.proofs.PlaceLaws.{block-long, page-within}
 use Rattle.runs.proofs.ReadLaws.{pages-unchanged, pages-spend, pages-calm}
@@ -77,18 +79,19 @@ pub record Rounded (s : Setting) (marked : List ℕ) (p : Progress) (n : ℕ) (r
   pub later : (b : ℕ) → b < s .geometry .blocks → n ≤ b → bitAt (r .invalid) b ≡ false
   pub erased : isPassed (r .progress .outcome) ≡ true → (b : ℕ) → b < n → bitAt marked b ≡ false → bitAt (r .invalid) b ≡ false → blockOn s (r .progress) b ≡ replicate (blockSize (s .geometry)) 255
   pub unmarked : isPassed (r .progress .outcome) ≡ true → (b : ℕ) → b < n → bitAt (r .invalid) b ≡ true → isMarked (s .geometry) (blockOn s (r .progress) b) ≡ false
-  pub numbers : isPassed (r .progress .outcome) ≡ true → (b : ℕ) → b < n → bitAt (r .invalid) b ≡ true → greatestTo (s .geometry) (blockOn s (r .progress) b) (s .geometry .pages) ≤ r .greatest
+  pub numbers : isPassed (r .progress .outcome) ≡ true → (b : ℕ) → b < n → bitAt (r .invalid) b ≡ true → greatestTo (s .geometry) (blockOn s (r .progress) b) (s .geometry .pages) ≤ r .numbers .greatest
   pub spent : Spent p (r .progress) (n * blockMost (s .geometry))
   pub failures : (b : ℕ) → b < s .geometry .blocks → failedIn b (r .progress .started) ≡ bitAt (r .invalid) b
   pub failed-by : (b : ℕ) → b < s .geometry .blocks → failedIn b (r .progress .started) ≡ true → Failing (s .fates)
-  pub greatest-by : (r .greatest ≡ 0 → ⊥) → Failing (s .fates)
+  pub none-greatest : r .numbers .any ≡ 0 → r .numbers .greatest ≡ 0
+  pub greatest-by : (r .numbers .greatest ≡ 0 → ⊥) → Failing (s .fates)
 
 module _ (s : Setting) (v : Valid (s .geometry)) (mask-bytes : Bytes (s .mask)) (marked : List ℕ) (p : Progress) (marks : (b : ℕ) → b < s .geometry .blocks → isMarked (s .geometry) (blockOn s p b) ≡ bitAt marked b) where
   next-round : ℕ → Round → Round
   next-round n r =
       round (blockErased s marked n (r .progress))
       (cond (failedAt s marked n (r .progress)) (withBit (r .invalid) n) (r .invalid))
-      (max (r .greatest) (greatestAt s marked n (r .progress)))
+      (joined (r .numbers) (numbersAt s marked n (r .progress)))
 
   one-round : (n : ℕ) → erasedTo s marked (suc n) p ≡ next-round n (erasedTo s marked n p)
   unfolding erasedTo next-round
@@ -99,19 +102,16 @@ module _ (s : Setting) (v : Valid (s .geometry)) (mask-bytes : Bytes (s .mask)) 
     more : suc n * blockMost (s .geometry) ≡ n * blockMost (s .geometry) + blockMost (s .geometry)
     more = suc-mul n (blockMost (s .geometry))
 
-    none-more : max (r .greatest) 0 ≡ r .greatest
-    none-more = omega arith
-
     stopped-is : isPassed (r .progress .outcome) ≡ false → r ≡ next-round n r
-    unfolding next-round blockErased failedAt greatestAt
+    unfolding next-round blockErased failedAt joined numbersAt
     stopped-is f =
         let unfailed : isFailed (eraseOn s n (r .progress) .outcome) ≡ false =
         ap (λ (q : Progress). isFailed (q .outcome)) (erase-stopped s n (r .progress) f) ∙ read-end-unfailed (r .progress .outcome) (x .ends) in
-        cases (bitAt marked n) (λ t. rw (f, t, none-more)) (λ t. rw (f, t, unfailed, none-more))
+        cases (bitAt marked n) (λ t. rw (f, t)) (λ t. rw (f, t, unfailed))
 
     marked-is : isPassed (r .progress .outcome) ≡ true → bitAt marked n ≡ true → r ≡ next-round n r
-    unfolding next-round blockErased failedAt greatestAt
-    marked-is t m = rw (t, m, none-more)
+    unfolding next-round blockErased failedAt joined numbersAt
+    marked-is t m = rw (t, m)
 
     module _ (below : n < s .geometry .blocks) where
       unlisted : {A : Type 0} → bitAt (r .invalid) n ≡ true → A
@@ -134,10 +134,11 @@ module _ (s : Setting) (v : Valid (s .geometry)) (mask-bytes : Bytes (s .mask)) 
                 up-to (λ k. bitAt marked k ≡ false → bitAt (r .invalid) k ≡ false → blockOn s (r .progress) k ≡ replicate (blockSize (s .geometry)) 255) n b l (x .erased y b) (λ m f. absurd (due why y m));
             unmarked = λ y b l. up-to (λ k. bitAt (r .invalid) k ≡ true → isMarked (s .geometry) (blockOn s (r .progress) k) ≡ false) n b l (x .unmarked y b) unlisted;
             numbers = λ y b l.
-                up-to (λ k. bitAt (r .invalid) k ≡ true → greatestTo (s .geometry) (blockOn s (r .progress) k) (s .geometry .pages) ≤ r .greatest) n b l (x .numbers y b) unlisted;
+                up-to (λ k. bitAt (r .invalid) k ≡ true → greatestTo (s .geometry) (blockOn s (r .progress) k) (s .geometry .pages) ≤ r .numbers .greatest) n b l (x .numbers y b) unlisted;
             spent = omega (arith, x .spent, more);
             failures = x .failures;
             failed-by = x .failed-by;
+            none-greatest = x .none-greatest;
             greatest-by = x .greatest-by;
           }
 
@@ -169,11 +170,11 @@ module _ (s : Setting) (v : Valid (s .geometry)) (mask-bytes : Bytes (s .mask)) 
 
         -- the erase did not fail
         module _ (f : isFailed (e .outcome) ≡ false) where
-          unfailed-is : round e (r .invalid) (r .greatest) ≡ next-round n r
-          unfolding next-round blockErased afterErase failedAt greatestAt
-          unfailed-is = rw (t, free, f, none-more)
+          unfailed-is : round e (r .invalid) (r .numbers) ≡ next-round n r
+          unfolding next-round blockErased afterErase failedAt joined numbersAt
+          unfailed-is = rw (t, free, f)
 
-          unfailed : Rounded s marked p (suc n) (round e (r .invalid) (r .greatest))
+          unfailed : Rounded s marked p (suc n) (round e (r .invalid) (r .numbers))
           unfailed =
               record {
                 sound = left .sound;
@@ -190,11 +191,12 @@ module _ (s : Setting) (v : Valid (s .geometry)) (mask-bytes : Bytes (s .mask)) 
                     up-to (λ k. bitAt (r .invalid) k ≡ true → isMarked (s .geometry) (blockOn s e k) ≡ false) n b l
                     (λ h c. ap (isMarked (s .geometry)) (others-before b h) ∙ x .unmarked t b h c) unlisted;
                 numbers = λ y b l.
-                    up-to (λ k. bitAt (r .invalid) k ≡ true → greatestTo (s .geometry) (blockOn s e k) (s .geometry .pages) ≤ r .greatest) n b l
-                    (λ h c. subst (λ (row : List ℕ). greatestTo (s .geometry) row (s .geometry .pages) ≤ r .greatest) (sym (others-before b h)) (x .numbers t b h c)) unlisted;
+                    up-to (λ k. bitAt (r .invalid) k ≡ true → greatestTo (s .geometry) (blockOn s e k) (s .geometry .pages) ≤ r .numbers .greatest) n b l
+                    (λ h c. subst (λ (row : List ℕ). greatestTo (s .geometry) row (s .geometry .pages) ≤ r .numbers .greatest) (sym (others-before b h)) (x .numbers t b h c)) unlisted;
                 spent = omega (arith, x .spent, left .spent, more);
                 failures = λ b h. unfailed-none q e n f (left .failures) b ∙ x .failures b h;
                 failed-by = λ b h z. x .failed-by b h (sym (unfailed-none q e n f (left .failures) b) ∙ z);
+                none-greatest = x .none-greatest;
                 greatest-by = x .greatest-by;
               }
 
@@ -203,11 +205,17 @@ module _ (s : Setting) (v : Valid (s .geometry)) (mask-bytes : Bytes (s .mask)) 
           abbrev scanned : Progress
           scanned = pagesRead s n (s .geometry .pages) (resumed e)
 
-          abbrev most : ℕ
-          most = greatestTo (s .geometry) (blockOn s e n) (s .geometry .pages)
+          abbrev more-numbers : Numbers
+          more-numbers = numbersOf (s .geometry) (blockOn s e n)
 
-          failed-is : round scanned (withBit (r .invalid) n) (max (r .greatest) most) ≡ next-round n r
-          unfolding next-round blockErased afterErase failedAt greatestAt
+          abbrev all-numbers : Numbers
+          all-numbers = joined (r .numbers) more-numbers
+
+          most-is : all-numbers .greatest ≡ max (r .numbers .greatest) (more-numbers .greatest)
+          most-is = joined-most (r .numbers) more-numbers (x .none-greatest) (numbers-none (s .geometry) (blockOn s e n))
+
+          failed-is : round scanned (withBit (r .invalid) n) all-numbers ≡ next-round n r
+          unfolding next-round blockErased afterErase failedAt numbersAt
           failed-is = rw (t, free, w)
 
           goes-on : Unchanged s (e .line .chip .array) (e .line .chip .history) (resumed e)
@@ -257,7 +265,7 @@ module _ (s : Setting) (v : Valid (s .geometry)) (mask-bytes : Bytes (s .mask)) 
               ∙ ap (λ (y : Bool). cond y true (cond (eqb n b) true false)) (x .failures b h)
               ∙ bit-more (r .invalid) n b byte-there
 
-          failed : Rounded s marked p (suc n) (round scanned (withBit (r .invalid) n) (max (r .greatest) most))
+          failed : Rounded s marked p (suc n) (round scanned (withBit (r .invalid) n) all-numbers)
           failed =
               record {
                 sound = unchanged .sound;
@@ -276,14 +284,15 @@ module _ (s : Setting) (v : Valid (s .geometry)) (mask-bytes : Bytes (s .mask)) 
                     (λ h c. ap (isMarked (s .geometry)) (same-block b ∙ others-before b h) ∙ x .unmarked t b h (sym (bit-before b h) ∙ c))
                     (λ c. ap (isMarked (s .geometry)) (same-block n) ∙ still-unmarked);
                 numbers = λ y b l.
-                    up-to (λ k. bitAt (withBit (r .invalid) n) k ≡ true → greatestTo (s .geometry) (blockOn s scanned k) (s .geometry .pages) ≤ max (r .greatest) most) n b l
+                    up-to (λ k. bitAt (withBit (r .invalid) n) k ≡ true → greatestTo (s .geometry) (blockOn s scanned k) (s .geometry .pages) ≤ all-numbers .greatest) n b l
                     (λ h c.
-                    subst (λ (row : List ℕ). greatestTo (s .geometry) row (s .geometry .pages) ≤ max (r .greatest) most) (sym (same-block b ∙ others-before b h))
-                    (omega (arith, x .numbers t b h (sym (bit-before b h) ∙ c))))
-                    (λ c. subst (λ (row : List ℕ). greatestTo (s .geometry) row (s .geometry .pages) ≤ max (r .greatest) most) (sym (same-block n)) (omega arith));
+                    subst (λ (row : List ℕ). greatestTo (s .geometry) row (s .geometry .pages) ≤ all-numbers .greatest) (sym (same-block b ∙ others-before b h))
+                    (omega (arith, most-is, x .numbers t b h (sym (bit-before b h) ∙ c))))
+                    (λ c. subst (λ (row : List ℕ). greatestTo (s .geometry) row (s .geometry .pages) ≤ all-numbers .greatest) (sym (same-block n)) (omega (arith, most-is)));
                 spent = omega (arith, x .spent, left .spent, scan-spent, more);
                 failures = failed-bits;
                 failed-by = λ b h z. left .sound .failed-by w;
+                none-greatest = joined-none (r .numbers) more-numbers (x .none-greatest) (numbers-none (s .geometry) (blockOn s e n));
                 greatest-by = λ z. left .sound .failed-by w;
               }
 
@@ -316,6 +325,7 @@ module _ (s : Setting) (v : Valid (s .geometry)) (mask-bytes : Bytes (s .mask)) 
         spent = omega arith;
         failures = λ b l. none b ∙ sym (blank-bit 512 b);
         failed-by = λ b l z. absurd (false≢true (sym (none b) ∙ z));
+        none-greatest = λ z. refl;
         greatest-by = λ z. absurd (z refl);
       }
   round-leaves sound ends none (suc n) h =

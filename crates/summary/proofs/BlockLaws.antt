@@ -188,6 +188,10 @@ module _ (g : Geometry) (block : List ℕ) where
   summed-greatest h =
       subst (λ (k : ℕ). summed g block k .greatest ≡ greatestTo g block k) (more-than-one (g .pages) h) (sums (suc (g .pages - 2)) .greatest-is)
 
+  pub summed-any : 2 ≤ g .pages → summed g block (g .pages) .any ≡ cond (anyTo g block (g .pages)) 1 0
+  summed-any h =
+      subst (λ (k : ℕ). summed g block k .any ≡ cond (anyTo g block k) 1 0) (more-than-one (g .pages) h) (sums (suc (g .pages - 2)) .any-is)
+
   -- a summary of all pages says what the definitions say
   pub says-complete : 2 ≤ g .pages → saysComplete (summed g block (g .pages)) ≡ isComplete g block
   unfolding isComplete
@@ -216,7 +220,7 @@ module _ (g : Geometry) (block : List ℕ) where
   unfolding hasNumber greatest
   says-greatest h t = summed-greatest h ∙ rw (unless (isMarked g block) _ t .0)
 
-  none-to : (n : ℕ) → anyTo g block n ≡ false → greatestTo g block n ≡ 0
+  pub none-to : (n : ℕ) → anyTo g block n ≡ false → greatestTo g block n ≡ 0
   unfolding anyTo greatestTo
   none-to zero f = refl
   none-to (suc n) f =

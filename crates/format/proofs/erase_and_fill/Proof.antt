@@ -78,43 +78,44 @@ part-first-end : tie.Need-part-first-end
 part-first-end c =
     let way = c .before .before .before .before .before .before .before .before .before in
     let way-2 = way .before .before .before .before .before .before .before .before .before in
-    let at-page-size = way-2 .before .before in
+    let at-page-size = way-2 .before .before .before in
     let s = at-page-size .before .before .before .before .before .before in
     search (needs, at-page-size .page-size .ensures, page-size-most (s .args .g) (s .pre .0 .is-valid))
 
 fill-first-requires : tie.Need-fill-first-requires
 fill-first-requires c κs =
-    let at-match = c .before .before .before .before .before .before in
+    let at-match = c .before .before .before .before .before .before .before in
     let at-erase-all = at-match .before .before .before .before .before .before .before .before .before in
     let at-page-size = at-erase-all .before .before .before .before .before .before in
     let s = at-page-size .before .before .before .before .before .before in
     let size = at-page-size .page-size .ensures in
-    (at-erase-all .erase-all .ensures .next (passed-by-tag _ (at-match .match .keys1)), (lent-page _ _ (omega (arith, size, page-size-most (s .args .g) (s .pre .0 .is-valid))) size, (omega (arith, s .pre .1, round-left (setting (s .args .g) (now (s .args .mask)) (now (s .args .fates))) (s .args .t8) (line (s .args .from) (now (s .args .array)) (now (s .args .register)) (now (s .args .history))) _ _ _ _ (at-erase-all .erase-all .ensures)), at-erase-all .erase-all .ensures .greatest-fits (passed-by-tag _ (at-match .match .keys1)))))
+    (at-erase-all .erase-all .ensures .next (passed-by-tag _ (at-match .match .keys1)), (lent-page _ _ (omega (arith, size, page-size-most (s .args .g) (s .pre .0 .is-valid))) size, (omega (arith, s .pre .1, round-left (setting (s .args .g) (now (s .args .mask)) (now (s .args .fates))) (s .args .t8) (line (s .args .from) (now (s .args .array)) (now (s .args .register)) (now (s .args .history))) _ _ _ _ (at-erase-all .erase-all .ensures)), at-erase-all .erase-all .ensures .numbers-fit (passed-by-tag _ (at-match .match .keys1)))))
 
 same-length-4 : tie.Need-same-length-4
 same-length-4 c =
     let at-array2 = c .before .before .before .before .before .before in
     let way = at-array2 .before .before .before .before .before .before .before .before .before in
-    let at-array = way .before .before .before .before .before .before .before in
+    let at-array = way .before .before .before .before .before .before .before .before in
     at-array2 .array2 .given ∙ at-array .array .given
 
 same-length-5 : tie.Need-same-length-5
 same-length-5 c =
     let at-register2 = c .before .before .before .before in
     let way = at-register2 .before .before .before .before .before .before .before .before .before in
-    let at-register = way .before .before .before .before .before .before .before in
+    let at-register = way .before .before .before .before .before .before .before .before in
     at-register2 .register2 .given ∙ at-register .register .given
 
 same-length-6 : tie.Need-same-length-6
 same-length-6 c =
     let way = c .before .before .before .before .before .before .before .before .before in
-    let at-history = way .before .before .before .before .before .before .before .before .before in
+    let way-2 = way .before .before .before .before .before .before .before .before .before in
+    let at-history = way-2 .before in
     c .before .before .history2 .given ∙ at-history .history .given
 
 returns-2 : tie.Need-returns-2
 returns-2 c =
     let at-fill-first = c .before .before .before .before .before .before .before in
-    let at-match = at-fill-first .before .before .before .before .before .before .before in
+    let at-match = at-fill-first .before .before .before .before .before .before .before .before in
     let at-erase-all = at-match .before .before .before .before .before .before .before .before .before in
     let way = at-erase-all .before .before .before .before .before .before .before .before .before in
     let s = way .before .before .before in
