@@ -73,9 +73,9 @@ module _ (g : Geometry) (v : Valid g) (invalid : List ℕ) (bits : Bitmap (g .bl
   unfolding tablePage
   first-long = simp (length-append, length-bytesOf, length-take, length-replicate) (omega (arith, room, fits))
 
-  pub table-long : (i : ℕ) → i < g .pages → length (tableMain g invalid i) ≡ g .main
+  pub table-long : (i : ℕ) → length (tableMain g invalid i) ≡ g .main
   unfolding tableMain
-  table-long i h = cases (eqb i 0) (λ t. rw t first-long) (λ t. rw t (length-replicate {A = ℕ} (g .main) 255))
+  table-long i = cases (eqb i 0) (λ t. rw t first-long) (λ t. rw t (length-replicate {A = ℕ} (g .main) 255))
 
   first-bytes : Bytes (tablePage (g .main) (g .blocks) (g .logical) invalid)
   unfolding tablePage
@@ -86,9 +86,9 @@ module _ (g : Geometry) (v : Valid g) (invalid : List ℕ) (bits : Bitmap (g .bl
       (bytes-append (bytesOf 2 (countBits invalid (g .blocks))) _ (bytes-bytesOf 2 (countBits invalid (g .blocks))) (bytes-bytesOf 2 8))))
       (bytes-append (take (bitmapBytes (g .blocks)) invalid) _ (bytes-take (bitmapBytes (g .blocks)) invalid (bits .bytes)) (bytes-replicate (g .main - (8 + bitmapBytes (g .blocks)))))
 
-  pub table-bytes : (i : ℕ) → i < g .pages → Bytes (tableMain g invalid i)
+  pub table-bytes : (i : ℕ) → Bytes (tableMain g invalid i)
   unfolding tableMain
-  table-bytes i h = cases (eqb i 0) (λ t. rw t first-bytes) (λ t. rw t (bytes-replicate (g .main)))
+  table-bytes i = cases (eqb i 0) (λ t. rw t first-bytes) (λ t. rw t (bytes-replicate (g .main)))
 
   -- the bitmap of page 0
   pub bitmap-is : bitmapOf (g .blocks) (tablePage (g .main) (g .blocks) (g .logical) invalid) ≡ take (bitmapBytes (g .blocks)) invalid
@@ -138,10 +138,10 @@ module _ {g : Geometry} {array invalid : List ℕ} {table number : ℕ} (r : Set
   v = r .is-valid
 
   main-long : (i : ℕ) → i < g .pages → length (tableMain g invalid i) ≡ g .main
-  main-long = table-long g v invalid (r .invalid-bits)
+  main-long i h = table-long g v invalid (r .invalid-bits) i
 
   main-bytes : (i : ℕ) → i < g .pages → Bytes (tableMain g invalid i)
-  main-bytes = table-bytes g v invalid (r .invalid-bits)
+  main-bytes i h = table-bytes g v invalid (r .invalid-bits) i
 
   labelled : Labelled (tableCopy number)
   labelled = table-label number (r .number-fits)

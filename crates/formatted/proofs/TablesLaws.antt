@@ -117,10 +117,10 @@ module _ (s : Setting) (mask-bytes : Bytes (s .mask)) (st : State) (p : Progress
     pages i = copyPage (s .geometry) (tableCopy (nextNumber st)) i (tableMain (s .geometry) (st .invalid) i)
 
     main-long : (i : ℕ) → i < s .geometry .pages → length (tableMain (s .geometry) (st .invalid) i) ≡ s .geometry .main
-    main-long = table-long (s .geometry) v (st .invalid) (r .invalid-bits)
+    main-long i h = table-long (s .geometry) v (st .invalid) (r .invalid-bits) i
 
     main-bytes : (i : ℕ) → i < s .geometry .pages → Bytes (tableMain (s .geometry) (st .invalid) i)
-    main-bytes = table-bytes (s .geometry) v (st .invalid) (r .invalid-bits)
+    main-bytes i h = table-bytes (s .geometry) v (st .invalid) (r .invalid-bits) i
 
     page-bytes : (i : ℕ) → i < s .geometry .pages → Bytes (pages i)
     page-bytes = copy-bytes (s .geometry) v (tableCopy (nextNumber st)) (table-label (nextNumber st) number-fits) (tableMain (s .geometry) (st .invalid)) main-long main-bytes

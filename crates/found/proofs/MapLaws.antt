@@ -155,8 +155,8 @@ module _ (g : Geometry) (v : Valid g) (array : List ℕ) (long : length array �
       rw (u, part))
       (λ u. rw u)))
 
-  number-same : (l : ℕ) → l < g .logical → (b : ℕ) → b < g .blocks → cond (isCandidate c (bitsAt g array table) (g .logical) b) (eqb (getD (c .logicals) b 0) l) false ≡ true → getD (c .numbers) b 0 ≡ numberAt g array b
-  number-same l k b h t =
+  number-same : (l b : ℕ) → b < g .blocks → cond (isCandidate c (bitsAt g array table) (g .logical) b) (eqb (getD (c .logicals) b 0) l) false ≡ true → getD (c .numbers) b 0 ≡ numberAt g array b
+  number-same l b h t =
       let d = candidate c (bitsAt g array table) (g .logical) b (both (isCandidate c (bitsAt g array table) (g .logical) b) _ t .0) in
       let counts-b = sym (counted-same g v array long c r table below b h) ∙ d .is-counted in
       r .number-is b h (both (unlisted g array table b) _ counts-b .1)
@@ -164,7 +164,7 @@ module _ (g : Geometry) (v : Valid g) (array : List ℕ) (long : length array �
   copy-same : (l : ℕ) → l < g .logical
       → pick (λ b. cond (isCandidate c (bitsAt g array table) (g .logical) b) (eqb (getD (c .logicals) b 0) l) false) (λ b. getD (c .numbers) b 0) (g .blocks) ≡ currentCopy g array table l
   unfolding currentCopy
-  copy-same l k = pick-same _ _ (λ b. getD (c .numbers) b 0) (numberAt g array) (g .blocks) (test-same l k) (number-same l k)
+  copy-same l k = pick-same _ _ (λ b. getD (c .numbers) b 0) (numberAt g array) (g .blocks) (test-same l k) (number-same l)
 
   map-entry : (l : ℕ) → l < 4096 → getD (mapTo c (bitsAt g array table) (g .blocks) (g .logical) (replicate 4096 65535) (g .blocks)) l 0 ≡ cond (ltb l (g .logical)) (entryOf (currentCopy g array table l)) 65535
   map-entry l h =

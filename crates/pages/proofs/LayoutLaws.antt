@@ -156,9 +156,9 @@ pub label-same : {a b c d e f g h : ℕ} → a ≡ e → b ≡ f → c ≡ g →
 label-same p q r s = rw (p, q, r, s)
 
 -- the label that was encoded reads back
-pub encoded-label : (spare : ℕ) (l : Label) (main : List ℕ) → Fits l → restAt (numberWidth (l .kind)) ≤ spare → labelOf (length main) (encoded spare l main) ≡ l
+pub encoded-label : (spare : ℕ) (l : Label) (main : List ℕ) → Fits l → labelOf (length main) (encoded spare l main) ≡ l
 unfolding labelOf labelBytes bytesOf
-encoded-label spare l main f h =
+encoded-label spare l main f =
     label-same (encoded-kind spare l main)
     (rw (encoded-spare spare l main) (numberOf-bytesOf 2 (l .logical) (f .logical-fits)))
     (rw (encoded-spare spare l main))
@@ -243,10 +243,9 @@ encoded-rest spare l main =
 -- what is encoded is whole
 pub encoded-whole : (spare : ℕ) (l : Label) (main : List ℕ)
     → Fits l
-    → restAt (numberWidth (l .kind)) ≤ spare
     → 8 * (length main + 5 + numberWidth (l .kind)) < 65536
     → whole (length main) (encoded spare l main) ≡ true
-encoded-whole spare l main f r h =
+encoded-whole spare l main f h =
     parts-whole (length main) (encoded spare l main)
     record {
       width = rw (encoded-width spare l main) (f .width-some);
@@ -313,10 +312,8 @@ whole-over-any main {e} {p} o a b = whole-over main o a b (whole-width main p b 
 -- what is left of an encoded page is whole only if no bit of it was raised, whatever kind it says it is
 pub raised-whole-any : (spare : ℕ) (l : Label) (main p : List ℕ)
     → Fits l
-    → restAt (numberWidth (l .kind)) ≤ spare
     → 8 * (length main + 5 + numberWidth (l .kind)) < 65536
-    → Bytes main
     → Over (encoded spare l main) p
     → whole (length main) p ≡ true
     → p ≡ encoded spare l main
-raised-whole-any spare l main p f r h b o a = whole-over-any (length main) o (encoded-whole spare l main f r h) a
+raised-whole-any spare l main p f h o a = whole-over-any (length main) o (encoded-whole spare l main f h) a

@@ -6,7 +6,6 @@ use mathlib.Core.Path.{_≡_, refl}
 use native.Mathlib.Omega.{arith}
 use lib.Count.{onesIn, ones}
 use lib.ListN.{length, set, replicate}
-use Rattle.cells.proofs.CellLaws.{bytes-replicate}
 use Rattle.pages.specs.Check.{zeroBits}
 use Rattle.pages.specs.Layout.{Fits, label, dataKind, numberWidth, isDataKind, isTableKind, bytesOf, numberOf, labelBytes, encoded, kindOf, labelOf, allOnes, storedCheck, countedCheck, whole}
 use Rattle.pages.specs.Over.{Over}
@@ -49,4 +48,4 @@ sample-fits = record { width-some = omega arith; kind-byte = omega arith; logica
 pub sample-raised : (p : List ℕ) → Over sample p → whole 32 p ≡ true → p ≡ sample
 unfolding sample numberWidth isDataKind isTableKind
 sample-raised p o h =
-    raised-whole-any 16 (label dataKind 0 0 2) (replicate 32 255) p sample-fits (omega arith) (omega arith) (bytes-replicate 32) o h
+    raised-whole-any 16 (label dataKind 0 0 2) (replicate 32 255) p sample-fits (omega arith) o h

@@ -98,9 +98,6 @@ module _ (g : Geometry) (v : Valid g) (c : Copy) (fits : Labelled c) (main : ℕ
   pub copy-bytes : (i : ℕ) → i < g .pages → Bytes (pages i)
   copy-bytes i h = bytes-encoded (g .spare) (labelAt i) (main i) (label-fits i h) (bytes i h)
 
-  spare-enough : 7 + numberWidth (c .kind) ≤ g .spare
-  spare-enough = omega (arith, width-le (c .kind), v .spare-least)
-
   check-fits : (i : ℕ) → i < g .pages → 8 * (length (main i) + 5 + numberWidth (c .kind)) < 65536
   check-fits i h = omega (arith, width-le (c .kind), long i h, v .main-most)
 
@@ -117,11 +114,11 @@ module _ (g : Geometry) (v : Valid g) (c : Copy) (fits : Labelled c) (main : ℕ
   module _ (row : List ℕ) (same : (i : ℕ) → i < g .pages → pageIn g row i ≡ pages i) where
     pub copy-whole : (i : ℕ) → i < g .pages → wholeIn g row i ≡ true
     copy-whole i h =
-        ap (whole (g .main)) (same i h) ∙ by-main (λ (k : ℕ). whole k (pages i) ≡ true) i h (encoded-whole (g .spare) (labelAt i) (main i) (label-fits i h) spare-enough (check-fits i h))
+        ap (whole (g .main)) (same i h) ∙ by-main (λ (k : ℕ). whole k (pages i) ≡ true) i h (encoded-whole (g .spare) (labelAt i) (main i) (label-fits i h) (check-fits i h))
 
     pub copy-label : (i : ℕ) → i < g .pages → labelIn g row i ≡ labelAt i
     copy-label i h =
-        ap (labelOf (g .main)) (same i h) ∙ by-main (λ (k : ℕ). labelOf k (pages i) ≡ labelAt i) i h (encoded-label (g .spare) (labelAt i) (main i) (label-fits i h) spare-enough)
+        ap (labelOf (g .main)) (same i h) ∙ by-main (λ (k : ℕ). labelOf k (pages i) ≡ labelAt i) i h (encoded-label (g .spare) (labelAt i) (main i) (label-fits i h))
 
     pub copy-main : (i : ℕ) → i < g .pages → mainIn g row i ≡ main i
     copy-main i h = ap (take (g .main)) (same i h) ∙ by-main (λ (k : ℕ). take k (pages i) ≡ main i) i h (encoded-main (g .spare) (labelAt i) (main i))
@@ -164,13 +161,13 @@ module _ (g : Geometry) (v : Valid g) (c : Copy) (fits : Labelled c) (main : ℕ
     -- a page that is whole is the page that was meant
     pub raised-same : (i : ℕ) → i < g .pages → wholeIn g row i ≡ true → pageIn g row i ≡ pages i
     raised-same i h t =
-        raised-whole-any (g .spare) (labelAt i) (main i) (pageIn g row i) (label-fits i h) spare-enough (check-fits i h) (bytes i h) (over i h)
+        raised-whole-any (g .spare) (labelAt i) (main i) (pageIn g row i) (label-fits i h) (check-fits i h) (over i h)
         (ap (λ (k : ℕ). whole k (pageIn g row i)) (long i h) ∙ t)
 
     raised-number : (i : ℕ) → i < g .pages → wholeIn g row i ≡ true → labelIn g row i .number ≡ c .number
     raised-number i h t =
         ap (λ (x : List ℕ). labelOf (g .main) x .number) (raised-same i h t)
-        ∙ by-main (λ (k : ℕ). labelOf k (pages i) .number ≡ c .number) i h (ap (λ (x : Label). x .number) (encoded-label (g .spare) (labelAt i) (main i) (label-fits i h) spare-enough))
+        ∙ by-main (λ (k : ℕ). labelOf k (pages i) .number ≡ c .number) i h (ap (λ (x : Label). x .number) (encoded-label (g .spare) (labelAt i) (main i) (label-fits i h)))
 
     pub raised-greatest : greatestTo g row (g .pages) < c .number + 1
     raised-greatest = greatest-most g row (c .number + 1) (g .pages) (omega arith) (λ i h t. omega (arith, raised-number i h t))

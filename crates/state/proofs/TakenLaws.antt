@@ -106,9 +106,9 @@ module _ (s : State) (blocks : ℕ) (room : blocks ≤ 4096) where
 
 -- the flags of marked and invalid blocks, and the table's block
 module _ (marked invalid : List ℕ) where
-  flag-free : (b : ℕ) → b < 4096 → eqb (flagOf marked invalid b) 0 ≡ permitted marked invalid (replicate 512 0) b
+  flag-free : (b : ℕ) → eqb (flagOf marked invalid b) 0 ≡ permitted marked invalid (replicate 512 0) b
   unfolding permitted
-  flag-free b h =
+  flag-free b =
       rw (blank-bit 512 b)
       (cases (bitAt marked b) (λ t. rw t) (λ f. rw f (cases (bitAt invalid b) (λ t. rw t) (λ g. rw g))))
 
@@ -116,7 +116,7 @@ module _ (marked invalid : List ℕ) where
   free-flags taken e b h =
       ap (λ (x : List ℕ). eqb (getD x b 0) 0) e
       ∙ ap (λ (x : ℕ). eqb x 0) (flag-at marked invalid 4096 b h)
-      ∙ flag-free b h
+      ∙ flag-free b
 
 -- the walk from the flags on, with the table's block taken, is the walk from the bits of the table's block on
 pub takes-all : (s : State) (blocks logical : ℕ) (taken : List ℕ) → blocks ≤ 4096 → s .table < blocks → length taken ≡ 4096 → taken ≡ flagsOf (s .marked) (s .invalid) 4096 → takesFrom (s .map) blocks (set taken (s .table) 1) 0 logical ≡ soundFrom s blocks (withBit (replicate 512 0) (s .table)) 0 logical

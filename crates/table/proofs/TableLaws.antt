@@ -89,8 +89,8 @@ pairs : (xs ys : List ℕ) (n : ℕ) → length xs ≡ n → length ys ≡ 2 →
 pairs xs ys n e f = length-append xs ys ∙ ap₂ _+_ e f
 
 -- the bitmap as it is copied: a lent part comes back with the bytes over it
-pub copied : (at k size : ℕ) (bits p y : List ℕ) → k ≡ size → length bits ≡ size → at + size ≤ length p → y ≡ over bits (take k (drop at p)) → take at p ++ (y ++ drop k (drop at p)) ≡ put at bits p
-copied at k size bits p y e l h f =
+pub copied : (at k size : ℕ) (bits p y : List ℕ) → k ≡ size → length bits ≡ size → y ≡ over bits (take k (drop at p)) → take at p ++ (y ++ drop k (drop at p)) ≡ put at bits p
+copied at k size bits p y e l f =
     let whole : y ≡ bits =
     f ∙ rw (l, e, drop-of-length-le (take size (drop at p)) {i = size} (simp (length-take, length-drop) (omega arith)), append-nil) in
     rw (whole, e) (put-lent at size bits p l)
@@ -103,7 +103,7 @@ bits-in-main g v size page e =
 
 -- page 0 as it is built: four fields, the bitmap, FFh
 module _ (m p₁ p₂ p₃ p₄ p₅ p₆ bits : List ℕ) (blocks logical count size : ℕ) where
-  pub built : 8 + size ≤ length m → size ≤ length bits → size ≡ bitmapBytes blocks → count ≡ countBits bits blocks
+  pub built : size ≤ length bits → size ≡ bitmapBytes blocks → count ≡ countBits bits blocks
       → p₁ ≡ put 0 (bytesOf 2 blocks) m
       → p₂ ≡ put 2 (bytesOf 2 logical) p₁
       → p₃ ≡ put 4 (bytesOf 2 count) p₂
@@ -113,7 +113,7 @@ module _ (m p₁ p₂ p₃ p₄ p₅ p₆ bits : List ℕ) (blocks logical count
       → p₆ ≡ take (8 + size) p₅ ++ replicate (length p₅ - (8 + size)) 255
       → p₆ ≡ tablePage (length m) blocks logical bits
   unfolding tablePage
-  built h b z n e₁ e₂ e₃ e₄ e₅ l e₆ =
+  built b z n e₁ e₂ e₃ e₄ e₅ l e₆ =
       let f₁ = bytesOf 2 blocks in
       let f₂ = bytesOf 2 logical in
       let f₃ = bytesOf 2 count in
@@ -184,13 +184,13 @@ module _ (g : Geometry) (p : ℕ) (page bits : List ℕ) where
   unfolding bitsWith
   no-bitmap z = rw (ne-eqb p 0 z)
 
-  pub bitmap-copied : Valid g → length page ≡ pageSize g → bitmapBytes (g .blocks) ≤ length bits → (k size : ℕ) (y : List ℕ) → k ≡ size → p ≡ 0 → size ≡ bitmapBytes (g .blocks)
+  pub bitmap-copied : Valid g → length page ≡ pageSize g → (k size : ℕ) (y : List ℕ) → k ≡ size → p ≡ 0 → size ≡ bitmapBytes (g .blocks)
       → y ≡ over (take (8 + size - 8) (drop 8 page)) (take k (drop 0 bits)) → take 0 bits ++ (y ++ drop k (drop 0 bits)) ≡ bitsWith g p page bits
   unfolding bitsWith
-  bitmap-copied v l room k size y e z d f =
+  bitmap-copied v l k size y e z d f =
       let same = bits-in-main g v size page d in
       let bitmap = bitmapOf (g .blocks) (take (g .main) page) in
       let long : length bitmap ≡ size =
       sym (ap length same) ∙ length-part 8 (8 + size - 8) page (omega (arith, d, l, valid-roomy g v .room)) ∙ omega arith in
       rw (eq-eqb p 0 z)
-      (copied 0 k size bitmap bits y e long (omega (arith, d, room)) (f ∙ ap (λ (x : List ℕ). over x (take k (drop 0 bits))) same))
+      (copied 0 k size bitmap bits y e long (f ∙ ap (λ (x : List ℕ). over x (take k (drop 0 bits))) same))

@@ -1,5 +1,6 @@
 -- `pages::finish_page` meets its contract: its stores, in their order, make the spare bytes. Assumes nothing.
-use Prim.Native.Nat.{_+_}
+use Prim.Native.Nat.{ℕ, _+_}
+use mathlib.Core.List.{List}
 use mathlib.Core.Path.{_≡_, _∙_}
 use native.Mathlib.Nat.{sub-zero}
 use native.Mathlib.Omega.{arith}
@@ -11,20 +12,36 @@ use Rattle.pages.proofs.LayoutLaws.{width-four}
 use Rattle.pages.proofs.finish_page.Statement.{statement}
 use Rattle.pages.proofs.finish_page.Tie as tie
 
+-- the page as it was lent, seen from each store
+abbrev lent₁ : tie.After-write-pair → List ℕ
+lent₁ c = c .before .before .before .args .page .now
+
+abbrev lent₂ : tie.After-write-pair2 → List ℕ
+lent₂ c = lent₁ (c .before .before .before .before)
+
+abbrev lent₃ : tie.After-write-pair3 → List ℕ
+lent₃ c = lent₂ (c .before .before .before .before)
+
+abbrev lent₄ : tie.After-write-pair4 → List ℕ
+lent₄ c = lent₃ (c .before .before .before .before .before .before .before)
+
+abbrev lent₅ : tie.After-fill-ones → List ℕ
+lent₅ c = lent₄ (c .before .before .before .before)
+
 -- the page stays as long as it is
-first : (c : tie.After-write-pair) → length (c .write-pair .last .0) ≡ length (c .before .before .before .args .page .now)
+first : (c : tie.After-write-pair) → length (c .write-pair .last .0) ≡ length (lent₁ c)
 first c = c .write-pair .kept .0 ∙ simp length-set
 
-second : (c : tie.After-write-pair2) → length (c .write-pair2 .last .0) ≡ length (c .before .before .before .before .before .before .before .args .page .now)
+second : (c : tie.After-write-pair2) → length (c .write-pair2 .last .0) ≡ length (lent₂ c)
 second c = c .write-pair2 .kept .0 ∙ simp length-set (first (c .before .before .before .before))
 
-third : (c : tie.After-write-pair3) → length (c .write-pair3 .last .0) ≡ length (c .before .before .before .before .before .before .before .before .before .before .before .args .page .now)
+third : (c : tie.After-write-pair3) → length (c .write-pair3 .last .0) ≡ length (lent₃ c)
 third c = c .write-pair3 .kept .0 ∙ second (c .before .before .before .before)
 
-fourth : (c : tie.After-write-pair4) → length (c .write-pair4 .last .0) ≡ length (c .before .before .before .before .before .before .before .before .before .before .before .before .before .before .before .before .before .before .args .page .now)
+fourth : (c : tie.After-write-pair4) → length (c .write-pair4 .last .0) ≡ length (lent₄ c)
 fourth c = c .write-pair4 .kept .0 ∙ third (c .before .before .before .before .before .before .before)
 
-fifth : (c : tie.After-fill-ones) → length (c .fill-ones .last .0) ≡ length (c .before .before .before .before .before .before .before .before .before .before .before .before .before .before .before .before .before .before .before .before .before .before .args .page .now)
+fifth : (c : tie.After-fill-ones) → length (c .fill-ones .last .0) ≡ length (lent₅ c)
 fifth c = c .fill-ones .kept .0 ∙ fourth (c .before .before .before .before)
 
 add-k : tie.Need-add-k

@@ -6,17 +6,9 @@ use native.Mathlib.Omega.{arith}
 use Prim.Native.Nat.{_+_, _-_, _≤_}
 use lib.ListN.{length, take}
 use lib.Seq.{length-take-le}
-use mathlib.Core.Path.{_≡_, sym, _∙_}
+use mathlib.Core.Path.{sym, _∙_}
 use native.Mathlib.Nat.{sub-zero}
 use Rattle.table.proofs.TableLaws.{built, copied}
-
--- the page stays as long as it is
-fourth : (c : tie.After-write-pair4) → length (c .write-pair4 .last .0) ≡ length (c .before .before .before .before .before .before .before .before .before .before .before .before .before .before .before .before .before .before .args .main .now)
-fourth c =
-    let at-write-pair3 = c .before .before .before .before in
-    let at-write-pair2 = at-write-pair3 .before .before .before .before in
-    let at-write-pair = at-write-pair2 .before .before .before .before in
-    c .write-pair4 .kept .0 ∙ at-write-pair3 .write-pair3 .kept .0 ∙ at-write-pair2 .write-pair2 .kept .0 ∙ at-write-pair .write-pair .kept .0
 
 count-set-requires : tie.Need-count-set-requires
 count-set-requires c κs = search needs
@@ -80,14 +72,12 @@ returns c =
     let a = s .args in
     let p = pair4 .write-pair4 .last .0 in
     let size = bytes .bitmap-bytes .result in
-    let room : 8 + size ≤ length (a .main .now) = rw (bytes .bitmap-bytes .ensures) (s .pre .0 .room) in
     let bits : size ≤ length (a .invalid .now) = rw (bytes .bitmap-bytes .ensures) (omega (arith, s .pre .1)) in
-    let same : length p ≡ length (a .main .now) = fourth pair4 in
-    let over-bits = copied 8 (8 + size - 8) size (take size (a .invalid .now)) p (copy .copy .last .1 .0) (omega arith) (length-take-le size (a .invalid .now) bits) (omega (arith, room, same)) (copy .copy .ensures ∙ rw sub-zero) in
+    let over-bits = copied 8 (8 + size - 8) size (take size (a .invalid .now)) p (copy .copy .last .1 .0) (omega arith) (length-take-le size (a .invalid .now) bits) (copy .copy .ensures ∙ rw sub-zero) in
     let kept = sym (fill .fill-ones .kept .0) ∙ same-length c in
     built (a .main .now) (pair .write-pair .last .0) (pair2 .write-pair2 .last .0) (pair3 .write-pair3 .last .0) p _ (fill .fill-ones .last .0)
     (a .invalid .now) (a .blocks) (a .logical) (count .count-set .result) size
-    room bits (bytes .bitmap-bytes .ensures) (count .count-set .ensures)
+    bits (bytes .bitmap-bytes .ensures) (count .count-set .ensures)
     (pair .write-pair .ensures) (pair2 .write-pair2 .ensures) (pair3 .write-pair3 .ensures) (pair4 .write-pair4 .ensures)
     over-bits kept (fill .fill-ones .ensures)
 

@@ -43,7 +43,7 @@ same-length c = search needs
 returns-2 : tie.Need-returns-2
 returns-2 c =
     let s = c .before .before .before .before .before .before .before .before .before in
-    bitmap-copied (s .args .g) (s .args .place) (now (s .args .page)) (now (s .args .bits)) (s .pre .0) (s .pre .1 .0) (s .pre .1 .1) (c .before .before .before .before .before .bitmap-bytes .result - 0) (c .before .before .before .before .before .bitmap-bytes .result) _ (omega arith) (c .before .before .before .before .before .before .if1 .left) (c .before .before .before .before .before .bitmap-bytes .ensures) (c .before .before .copy .ensures)
+    bitmap-copied (s .args .g) (s .args .place) (now (s .args .page)) (now (s .args .bits)) (s .pre .0) (s .pre .1 .0) (c .before .before .before .before .before .bitmap-bytes .result - 0) (c .before .before .before .before .before .bitmap-bytes .result) _ (omega arith) (c .before .before .before .before .before .before .if1 .left) (c .before .before .before .before .before .bitmap-bytes .ensures) (c .before .before .copy .ensures)
 
 pub copy-bitmap-spec : {M : Type 1} → statement M
 copy-bitmap-spec =
