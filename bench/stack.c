@@ -12,7 +12,6 @@ enum {
     PAGES = 4,
     BLOCK = PAGE * PAGES,
     BLOCKS = 4,
-    MAP = 1056, /* where the map stands in the state (docs/FORMAT.md) */
     STACK = 1 << 20,
     PAINT = 0xa5
 };
@@ -38,6 +37,8 @@ static ucontext_t caller, callee;
 static void format(void) { answer = flash_store_do_format(&store, &call); }
 static void mount(void) { answer = flash_store_do_mount(&store, &call); }
 static void read_page(void) { answer = flash_store_do_read(&store, &call, 0, 0, page, MAIN); }
+static void write_page(void) { answer = flash_store_do_write(&store, &call, 0, 0, page, MAIN); }
+static void erase(void) { answer = flash_store_do_erase(&store, &call, 0); }
 static void nothing(void) {}
 
 /* The bytes of the painted stack that a function changed. */
@@ -64,15 +65,20 @@ static int measure(const char *name, void (*function)(void), size_t cycles) {
 }
 
 int main(void) {
+    static const uint32_t erase_fails[1] = {1 << 16};
     /* 8 reads of mark bytes, the erase of block 0 (fails), 4 reads of its pages, 3 erases, the erase of a fill, its first program (fails). */
     static const uint32_t failing[18] = {[8] = 1 << 16, [17] = 1 << 16};
     int differs = 0;
     memset(array, 0xff, sizeof array);
     differs |= measure("format", format, 354);
     differs |= measure("mount", mount, 931);
-    store.state[MAP] = 1; /* logical block 0 is in block 1 */
-    store.state[MAP + 1] = 0;
+    differs |= measure("write of a page without a copy", write_page, 235);
     differs |= measure("read of a page with a copy", read_page, MAIN + 10);
+    call.fates = erase_fails;
+    call.fates_len = 1;
+    differs |= measure("write over a copy, an erase fails", write_page, 603);
+    call.fates_len = 0;
+    differs |= measure("erase of a logical block", erase, 235);
     store.logical = 1;
     call.fates = failing;
     call.fates_len = 18;

@@ -1,10 +1,16 @@
-/* The small chip of 4 blocks, new: formatted, mounted and read. Ends with 1 where a figure is not the expected one. */
+/*
+ * The small chip of 4 blocks, new: formatted, mounted, read and written; writes cut by a pulled plug, and what the next mount
+ * finds; erased. Ends with 1 where a figure is not the expected one.
+ */
 #include <stdio.h>
 #include <string.h>
 
 #include "flash_store.h"
 
 enum { MAIN = 32, SPARE = 16, PAGES = 4, BLOCKS = 4, LOGICAL = 2, PAGE = MAIN + SPARE, BLOCK = PAGE * PAGES };
+
+/* Cycles: a mount, a read with a copy, a new copy of a block, one that keeps three pages of the old copy. */
+enum { MOUNT = 931, READ = MAIN + 10, COPY = 235, COPY_OVER = COPY + 3 * READ };
 
 static uint8_t array[BLOCK * BLOCKS], page_register[PAGE], history[BLOCKS], mask[BLOCK], page[MAIN];
 
@@ -41,6 +47,26 @@ static size_t read_page(size_t block, size_t length) {
     return flash_store_do_read(&store, &uncut, block, 0, page, length);
 }
 
+/* Reads page 0 of block 0, of which every byte must be this one. */
+static void show_page(const char *name, uint8_t byte, size_t cycles) {
+    memset(page, ~byte, sizeof page);
+    show(name, read_page(0, MAIN), FLASH_STORE_DONE, &uncut, cycles);
+    printf("  first byte %02x\n", page[0]);
+    for (size_t i = 0; i < MAIN; i++) {
+        if (page[i] != byte) {
+            printf("byte %zu is %02x, expected %02x\n", i, page[i], byte);
+            differs = 1;
+        }
+    }
+}
+
+/* Fills page 0 of block 0 with a byte. */
+static size_t write_page(struct flash_store_call *call, uint8_t byte) {
+    uint8_t bytes[MAIN];
+    memset(bytes, byte, sizeof bytes);
+    return flash_store_do_write(&store, call, 0, 0, bytes, sizeof bytes);
+}
+
 /* A plain call, for a state buffer that is a byte short. */
 static size_t format_short(void) {
     return flash_store_format(MAIN, SPARE, PAGES, BLOCKS, LOGICAL, store.state, sizeof store.state - 1, store.words,
@@ -56,25 +82,45 @@ static size_t format_three(void) {
     return flash_store_do_format(&larger, &uncut);
 }
 
-int main(void) {
+/* The new chip formatted and mounted, and calls that are refused. */
+static void begin(void) {
     memset(array, 0xff, sizeof array);
     show("read before any mount", read_page(0, MAIN), FLASH_STORE_MOUNT_FIRST, &uncut, 0);
+    show("write before any mount", write_page(&uncut, 0), FLASH_STORE_MOUNT_FIRST, &uncut, 0);
     show("format, 3 logical blocks", format_three(), FLASH_STORE_GEOMETRY, &uncut, 0);
     show("format, state a byte short", format_short(), FLASH_STORE_BAD_BUFFER, &uncut, 0);
-    show("mount of a new chip", flash_store_do_mount(&store, &uncut), FLASH_STORE_NO_TABLE, &uncut, 931);
+    show("mount of a new chip", flash_store_do_mount(&store, &uncut), FLASH_STORE_NO_TABLE, &uncut, MOUNT);
     show("format", flash_store_do_format(&store, &uncut), FLASH_STORE_DONE, &uncut, 354);
-    show("mount", flash_store_do_mount(&store, &uncut), FLASH_STORE_DONE, &uncut, 931);
-    memset(page, 0, sizeof page);
-    show("read block 0 page 0", read_page(0, MAIN), FLASH_STORE_DONE, &uncut, 0);
-    for (size_t i = 0; i < MAIN; i++) {
-        if (page[i] != 0xff) {
-            printf("byte %zu is %02X, expected FF\n", i, page[i]);
-            differs = 1;
-        }
-    }
-    show("read block 2 page 0", read_page(2, MAIN), FLASH_STORE_ADDRESS, &uncut, 0);
-    show("read into 31 bytes", read_page(0, MAIN - 1), FLASH_STORE_LENGTH, &uncut, 0);
     show("mount cut after 100 cycles", flash_store_do_mount(&store, &cut), FLASH_STORE_CUT, &cut, 100);
     show("read after the cut", read_page(0, MAIN), FLASH_STORE_MOUNT_FIRST, &uncut, 0);
+    show("mount", flash_store_do_mount(&store, &uncut), FLASH_STORE_DONE, &uncut, MOUNT);
+    show_page("read block 0 page 0", 0xff, 0);
+    show("read block 2 page 0", read_page(2, MAIN), FLASH_STORE_ADDRESS, &uncut, 0);
+    show("read into 31 bytes", read_page(0, MAIN - 1), FLASH_STORE_LENGTH, &uncut, 0);
+    show("erase block 2", flash_store_do_erase(&store, &uncut, 2), FLASH_STORE_ADDRESS, &uncut, 0);
+}
+
+/* A write that is cut after so many cycles, where the operation under way takes these bits of each byte; what a mount finds. */
+static void pull_plug(const char *name, uint8_t written, uint32_t allowed, uint8_t taken, uint8_t found) {
+    memset(mask, taken, sizeof mask);
+    cut.allowed = allowed;
+    show(name, write_page(&cut, written), FLASH_STORE_CUT, &cut, allowed);
+    show("read after the cut", read_page(0, MAIN), FLASH_STORE_MOUNT_FIRST, &uncut, 0);
+    show("mount", flash_store_do_mount(&store, &uncut), FLASH_STORE_DONE, &uncut, MOUNT);
+    show_page("read block 0 page 0", found, READ);
+}
+
+int main(void) {
+    begin();
+    show("write 11 to block 0 page 0", write_page(&uncut, 0x11), FLASH_STORE_DONE, &uncut, COPY);
+    show_page("read block 0 page 0", 0x11, READ);
+    show("write 22 over it", write_page(&uncut, 0x22), FLASH_STORE_DONE, &uncut, COPY_OVER);
+    show_page("read block 0 page 0", 0x22, READ);
+    /* An erase is 7 cycles, a program 57. Cut two before its end, a program has begun, and its status is not read. */
+    pull_plug("write 33, first program halved", 0x33, 7 + 57 - 2, 0x0f, 0x22);
+    pull_plug("write 44, last program halved", 0x44, COPY_OVER - 2, 0x0f, 0x22);
+    pull_plug("write 55, last program whole", 0x55, COPY_OVER - 2, 0xff, 0x55);
+    show("erase block 0", flash_store_do_erase(&store, &uncut, 0), FLASH_STORE_DONE, &uncut, COPY);
+    show_page("read block 0 page 0", 0xff, READ);
     return differs;
 }

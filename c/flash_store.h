@@ -9,7 +9,8 @@
  * Start with struct flash_store, struct flash_store_call and the functions flash_store_do_..., at the end of this file.
  *
  * Stack that a call takes, measured as docs/BENCHMARKS.md says: format under 90,000 bytes, mount under 130,000, read under
- * 45,000. No call takes memory from a heap, and the library keeps nothing between calls.
+ * 65,000, write under 95,000, erase under 85,000. No call takes memory from a heap, and the library keeps nothing between
+ * calls.
  */
 #ifndef FLASH_STORE_H
 #define FLASH_STORE_H
@@ -29,7 +30,7 @@ enum flash_store_answer {
     FLASH_STORE_DONE = 0,
     FLASH_STORE_BAD_BUFFER = 100, /* state, words or sent has the wrong length: no cycle, nothing changed */
     FLASH_STORE_GEOMETRY = 1,     /* a limit broken, or the chip or the mask has the wrong length: no cycle, nothing changed */
-    FLASH_STORE_MOUNT_FIRST = 7,  /* state not mounted, or stopped by 8 to 11: no cycle, nothing changed */
+    FLASH_STORE_MOUNT_FIRST = 7,  /* state not mounted, or stopped by 8 to 11 or 255: no cycle, nothing changed */
     FLASH_STORE_ADDRESS = 2,      /* no such logical block or page: no cycle, nothing changed */
     FLASH_STORE_LENGTH = 3,       /* page buffer not main bytes long: no cycle, nothing changed */
     FLASH_STORE_NO_TABLE = 4,     /* no complete table: not mounted, chip unchanged */
@@ -39,7 +40,8 @@ enum flash_store_answer {
     FLASH_STORE_WORN = 8,         /* no block left: stopped */
     FLASH_STORE_SILENT = 10,      /* 256 status reads of one operation all busy: stopped */
     FLASH_STORE_CUT = 11,         /* the allowed cycles are used and another is due: stopped */
-    FLASH_STORE_ILLEGAL = 255     /* a read was handed the words of a chip that is not ready: stopped (docs/DECISIONS.md) */
+    FLASH_STORE_ILLEGAL = 255     /* a read, write or erase was handed the words of a chip that is not ready: stopped
+                                     (docs/DECISIONS.md) */
 };
 
 enum {
@@ -72,7 +74,8 @@ enum {
  *                       after the last word all pass
  *   allowed             cycles before a cut
  *   sent                1: set to the cycles sent, with every answer but BAD_BUFFER
- * state, words, array, page_register, history and sent are written; mask and fates are not. The answer is returned.
+ * state, words, array, page_register, history and sent are written; mask, fates and the bytes of a write are not. The
+ * answer is returned.
  */
 
 /* Formats the chip: erases every unmarked block and fills a table. Mounted with answer 0. */
@@ -96,6 +99,25 @@ size_t flash_store_read(size_t main, size_t spare, size_t pages, size_t blocks, 
                         const uint8_t *mask, size_t mask_len, const uint32_t *fates, size_t fates_len,
                         uint32_t allowed, size_t *sent, size_t sent_len, size_t block, size_t page, uint8_t *buffer,
                         size_t buffer_len);
+
+/*
+ * Writes bytes, main bytes long, to page `page` of logical block `block`. Stored with answer 0. On a chip once formatted with
+ * answer 0, a write or erase answered 8 to 11 shows after the next mount answered 0 either whole or not at all, and no other
+ * page changes.
+ */
+size_t flash_store_write(size_t main, size_t spare, size_t pages, size_t blocks, size_t logical, uint8_t *state,
+                         size_t state_len, size_t *words, size_t words_len, uint8_t *array, size_t array_len,
+                         uint8_t *page_register, size_t page_register_len, uint8_t *history, size_t history_len,
+                         const uint8_t *mask, size_t mask_len, const uint32_t *fates, size_t fates_len,
+                         uint32_t allowed, size_t *sent, size_t sent_len, size_t block, size_t page,
+                         const uint8_t *bytes, size_t bytes_len);
+
+/* Erases logical block `block`: all its pages read FFh. Stored with answer 0; answered 8 to 11, as a write. */
+size_t flash_store_erase(size_t main, size_t spare, size_t pages, size_t blocks, size_t logical, uint8_t *state,
+                         size_t state_len, size_t *words, size_t words_len, uint8_t *array, size_t array_len,
+                         uint8_t *page_register, size_t page_register_len, uint8_t *history, size_t history_len,
+                         const uint8_t *mask, size_t mask_len, const uint32_t *fates, size_t fates_len,
+                         uint32_t allowed, size_t *sent, size_t sent_len, size_t block);
 
 /* What stays from call to call. Set to 0 and filled in once; after that only calls change what it holds and points to. */
 struct flash_store {
@@ -152,6 +174,19 @@ static inline enum flash_store_answer flash_store_do_read(struct flash_store *st
                                                           size_t block, size_t page, uint8_t *buffer,
                                                           size_t buffer_len) {
     return (enum flash_store_answer)flash_store_read(FLASH_STORE_LENT(store, call), block, page, buffer, buffer_len);
+}
+
+/* Writes bytes, main bytes long, to a logical page. */
+static inline enum flash_store_answer flash_store_do_write(struct flash_store *store, struct flash_store_call *call,
+                                                           size_t block, size_t page, const uint8_t *bytes,
+                                                           size_t bytes_len) {
+    return (enum flash_store_answer)flash_store_write(FLASH_STORE_LENT(store, call), block, page, bytes, bytes_len);
+}
+
+/* Erases a logical block. */
+static inline enum flash_store_answer flash_store_do_erase(struct flash_store *store, struct flash_store_call *call,
+                                                           size_t block) {
+    return (enum flash_store_answer)flash_store_erase(FLASH_STORE_LENT(store, call), block);
 }
 
 #undef FLASH_STORE_LENT

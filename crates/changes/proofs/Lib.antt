@@ -1,1 +1,3 @@
 pub mod ChangeTests
+pub mod KeepLaws
+pub mod LoopLaws

@@ -1,3 +1,4 @@
+pub mod ByteLaws
 pub mod LengthLaws
 pub mod RefusedTests
 pub mod RepeatLaws

@@ -1,13 +1,11 @@
 -- What every operation keeps, a fill keeps, as a whole and step by step. Assumes nothing.
 use Prim.Native.Nat.{ℕ, zero, suc}
-use borrow.Table.Steps.{cases}
-use lib.Dec.{eqb}
 use Rattle.geometry.specs.Sizes.{rowOf}
 use Rattle.array.specs.Device.{Setting}
 use Rattle.progress.specs.Progress.{Progress}
 use Rattle.progress.specs.Steps.{eraseOn}
 use Rattle.progress.specs.Kept.{Kept}
-use Rattle.fill.specs.Fill.{Copy, Source, given, kept, mainRead, pageFilled, pagesFilled, filled, erasedFor, stepFilled}
+use Rattle.fill.specs.Fill.{Copy, Source, given, kept, mainRead, pageFilled, pagesFilled, filled}
 
 module _ (s : Setting) (P : Progress → Type 0) (k : Kept s P) where
   main-keeps : (n : ℕ) (source : Source) (p : Progress) → P p → P (mainRead s n source p)
@@ -15,15 +13,9 @@ module _ (s : Setting) (P : Progress → Type 0) (k : Kept s P) where
   main-keeps n (given main) p h = h
   main-keeps n (kept old) p h = k .read (rowOf (s .geometry) old n) 0 (s .geometry .main) p h
 
-  page-keeps : (block : ℕ) (c : Copy) (n : ℕ) (source : Source) (p : Progress) → P p → P (pageFilled s block c n source p)
+  pub page-keeps : (block : ℕ) (c : Copy) (n : ℕ) (source : Source) (p : Progress) → P p → P (pageFilled s block c n source p)
   unfolding pageFilled
   page-keeps block c n source p h = k .program block n _ (mainRead s n source p) (main-keeps n source p h)
-
-  pub step-keeps : (block : ℕ) (c : Copy) (source : ℕ → Source) (n : ℕ) (p : Progress) → P p → P (stepFilled s block c source n p)
-  unfolding erasedFor
-  step-keeps block c source n p h =
-      page-keeps block c n (source n) (erasedFor s block n p)
-      (cases (eqb n 0) (λ t. rw t (k .erase block p h)) (λ t. rw t h))
 
   fill-keeps : (block : ℕ) (c : Copy) (source : ℕ → Source) (n : ℕ) (p : Progress) → P p → P (pagesFilled s block c source n p)
   unfolding pagesFilled

@@ -68,18 +68,6 @@ pagesFilled s block c source (suc n) p = pageFilled s block c n (source n) (page
 abbrev pub filled : Setting → ℕ → Copy → (ℕ → Source) → Progress → Progress
 filled s block c source p = pagesFilled s block c source (s .geometry .pages) (eraseOn s block p)
 
--- the same step by step: each step ends with one page program, and the block is erased before page 0
-unfoldable pub erasedFor : Setting → ℕ → ℕ → Progress → Progress
-erasedFor s block n p = cond (eqb n 0) (eraseOn s block p) p
-
-abbrev pub stepFilled : Setting → ℕ → Copy → (ℕ → Source) → ℕ → Progress → Progress
-stepFilled s block c source n p = pageFilled s block c n (source n) (erasedFor s block n p)
-
--- the first n steps
-unfoldable pub stepsFilled : Setting → ℕ → Copy → (ℕ → Source) → ℕ → Progress → Progress
-stepsFilled s block c source zero p = p
-stepsFilled s block c source (suc n) p = stepFilled s block c source n (stepsFilled s block c source n p)
-
 -- page n is one of the count pages from first on
 unfoldable pub isGiven : ℕ → ℕ → ℕ → Bool
 isGiven first count n = cond (leb first n) (ltb n (first + count)) false

@@ -1,23 +1,22 @@
-// What a step of a fill is made of: the erase before page 0, the main bytes of a page, and its program with label and check.
+// What a page of a fill is made of: its main bytes, and its program with label and check.
 use bus::Bus;
 use geometry::Geometry;
 use polling::Done;
 use polling::Outcome;
 ghost use mathlib.Core.Bool.{true};
 ghost use mathlib.Core.Path.{_≡_};
-ghost use Prim.Native.Nat.{_*_, _≤_, _<_};
-ghost use lib.ListN.{length, take, getD};
+ghost use Prim.Native.Nat.{_*_, _<_};
+ghost use lib.ListN.{length, take};
 ghost use Rattle.geometry.specs.Limits.{Valid};
 ghost use Rattle.geometry.specs.Sizes.{pageSize, rowOf};
-ghost use Rattle.interface.specs.Interface.{outputPhase};
 ghost use Rattle.array.specs.Device.{setting};
 ghost use Rattle.bus.specs.Line.{line, sendAll};
 ghost use Rattle.polling.specs.Outcomes.{isPassed};
 ghost use Rattle.polling.specs.Polling.{outcomeOf};
 ghost use Rattle.sequences.specs.Cycles.{programCycles};
-ghost use Rattle.operations.specs.Ends.{Called, Lent};
+ghost use Rattle.operations.specs.Ends.{Called};
 ghost use Rattle.progress.specs.Steps.{ComesTo};
-ghost use Rattle.fill.specs.Fill.{copy, copyPage, Fillable, mainOf, mainRead, erasedFor, dataSource, isGiven, givenMain};
+ghost use Rattle.fill.specs.Fill.{copy, copyPage, Fillable, mainOf, mainRead, dataSource, isGiven, givenMain};
 
 // What a copy holds beside the bytes that are given: its label, the block of the old copy (none where it is not on the chip),
 // and which pages are given, so many from the first on.
@@ -69,35 +68,6 @@ pub fn program_page(
     );
     let row = geometry::row_of(g, block, place);
     operations::program(from, g, array, register, history, mask, fates, row, page)
-}
-
-// Erases the block before its first page. The chip need not be ready for the erase.
-pub fn erase_for(
-    from: Bus,
-    g: Geometry,
-    array: &mut [u8],
-    register: &mut [u8],
-    history: &mut [u8],
-    mask: &[u8],
-    fates: &[u32],
-    block: usize,
-    place: usize,
-) -> Done
-    requires { ⌜ Lent (setting g (now mask) (now fates)) (line from (now array) (now register) (now history)) ⌝ }
-    requires { ⌜ (0 < place → from .interface .phase ≤ outputPhase) ⌝ }
-    requires { ⌜ block < g .blocks ⌝ }
-    requires { ⌜ (0 < place → getD (now history) block 0 ≤ place) ⌝ }
-    ensures { λ r. ⌜ ComesTo (setting g (now (mask .entry)) (now (fates .entry))) (erasedFor (setting g (now (mask .entry)) (now (fates .entry))) block place) (line from (now (array .entry)) (now (register .entry)) (now (history .entry))) (line (r .bus) (now (array .exit)) (now (register .exit)) (now (history .exit))) (r .outcome) ⌝ }
-    ensures { λ r. ⌜ (isPassed (r .outcome) ≡ true → getD (now (history .exit)) block 0 ≤ place) ⌝ }
-{
-    if place != 0 {
-        return Done {
-            bus: from,
-            outcome: Outcome::Passed,
-        };
-    }
-    let row = geometry::row_of(g, block, 0);
-    operations::erase(from, g, array, register, history, mask, fates, row)
 }
 
 // Puts the main bytes of a page that is given into the buffer.

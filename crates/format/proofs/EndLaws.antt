@@ -1,10 +1,10 @@
 -- The ends of a formatting after its first round. Assumes nothing.
-use Prim.Native.Nat.{ℕ, _+_, _≤_, _<_}
+use Prim.Native.Nat.{ℕ, zero, suc, _+_, _≤_, _<_}
 use mathlib.Core.List.{List, []}
-use mathlib.Core.Path.{_≡_, refl, ap, subst}
+use mathlib.Core.Path.{_≡_, refl, ap, subst, _∙_}
 use native.Mathlib.Omega.{arith}
 use borrow.Author.Tests.{lt-ltb, le-ltb}
-use lib.ListN.{replicate}
+use lib.ListN.{getD, replicate, getD-replicate}
 use Rattle.geometry.specs.declared.Geometry.{Geometry}
 use Rattle.geometry.specs.Limits.{Valid}
 use Rattle.array.specs.Device.{Setting}
@@ -13,14 +13,29 @@ use Rattle.bus.specs.Line.{Line}
 use Rattle.polling.specs.declared.Outcome.the-variants.{Passed}
 use Rattle.operations.specs.Trace.{ArrayOperation}
 use Rattle.choose.specs.Choose.{countPermitted}
-use Rattle.state.specs.State.{blank, numbersLeft}
+use Rattle.state.specs.State.{blank, none, numbersLeft, copyBits, heldBits}
 use Rattle.state.specs.declared.State.{State}
 use Rattle.calls.specs.Call.{endAt}
 use Rattle.progress.specs.Progress.{progress}
-use Rattle.tables.specs.Tables.{TabledAs}
-use Rattle.tables.proofs.KeepLaws.{tables-keep}
-use Rattle.progress.proofs.CountLaws.{allowance-kept}
+use Rattle.tables.specs.Tables.{tablesFilled}
+use Rattle.cursor.specs.Cursor.{running, firstCursor}
+use Rattle.cursor.specs.declared.Cursor.{Cursor}
+use Rattle.cursor.specs.declared.Running.{Running}
+use Rattle.driver.specs.Driver.{Ran, RanAs}
+use Rattle.driven.proofs.TableLaws.{tables-ran}
 use Rattle.format.specs.Format.{firstState, tooFew, tablesOf, endOfRun, tablesRun}
+
+-- before the first table no block holds anything current
+empty-bits : (n : ℕ) (bits : List ℕ) → n ≤ 4096 → copyBits (replicate 4096 none) n bits ≡ bits
+unfolding copyBits
+empty-bits zero bits h = refl
+empty-bits (suc n) bits h =
+    let e : getD (replicate 4096 none) n 0 ≡ none = getD-replicate 4096 n none 0 (omega (arith, h)) in
+    rw e (empty-bits n bits (omega (arith, h)))
+
+first-held : (g : Geometry) → Valid g → (marked invalid : List ℕ) (greatest : ℕ) → heldBits (firstState g marked invalid greatest) (g .logical) ≡ replicate 512 0
+unfolding firstState
+first-held g v marked invalid greatest = empty-bits (g .logical) (replicate 512 0) (omega (arith, v .logical-most, v .blocks-most))
 
 module _ (s : Setting) (n : ℕ) (marked invalid : List ℕ) (greatest : ℕ) (count : ℕ) (c : count ≡ countPermitted marked invalid (replicate 512 0) (s .geometry .blocks)) where
   pub few-end : count < s .geometry .logical + 2 → (l : Line) (st : State) → st ≡ blank 2 → (cs : List Cycle) (os : List ArrayOperation) → endAt n 8 st l ≡ endOfRun n (tablesRun s marked invalid greatest (progress l Passed cs os))
@@ -28,24 +43,25 @@ module _ (s : Setting) (n : ℕ) (marked invalid : List ℕ) (greatest : ℕ) (c
   few-end h l st e cs os =
       rw (← c, lt-ltb count (s .geometry .logical + 2) h) (ap (λ (x : State). endAt n 8 x l) e)
 
-  pub tables-end : s .geometry .logical + 2 ≤ count → (l m : Line) (answer : ℕ) (next : State) → TabledAs s (replicate 512 0) (firstState (s .geometry) marked invalid greatest) l m answer next
-      → (cs : List Cycle) (os : List ArrayOperation) → endAt n answer next m ≡ endOfRun n (tablesRun s marked invalid greatest (progress l Passed cs os))
-  unfolding tablesRun tooFew
-  tables-end h l m answer next d cs os =
-      let all : endAt n answer next m ≡ endAt n (tablesOf s marked invalid greatest (progress l Passed cs os) .answer) (tablesOf s marked invalid greatest (progress l Passed cs os) .state) (tablesOf s marked invalid greatest (progress l Passed cs os) .progress .line) =
-      λ i. endAt n (d .answer-is cs os i) (d .state-is cs os i) (d .line-is cs os i) in
-      rw (← c, le-ltb count (s .geometry .logical + 2) h) all
+  -- the table fills as the loop ran them, from the state as it is built
+  module _ (v : Valid (s .geometry)) (first : State) (e : first ≡ firstState (s .geometry) marked invalid greatest) (cursor : Cursor) (start : cursor ≡ firstCursor 1 0 0 0 none)
+      (l m : Line) (r : Running) (most : ℕ) (run : RanAs s [] most (running cursor first) l m r) (enough : 549755813888 < most) where
+    tables-are : (cs : List Cycle) (os : List ArrayOperation) → endAt n (r .cursor .answer) (r .state) m ≡ endOfRun n (tablesOf s marked invalid greatest (progress l Passed cs os))
+    tables-are cs os =
+        let f = firstState (s .geometry) marked invalid greatest in
+        let p = progress l Passed cs os in
+        let from = subst (λ (x : Cursor). RanAs s [] most (running x f) l m r) start (subst (λ (x : State). RanAs s [] most (running cursor x) l m r) e run) in
+        let whole = tables-ran s v [] (firstCursor 1 0 0 0 none) refl refl f p most enough in
+        let line-is = from .line-is cs os ∙ ap (λ (x : Ran). x .progress .line) whole in
+        let running-is = from .running-is cs os ∙ ap (λ (x : Ran). x .running) whole in
+        (λ i. endAt n (running-is i .cursor .answer) (running-is i .state) (line-is i))
+        ∙ ap (λ (held : List ℕ). endOfRun n (tablesFilled s held (numbersLeft f) f p)) (first-held (s .geometry) v marked invalid greatest)
 
--- table fills leave no more cycles than they found
-pub tables-left : (s : Setting) (held : List ℕ) (st : State) (l m : Line) (answer : ℕ) (next : State) → TabledAs s held st l m answer next → m .left ≤ l .left
-tables-left s held st l m answer next d =
-    omega (arith, tables-keep s _ (allowance-kept s _) held (numbersLeft st) st (progress l Passed [] []) refl, ap (λ (x : Line). x .left) (d .line-is [] []))
+    pub tables-end : s .geometry .logical + 2 ≤ count → (cs : List Cycle) (os : List ArrayOperation) → endAt n (r .cursor .answer) (r .state) m ≡ endOfRun n (tablesRun s marked invalid greatest (progress l Passed cs os))
+    unfolding tablesRun tooFew
+    tables-end h cs os = rw (← c, le-ltb count (s .geometry .logical + 2) h) (tables-are cs os)
 
 -- the search starts on the chip
 pub last-small : (g : Geometry) (marked invalid : List ℕ) (greatest : ℕ) → Valid g → firstState g marked invalid greatest .last < g .blocks
 unfolding firstState
 last-small g marked invalid greatest v = omega (arith, v .blocks-least)
-
--- the table fills from the state as it is built
-pub tabled-from : {s : Setting} {held : List ℕ} {st : State} {l m : Line} {answer : ℕ} {next : State} → (first : State) → st ≡ first → TabledAs s held st l m answer next → TabledAs s held first l m answer next
-tabled-from {s} {held} {st} {l} {m} {answer} {next} first e d = subst (λ (x : State). TabledAs s held x l m answer next) e d

@@ -11,7 +11,7 @@ use Rattle.polling.specs.declared.Outcome.the-variants.{Passed}
 use Rattle.progress.specs.Progress.{Progress, progress, resetOn}
 use Rattle.found.specs.Found.{marksTo}
 use Rattle.choose.specs.Choose.{countPermitted}
-use Rattle.state.specs.State.{blank, mountedWith, numbersLeft}
+use Rattle.state.specs.State.{blank, none, mountedWith, numbersLeft}
 use Rattle.state.specs.declared.State.{State}
 use Rattle.calls.specs.Call.{Result, result, sizedFor, callLine, stopAnswer, endAt}
 use Rattle.tables.specs.Tables.{Tabled, tabled, tablesFilled}
@@ -19,10 +19,10 @@ use Rattle.marks.specs.Marks.{marksRead}
 use Rattle.erasing.specs.Round.{erasedTo}
 
 -- the state before the first table: numbers start one above the greatest on a whole page read, at 1 if none, and the search
--- at block 0; no logical block has a copy
+-- at block 0; there is no table, and no logical block has a copy
 unfoldable pub firstState : Geometry → List ℕ → List ℕ → ℕ → State
 firstState g marked invalid greatest =
-    mountedWith (greatest + 1) 0 (g .blocks - 1) marked invalid (replicate 4096 65535)
+    mountedWith (greatest + 1) none (g .blocks - 1) marked invalid (replicate 4096 none)
 
 -- under N + 2 blocks are unmarked and valid
 unfoldable pub tooFew : Geometry → List ℕ → List ℕ → Bool

@@ -1,6 +1,8 @@
 // Formatting: marks are read, every unmarked block is erased, and a table is filled.
 use bus::Bus;
 use calls::Returned;
+use cursor::Cursor;
+use cursor::Running;
 use geometry::Geometry;
 use interface::Interface;
 use polling::Outcome;
@@ -22,14 +24,14 @@ ghost use Rattle.state.specs.State.{numberEnd};
 ghost use Rattle.calls.specs.Call.{result};
 ghost use Rattle.format.specs.Format.{endOfRun, firstState, tablesRun, roundRun, marksRun, formatting};
 
-// The state before the first table: the search starts at block 0, and no logical block has a copy.
+// The state before the first table: the search starts at block 0, and no block holds anything current.
 fn first_state(g: Geometry, marked: [u8; 512], invalid: [u8; 512], greatest: u64) -> State
     requires { ⌜ Valid g ⌝ }
     requires { ⌜ greatest < numberEnd ⌝ }
     ensures { λ r. ⌜ r ≡ firstState g marked invalid greatest ⌝ }
 {
     let last = g.blocks - 1;
-    State::mounted_above(greatest, 0, last, marked, invalid, [65535; 4096])
+    State::mounted_above(greatest, 65535, last, marked, invalid, [65535; 4096])
 }
 
 // The count of blocks, and table fills until one passes.
@@ -58,7 +60,13 @@ fn fill_first(
         return calls::end(8, State::blank(2), from, allowed);
     }
     let first = first_state(g, marked, invalid, greatest);
-    let tabled = tables::fill_tables(
+    let none = [0u8; 0];
+    let cursor = Cursor::begin(1, 0, 0, 0, 65535);
+    let start = Running {
+        cursor,
+        state: first,
+    };
+    let ran = driver::run(
         from,
         g,
         array,
@@ -66,14 +74,15 @@ fn fill_first(
         history,
         mask,
         fates,
-        first,
-        &held,
+        start,
+        &none,
         page,
+        driver::PROGRAMS,
     );
-    let bus = tabled.bus;
-    let next = tabled.state;
-    let answer = tabled.answer;
-    calls::end(answer, next, bus, allowed)
+    let c = ran.cursor;
+    let bus = ran.bus;
+    let next = ran.state;
+    calls::end(c.answer, next, bus, allowed)
 }
 
 // The first round of erases and the table fills.

@@ -69,6 +69,7 @@ pub record FormatLeft (s : Setting) (d : Device) (n : ℕ) (t : Tabled) : Type 0
   pub stopped-so : (t .answer ≡ 0 → ⊥) → t .state ≡ blank 2
   pub marked-kept : (b : ℕ) → b < s .geometry .blocks → isMarked (s .geometry) (blockIn (s .geometry) (d .array) b) ≡ true
       → blockIn (s .geometry) (t .progress .line .chip .array) b ≡ blockIn (s .geometry) (d .array) b
+  pub marks : t .answer ≡ 0 → (b : ℕ) → b < s .geometry .blocks → isMarked (s .geometry) (blockIn (s .geometry) (t .progress .line .chip .array) b) ≡ isMarked (s .geometry) (blockIn (s .geometry) (d .array) b)
   pub called : t .answer ≡ 0 → Called s (t .progress .line)
   pub formatted : t .answer ≡ 0 → Formatted (s .geometry) (t .progress .line .chip .array) (t .state)
   pub failures : t .answer ≡ 0 → (b : ℕ) → b < s .geometry .blocks → failedIn b (t .progress .started) ≡ bitAt (t .state .invalid) b
@@ -118,12 +119,12 @@ module _ (s : Setting) (array history : List ℕ) (v : Valid (s .geometry)) wher
       ∙ marks-calm n (omega (arith, h)) p u c
 
 -- where the marks are the same, so is their bitmap
-marks-same : (g : Geometry) (a b : List ℕ) (n : ℕ) → ((k : ℕ) → k < n → isMarked g (blockIn g a k) ≡ isMarked g (blockIn g b k)) → marksTo g a n ≡ marksTo g b n
+pub marks-same : (g : Geometry) (a b : List ℕ) (n : ℕ) → ((k : ℕ) → k < n → isMarked g (blockIn g a k) ≡ isMarked g (blockIn g b k)) → marksTo g a n ≡ marksTo g b n
 unfolding marksTo
 marks-same g a b zero f = refl
 marks-same g a b (suc n) f = rw (f n (omega arith), marks-same g a b n (λ k h. f k (omega (arith, h))))
 
-count-most : (marked invalid held : List ℕ) (n : ℕ) → countPermitted marked invalid held n ≤ n
+pub count-most : (marked invalid held : List ℕ) (n : ℕ) → countPermitted marked invalid held n ≤ n
 unfolding countPermitted
 count-most marked invalid held zero = omega arith
 count-most marked invalid held (suc n) =
@@ -151,6 +152,7 @@ pub record Whole (s : Setting) (p : Progress) (t : Tabled) : Type 0 where
   pub failed-by : (b : ℕ) → b < s .geometry .blocks → failedIn b (t .progress .started) ≡ true → Failing (s .fates)
   pub stopped-so : (t .answer ≡ 0 → ⊥) → t .state ≡ blank 2
   pub marked-kept : (b : ℕ) → b < s .geometry .blocks → isMarked (s .geometry) (blockOn s p b) ≡ true → blockOn s (t .progress) b ≡ blockOn s p b
+  pub marks : t .answer ≡ 0 → (b : ℕ) → b < s .geometry .blocks → isMarked (s .geometry) (blockOn s (t .progress) b) ≡ isMarked (s .geometry) (blockOn s p b)
   pub called : t .answer ≡ 0 → Called s (t .progress .line)
   pub formatted : t .answer ≡ 0 → Formatted (s .geometry) (t .progress .line .chip .array) (t .state)
   pub failures : t .answer ≡ 0 → (b : ℕ) → b < s .geometry .blocks → failedIn b (t .progress .started) ≡ bitAt (t .state .invalid) b
@@ -196,6 +198,7 @@ module _ (s : Setting) (v : Valid (s .geometry)) (mask-bytes : Bytes (s .mask)) 
         failed-by = rounded .failed-by;
         stopped-so = λ y. refl;
         marked-kept = λ b h m. rounded .marked-kept b h (sym (mark-is b h) ∙ m);
+        marks = λ z. absurd (not-done z);
         called = λ z. absurd (not-done z);
         formatted = λ z. absurd (not-done z);
         failures = λ z. absurd (not-done z);
@@ -256,6 +259,10 @@ module _ (s : Setting) (v : Valid (s .geometry)) (mask-bytes : Bytes (s .mask)) 
       marked-is =
           d .marked-same
           ∙ marks-same g (p .line .chip .array) after (g .blocks) (λ k h. mark-is k h ∙ sym (d .marks k h))
+
+      marks-kept : (b : ℕ) → b < g .blocks → isMarked g (blockIn g after b) ≡ isMarked g (blockOn s p b)
+      unfolding firstState
+      marks-kept b h = d .marks b h ∙ sym (mark-is b h)
 
       state-is : t .state ≡ mountedState g after
       unfolding firstState mountedState blockOf
@@ -355,6 +362,7 @@ module _ (s : Setting) (v : Valid (s .geometry)) (mask-bytes : Bytes (s .mask)) 
           failed-by = left .failed-by;
           stopped-so = left .stopped;
           marked-kept = λ b h m. kept-marked b h (sym (mark-is b h) ∙ m);
+          marks = marks-kept;
           called = λ z. d z .called;
           formatted = formats;
           failures = λ z. d z .failures;
@@ -419,6 +427,7 @@ module _ (s : Setting) (d : Device) (n : ℕ) (t : sizedFor s d ≡ true) (mask-
         failed-by = w .failed-by;
         stopped-so = w .stopped-so;
         marked-kept = λ b h m. w .marked-kept b h (ap (isMarked (s .geometry)) (block-same b) ∙ m) ∙ block-same b;
+        marks = λ z b h. w .marks z b h ∙ ap (isMarked (s .geometry)) (block-same b);
         called = w .called;
         formatted = w .formatted;
         failures = w .failures;
@@ -449,6 +458,7 @@ module _ (s : Setting) (d : Device) (n : ℕ) (t : sizedFor s d ≡ true) (mask-
         failed-by = λ b h y. absurd (false≢true (sym (calm b) ∙ y));
         stopped-so = λ y. refl;
         marked-kept = λ b h m. block-same b;
+        marks = λ z. absurd (omega (arith, z, least));
         called = λ z. absurd (omega (arith, z, least));
         formatted = λ z. absurd (omega (arith, z, least));
         failures = λ z. absurd (omega (arith, z, least));

@@ -98,6 +98,7 @@ module _ (s : Setting) (d : Device) (n : ℕ) (mask-bytes : Bytes (s .mask)) (t 
         spent-by = left .spent-by;
         silent-by = left .silent-by;
         marked-kept = left .marked-kept;
+        marks-same = left .marks;
         acknowledged = acknowledged;
         lists-failed = λ z b h. left .failures z b h ∙ sym (left .formatted z .lists-are b h);
         sent-is = omega (arith, counted);

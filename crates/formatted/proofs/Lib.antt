@@ -1,4 +1,5 @@
 pub mod CountLaws
+pub mod TableBlockLaws
 pub mod SettledLaws
 pub mod TablesLaws
 pub mod RoundLaws

@@ -45,7 +45,8 @@ use Rattle.runs.proofs.FillLaws.{fill-given, over-erased}
 use Rattle.runs.proofs.CopyLaws.{copy-long, copy-bytes, copy-unmarked, raised-greatest, raised-unmarked}
 use Rattle.bitmaps.proofs.BitmapLaws.{Bitmap, bits-more, bit-more}
 use Rattle.cells.proofs.CellLaws.{raised-erased}
-use Rattle.formatted.proofs.SettledLaws.{Settled, table-label, table-long, table-bytes}
+use Rattle.formatted.proofs.SettledLaws.{Settled}
+use Rattle.formatted.proofs.TableBlockLaws.{table-label, table-long, table-bytes}
 use Rattle.choose.proofs.ChooseLaws.{by-choice, permitted-parts, permitted-other, count-less}
 use Rattle.polling.specs.declared.Outcome.{Outcome}
 use Rattle.formatted.specs.Formatting.{FormatAnswer, is-done, is-worn, is-spent, is-silent, is-cut}

@@ -88,8 +88,8 @@ pub data FormatAnswer : ℕ → Type 0 where
   is-cut : FormatAnswer 11
 
 -- a formatting of a chip whose sizes go together, whatever its state, fates, mask and allowance of n cycles: every
--- cycle legal where it is sent, the sizes kept, blocks with a factory mark untouched, no more cycles than formatMost; if it is acknowledged, the table
--- lists the blocks of which an erase or a program failed, and no others; if not, the state is stopped. It is worn where
+-- cycle legal where it is sent, the sizes kept, blocks with a factory mark untouched, no more cycles than formatMost; if it is acknowledged, no
+-- block has got a mark, and the table lists the blocks of which an erase or a program failed, and no others; if not, the state is stopped. It is worn where
 -- under N + 2 unmarked blocks are unfailed after the first round of erases, and else only where none is in the end;
 -- there it is worn, or spent before that. It is spent only where a fate word fails, silent only where one is slow, and
 -- cut only where all n cycles were sent
@@ -108,6 +108,8 @@ pub record Formatting (s : Setting) (d : Device) (n : ℕ) (r : Result) : Type 0
   pub silent-by : r .answer ≡ 10 → Slow (s .fates)
   pub marked-kept : (b : ℕ) → b < s .geometry .blocks → isMarked (s .geometry) (blockIn (s .geometry) (d .array) b) ≡ true
       → blockIn (s .geometry) (r .chip .array) b ≡ blockIn (s .geometry) (d .array) b
+  pub marks-same : r .answer ≡ 0 → (b : ℕ) → b < s .geometry .blocks
+      → isMarked (s .geometry) (blockIn (s .geometry) (r .chip .array) b) ≡ isMarked (s .geometry) (blockIn (s .geometry) (d .array) b)
   pub acknowledged : r .answer ≡ 0 → Acknowledged s r
   pub lists-failed : r .answer ≡ 0 → (b : ℕ) → b < s .geometry .blocks → failedIn b (formatRun s d n .progress .started) ≡ lists (s .geometry) (blockIn (s .geometry) (r .chip .array) (r .state .table)) b
   pub sent-is : r .sent ≡ length (formatRun s d n .progress .cycles)

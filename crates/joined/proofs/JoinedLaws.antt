@@ -18,7 +18,7 @@ use Rattle.state.specs.State.{mounted}
 use Rattle.state.specs.declared.State.{State}
 use Rattle.found.specs.Contents.{mapOf}
 use Rattle.calls.specs.Call.{Result, sized, sizedFor}
-use Rattle.mount.specs.Mount.{blockOf, mountedState, stateAfter, mounting}
+use Rattle.mount.specs.Mount.{mountedState, stateAfter, mounting}
 use Rattle.mounted.specs.Mounting.{Mounting}
 use Rattle.mounted.proofs.StateLaws.{right-table}
 use Rattle.mounted.proofs.MountingLaws.{mount-ends, mount-refused}
@@ -49,10 +49,8 @@ unfolding mountedState
 map-of-state g array st e = subst (λ (x : State). x .map ≡ mapOf g array (x .table)) (sym e) refl
 
 table-of-state : (g : Geometry) (array : List ℕ) (st : State) → st ≡ mountedState g array → mountAnswer g array ≡ 0 → currentTable g array ≡ at (st .table)
-unfolding mountedState blockOf
-table-of-state g array st e z =
-    let r = right-table g array z in
-    r .is-current ∙ ap at (sym (ap (λ (x : State). x .table) e ∙ ap blockOf (r .is-current)))
+unfolding mountedState
+table-of-state g array st e z = right-table g array z .is-current ∙ ap at (sym (ap (λ (x : State). x .table) e))
 
 module _ (s : Setting) (d : Device) (n : ℕ) (state : State) (z : mounting s d n state .answer ≡ 0) where
   abbrev r : Result

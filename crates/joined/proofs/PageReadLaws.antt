@@ -36,10 +36,10 @@ use Rattle.fetching.specs.Fetching.{ReadResult, readResult, pageProgress, readi
 use Rattle.reading.specs.Reading.{readingPage}
 use Rattle.reading.proofs.ReadingLaws.{Gives, no-copy, one-copy, request-ends, read-legal, read-gives}
 use Rattle.reading.proofs.SentLaws.{read-sent-most}
-use Rattle.runs.specs.Run.{Unchanged}
+use Rattle.runs.specs.Run.{failedIn, Unchanged}
 use Rattle.runs.specs.Replay.{Replayed}
 use Rattle.runs.proofs.ReplayLaws.{leads-first, leads-kept, replayed}
-use Rattle.runs.proofs.ReadLaws.{read-unchanged}
+use Rattle.runs.proofs.ReadLaws.{read-calm, read-unchanged}
 use Rattle.joined.specs.Reads.{ReadAnswer, is-done, is-geometry, is-address, is-length, is-unmounted, is-silent, is-cut, ReadsAs}
 
 module _ (s : Setting) (d : Device) (n : ℕ) (state : State) (logical page : ℕ) (buffer : List ℕ) (a : Accepted (s .geometry) (sizedFor s d) state logical page (length buffer)) (ready : d .port .phase ≤ 2) where
@@ -143,6 +143,13 @@ module _ (s : Setting) (d : Device) (n : ℕ) (state : State) (logical page : �
   read-replayed x =
       subst (λ (y : ReadResult). Replayed s (callLine d n .chip) (y .returned .chip) (pageProgress s d n entry page .cycles))
       (sym (one-copy s d n state logical page buffer a x)) (block-replayed entry (entry-below x))
+
+  -- its operation does not fail
+  pub read-unfailed : (entry ≡ none → ⊥) → (b : ℕ) → failedIn b (pageProgress s d n entry page .started) ≡ false
+  unfolding failedIn
+  read-unfailed x =
+      read-calm s (d .array) (d .history) (rowOf (s .geometry) entry page) 0 (s .geometry .main) (row-below (s .geometry) v entry page (entry-below x) (a .page-below)) (omega (arith, v .main-least)) (omega arith)
+      (progress (callLine d n) Passed [] []) start-unchanged
 
   -- neither: the bytes of the current copy
   abbrev copyTest : ℕ → ℕ → Bool

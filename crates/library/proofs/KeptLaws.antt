@@ -1,10 +1,11 @@
 -- What a refused call leaves as it was, and that the next call takes the chip as this one left it. Assumes nothing.
 use Prim.Native.Nat.{ℕ}
-use mathlib.Core.Bool.{true, false}
+use mathlib.Core.Bool.{true, false, cond}
 use mathlib.Core.List.{List, [], _∷_}
 use mathlib.Core.Path.{_≡_, ap}
 use borrow.Author.Tests.{ne-eqb}
 use borrow.Table.Steps.{cases}
+use lib.Dec.{eqb}
 use lib.ListN.{length}
 use Rattle.cells.specs.Bytes.{Bytes}
 use Rattle.interface.specs.declared.Interface.{Interface}
@@ -17,10 +18,11 @@ use Rattle.mount.specs.Mount.{mounting}
 use Rattle.refusals.specs.Refusals.{refusalOf}
 use Rattle.reading.specs.Reading.{readingPage}
 use Rattle.reading.proofs.ReadingLaws.{read-keeps}
+use Rattle.changes.specs.Changes.{eraseRefusal, writing, erasingLogical}
 use Rattle.lent.specs.Buffers.{Lent, lent, chipOf, rightly, handed, putBack, answered}
 use Rattle.lent.proofs.BufferLaws.{right-long}
 use Rattle.lent.proofs.WordLaws.{words-read, words-kept}
-use Rattle.library.specs.Library.{formattingLent, mountingLent, readHanded, readingLent}
+use Rattle.library.specs.Library.{formattingLent, mountingLent, readHanded, readingLent, writingLent, erasingLent}
 
 -- what was lent, with no cycle sent
 abbrev pub noneSent : Lent → Lent
@@ -50,6 +52,22 @@ module _ (s : Setting) (l : Lent) (n : ℕ) (right : rightly l ≡ true) (bytes 
   read-refused logical page buffer x =
       let code : ℕ = refusalOf s (chipOf l) (bytesState (l .state)) logical page buffer in
       rw (ne-eqb code 0 x, right) (ap (λ h. readHanded h buffer) (unchanged code))
+
+  -- a request that tests its refusals first
+  refused : (code : ℕ) (accepted : Result) → (code ≡ 0 → ⊥)
+      → answered l (cond (eqb code 0) accepted (result code (bytesState (l .state)) (chipOf l) 0)) ≡ handed code (noneSent l)
+  refused code accepted x = rw (ne-eqb code 0 x) (unchanged code)
+
+  pub write-refused : (logical page : ℕ) (given : List ℕ) → (refusalOf s (chipOf l) (bytesState (l .state)) logical page given ≡ 0 → ⊥)
+      → writingLent s l n logical page given ≡ handed (refusalOf s (chipOf l) (bytesState (l .state)) logical page given) (noneSent l)
+  unfolding writingLent writing
+  write-refused logical page given x = refused (refusalOf s (chipOf l) (bytesState (l .state)) logical page given) _ x
+
+  -- an erase is never refused with 3
+  pub erase-refused : (logical : ℕ) → (eraseRefusal s (chipOf l) (bytesState (l .state)) logical ≡ 0 → ⊥)
+      → erasingLent s l n logical ≡ handed (eraseRefusal s (chipOf l) (bytesState (l .state)) logical) (noneSent l)
+  unfolding erasingLent erasingLogical
+  erase-refused logical x = refused (eraseRefusal s (chipOf l) (bytesState (l .state)) logical) _ x
 
 -- the reader's buffer changes only with the answer 0
 pub buffer-kept : (s : Setting) (l : Lent) (n logical page : ℕ) (buffer : List ℕ) → (readingLent s l n logical page buffer .handed .answer ≡ 0 → ⊥)

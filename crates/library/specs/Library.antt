@@ -9,6 +9,7 @@ use Rattle.format.specs.Format.{formatting}
 use Rattle.mount.specs.Mount.{mounting}
 use Rattle.fetching.specs.Fetching.{ReadResult}
 use Rattle.reading.specs.Reading.{readingPage}
+use Rattle.changes.specs.Changes.{writing, erasingLogical}
 use Rattle.lent.specs.Buffers.{Lent, chipOf, rightly, Handed, answered}
 
 -- the requests on the state and the chip that are lent; n: the cycles allowed
@@ -21,11 +22,23 @@ mountResult s l n = mounting s (chipOf l) n (bytesState (l .state))
 abbrev pub readPage : Setting → Lent → ℕ → ℕ → ℕ → List ℕ → ReadResult
 readPage s l n logical page buffer = readingPage s (chipOf l) n (bytesState (l .state)) logical page buffer
 
+abbrev pub writeResult : Setting → Lent → ℕ → ℕ → ℕ → List ℕ → Result
+writeResult s l n logical page bytes = writing s (chipOf l) n (bytesState (l .state)) logical page bytes
+
+abbrev pub eraseResult : Setting → Lent → ℕ → ℕ → Result
+eraseResult s l n logical = erasingLogical s (chipOf l) n (bytesState (l .state)) logical
+
 unfoldable pub formattingLent : Setting → Lent → ℕ → Handed
 formattingLent s l n = answered l (formatResult s l n)
 
 unfoldable pub mountingLent : Setting → Lent → ℕ → Handed
 mountingLent s l n = answered l (mountResult s l n)
+
+unfoldable pub writingLent : Setting → Lent → ℕ → ℕ → ℕ → List ℕ → Handed
+writingLent s l n logical page bytes = answered l (writeResult s l n logical page bytes)
+
+unfoldable pub erasingLent : Setting → Lent → ℕ → ℕ → Handed
+erasingLent s l n logical = answered l (eraseResult s l n logical)
 
 -- the reader's page buffer too
 pub record ReadHanded : Type 0 where

@@ -1,4 +1,6 @@
-// Runs format and read on the small chip: a word for each case, then answer, cycles sent and free blocks.
+// Runs the requests on the small chip: a word for each case, then answer, cycles sent and free blocks.
+mod writes;
+
 use calls::Returned;
 use geometry::Geometry;
 use interface::Interface;
@@ -7,9 +9,9 @@ use state::State;
 ghost use Prim.Native.Nat.{_≤_};
 
 // The allowance that cuts nothing.
-const UNCUT: u32 = 4294967295;
+pub const UNCUT: u32 = 4294967295;
 
-fn small(logical: usize) -> Geometry {
+pub fn small(logical: usize) -> Geometry {
     Geometry {
         main: 32,
         spare: 16,
@@ -25,7 +27,7 @@ fn print_number(x: usize) {
 }
 
 // Prints how a request ended.
-fn show(label: &[u8], logical: usize, returned: Returned)
+pub fn show(label: &[u8], logical: usize, returned: Returned)
     requires { ⌜ logical ≤ 4096 ⌝ }
 {
     let next = returned.state;
@@ -121,4 +123,12 @@ fn main() {
     show_format(b"busy-256", 2, 0xff, &[256u32], UNCUT);
     show_format(b"allowed-353", 2, 0xff, &none, 353);
     show_format(b"allowed-354", 2, 0xff, &none, 354);
+    writes::show_write(b"write", &none, UNCUT);
+    writes::show_write(b"write-busy-255", &[255u32], UNCUT);
+    writes::show_write(b"write-busy-256", &[256u32], UNCUT);
+    writes::show_write(b"write-allowed-234", &none, 234);
+    writes::show_write(b"write-allowed-235", &none, 235);
+    writes::show_last_number();
+    writes::show_failed_erase();
+    writes::show_cut_write();
 }

@@ -105,6 +105,10 @@ module _ (g : Geometry) (v : Valid g) (c : Copy) (fits : Labelled c) (main : ℕ
   by-main : (P : ℕ → Type 0) (i : ℕ) → i < g .pages → P (length (main i)) → P (g .main)
   by-main P i h = subst P (long i h)
 
+  pub page-whole : (i : ℕ) → i < g .pages → whole (g .main) (pages i) ≡ true
+  page-whole i h =
+      by-main (λ (k : ℕ). whole k (pages i) ≡ true) i h (encoded-whole (g .spare) (labelAt i) (main i) (label-fits i h) (check-fits i h))
+
   -- spare byte 0
   first-byte : (i : ℕ) → i < g .pages → getD (pages i) (g .main) 0 ≡ 255
   first-byte i h =
@@ -113,8 +117,7 @@ module _ (g : Geometry) (v : Valid g) (c : Copy) (fits : Labelled c) (main : ℕ
   -- a block that holds the copy
   module _ (row : List ℕ) (same : (i : ℕ) → i < g .pages → pageIn g row i ≡ pages i) where
     pub copy-whole : (i : ℕ) → i < g .pages → wholeIn g row i ≡ true
-    copy-whole i h =
-        ap (whole (g .main)) (same i h) ∙ by-main (λ (k : ℕ). whole k (pages i) ≡ true) i h (encoded-whole (g .spare) (labelAt i) (main i) (label-fits i h) (check-fits i h))
+    copy-whole i h = ap (whole (g .main)) (same i h) ∙ page-whole i h
 
     pub copy-label : (i : ℕ) → i < g .pages → labelIn g row i ≡ labelAt i
     copy-label i h =

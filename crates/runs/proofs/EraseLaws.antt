@@ -93,9 +93,9 @@ module _ (s : Setting) (p : Progress) (block : ℕ) (below : block < s .geometry
   end-is : endOf (next .line) ≡ eraseEnd s (p .line) block
   end-is = ap endOf line-is ∙ erase-ends s (p .line) block can
 
-  outcome-is : next .outcome ≡ eraseEnd s (p .line) block .outcome
+  pub erase-outcome-is : next .outcome ≡ eraseEnd s (p .line) block .outcome
   unfolding endOf
-  outcome-is = erase-on-outcome s block p (p .line) refl t ∙ ap outcomeOf (sym line-is) ∙ ap (λ (e : End). e .outcome) end-is
+  erase-outcome-is = erase-on-outcome s block p (p .line) refl t ∙ ap outcomeOf (sym line-is) ∙ ap (λ (e : End). e .outcome) end-is
 
   array-is : next .line .chip .array ≡ eraseEnd s (p .line) block .array
   unfolding endOf
@@ -113,25 +113,25 @@ module _ (s : Setting) (p : Progress) (block : ℕ) (below : block < s .geometry
   unfolding eraseEnd confirmedEnd
   sound =
       record {
-        known = ap isIllegal outcome-is ∙ ends-known s (p .line) 3 4;
-        used-up = λ c. left-is ∙ ends-used-up s (p .line) 3 4 (sym (ap isCut outcome-is) ∙ c);
-        silent-by = λ z. ends-slow s (p .line) 3 4 (sym (ap isSilent outcome-is) ∙ z);
-        failed-by = λ z. ends-failing s (p .line) 3 4 (sym (ap isFailed outcome-is) ∙ z);
+        known = ap isIllegal erase-outcome-is ∙ ends-known s (p .line) 3 4;
+        used-up = λ c. left-is ∙ ends-used-up s (p .line) 3 4 (sym (ap isCut erase-outcome-is) ∙ c);
+        silent-by = λ z. ends-slow s (p .line) 3 4 (sym (ap isSilent erase-outcome-is) ∙ z);
+        failed-by = λ z. ends-failing s (p .line) 3 4 (sym (ap isFailed erase-outcome-is) ∙ z);
         legal = ap (λ (x : Line). x .chip .port .illegal) line-is ∙ erase-legal s (p .line) block can;
-        called = λ a. subst (Called s) (sym line-is) (erase-next s (p .line) block can (sym (ap answered outcome-is) ∙ a));
+        called = λ a. subst (Called s) (sym line-is) (erase-next s (p .line) block can (sym (ap answered erase-outcome-is) ∙ a));
       }
 
-  started-is : next .started ≡ p .started ++ eraseStarts s (p .line) (rowOf (s .geometry) block 0)
+  pub erase-started : next .started ≡ p .started ++ eraseStarts s (p .line) (rowOf (s .geometry) block 0)
   unfolding eraseOn
-  started-is = rw t
+  erase-started = rw t
 
   failures : FailedMore p next block
   unfolding eraseEnd confirmedEnd
   failures b =
-      ap (failedIn b) (started-is ∙ ap (λ (x : List ArrayOperation). p .started ++ x) (erase-starts s (p .line) block can))
+      ap (failedIn b) (erase-started ∙ ap (λ (x : List ArrayOperation). p .started ++ x) (erase-starts s (p .line) block can))
       ∙ failed-append b (p .started) _
       ∙ ap (cond (failedIn b (p .started)) true)
-      (failed-one b _ (leb (p .line .left) 4) (cut-unfailed s (p .line) 3 4) ∙ ap (λ (o : Outcome). cond (eqb block b) (isFailed o) false) (sym outcome-is))
+      (failed-one b _ (leb (p .line .left) 4) (cut-unfailed s (p .line) 3 4) ∙ ap (λ (o : Outcome). cond (eqb block b) (isFailed o) false) (sym erase-outcome-is))
 
   -- the block's bytes are replaced
   module _ (ys : List ℕ) (long : length ys ≡ blockSize (s .geometry)) (e : next .line .chip .array ≡ withBlockBytes s block ys (p .line .chip .array)) where
@@ -151,7 +151,7 @@ module _ (s : Setting) (p : Progress) (block : ℕ) (below : block < s .geometry
     effect : (next .line .chip .array ≡ withBlockBytes s block (replicate (blockSize (s .geometry)) 255) (p .line .chip .array)) × (next .line .chip .history ≡ set (p .line .chip .history) block 0)
     unfolding eraseEnd
     effect =
-        let both = whole-effect s (p .line) 3 4 _ _ _ _ (sym (ap isPassed outcome-is) ∙ passed) in
+        let both = whole-effect s (p .line) 3 4 _ _ _ _ (sym (ap isPassed erase-outcome-is) ∙ passed) in
         (array-is ∙ both .0, history-is ∙ both .1)
 
     erased-order : getD (next .line .chip .history) block 0 ≤ 0
@@ -162,7 +162,7 @@ module _ (s : Setting) (p : Progress) (block : ℕ) (below : block < s .geometry
   effect-part : isPassed (next .outcome) ≡ false → (next .line .chip .array ≡ p .line .chip .array) ⊎ (next .line .chip .array ≡ withBlockBytes s block (raised old (s .mask)) (p .line .chip .array))
   unfolding eraseEnd
   effect-part f =
-      ⊎-elim (λ e. inl (array-is ∙ e)) (λ e. inr (array-is ∙ e)) (part-effect s (p .line) 3 4 _ _ _ _ (sym (ap isPassed outcome-is) ∙ f))
+      ⊎-elim (λ e. inl (array-is ∙ e)) (λ e. inr (array-is ∙ e)) (part-effect s (p .line) 3 4 _ _ _ _ (sym (ap isPassed erase-outcome-is) ∙ f))
 
   pub erase-leaves : Erased s p next block
   erase-leaves =

@@ -12,6 +12,7 @@ use borrow.Author.Tests.{eqb-true, eqb-false, ltb-true, ltb-false}
 use lib.Bits.{and-mask}
 use lib.Dec.{eqb, ltb}
 use lib.ListN.{length, getD, replicate}
+use Rattle.geometry.specs.declared.Geometry.{Geometry}
 use Rattle.geometry.specs.Sizes.{pageSize, rowOf}
 use Rattle.geometry.proofs.SizeLaws.{row-below}
 use Rattle.cells.specs.Bytes.{Bytes}
@@ -44,6 +45,12 @@ pub over-erased : (ds : List ℕ) → Bytes ds → Over ds (replicate (length ds
 over-erased [] b = none
 over-erased (d ∷ ds) b = more (and-mask d 8 ∙ mod-eq-of-lt (b 0)) (b 0) (omega arith) (over-erased ds (λ i. b (suc i)))
 
+-- no source costs more cycles than a kept page
+pub source-most : (g : Geometry) (from : Source) → sourceMost g from ≤ pageMost g
+unfolding sourceMost
+source-most g (given main) = omega arith
+source-most g (kept old) = omega arith
+
 module _ (s : Setting) (p : Progress) (block : ℕ) (below : block < s .geometry .blocks) (c : Copy) (source : ℕ → Source) (pages : ℕ → List ℕ)
     (meant : Meant s (p .line .chip .array) block c source pages) (mask-bytes : Bytes (s .mask)) where
   -- more cycles may be allowed
@@ -54,7 +61,7 @@ module _ (s : Setting) (p : Progress) (block : ℕ) (below : block < s .geometry
   over-blank i h = subst (λ (n : ℕ). Over (pages i) (replicate n 255)) (meant .long i h) (over-erased (pages i) (meant .bytes i h))
 
   -- pages that are as they should be, and pages that are erased, are over what was meant
-  all-over : (q : Progress) (n : ℕ) → ((i : ℕ) → i < n → pageOn s q block i ≡ pages i) → ((i : ℕ) → n ≤ i → i < s .geometry .pages → pageOn s q block i ≡ replicate (pageSize (s .geometry)) 255)
+  pub all-over : (q : Progress) (n : ℕ) → ((i : ℕ) → i < n → pageOn s q block i ≡ pages i) → ((i : ℕ) → n ≤ i → i < s .geometry .pages → pageOn s q block i ≡ replicate (pageSize (s .geometry)) 255)
       → (i : ℕ) → i < s .geometry .pages → Over (pages i) (pageOn s q block i)
   all-over q n done ahead i h =
       cases (ltb i n)
@@ -97,13 +104,13 @@ module _ (s : Setting) (p : Progress) (block : ℕ) (below : block < s .geometry
         (λ e. subst (Over (pages n)) (sym (e ∙ ap (λ (x : List ℕ). programmed x (weakened (pages n) (s .mask))) here)) (programmed-over (pages n) (s .mask) (meant .bytes n page-below) mask-bytes))
         (left .partly f)
 
-    damage-next : isPassed (next .outcome) ≡ false → (i : ℕ) → i < s .geometry .pages → Over (pages i) (pageOn s next block i)
+    pub damage-next : isPassed (next .outcome) ≡ false → (i : ℕ) → i < s .geometry .pages → Over (pages i) (pageOn s next block i)
     damage-next f i h =
         cases (eqb i n)
         (λ e. subst (λ (k : ℕ). Over (pages k) (pageOn s next block k)) (sym (eqb-true i n e)) (page-over f))
         (λ e. subst (Over (pages i)) (sym (left .other-pages i h (eqb-false i n e))) (all-over q n (r .done t) (r .ahead t) i h))
 
-    program-next : Filled s p next block pages (suc n) (k + programMost (s .geometry))
+    pub program-next : Filled s p next block pages (suc n) (k + programMost (s .geometry))
     program-next =
         record {
           sound = left .sound;
@@ -161,7 +168,7 @@ module _ (s : Setting) (p : Progress) (block : ℕ) (below : block < s .geometry
       so-far : Unchanged s (q .line .chip .array) (q .line .chip .history) q
       so-far = record { sound = r .sound; ends = passed-read-end (q .outcome) t; same-array = refl; same-history = refl }
 
-      fetch-unchanged : Unchanged s (q .line .chip .array) (q .line .chip .history) fetched
+      pub fetch-unchanged : Unchanged s (q .line .chip .array) (q .line .chip .history) fetched
       fetch-unchanged =
           read-unchanged s (q .line .chip .array) (q .line .chip .history) (rowOf (s .geometry) old n) 0 (s .geometry .main)
           (row-below (s .geometry) (still-called .is-valid) old n old-below page-below)
@@ -179,12 +186,15 @@ module _ (s : Setting) (p : Progress) (block : ℕ) (below : block < s .geometry
           (row-below (s .geometry) (still-called .is-valid) old n old-below page-below)
           (omega (arith, still-called .is-valid .main-least)) (omega arith) q so-far
 
+      pub fetch-leaves : Filled s p fetched block pages n (k + readMost (s .geometry .main))
+      fetch-leaves = after-read q n k r t fetched fetch-unchanged (readMost (s .geometry .main)) fetch-spends fetch-calm
+
       kept-next : (bytes : List ℕ) → bytes ≡ pages n → Filled s p (programOn s block n bytes fetched) block pages (suc n) (k + pageMost (s .geometry))
       kept-next bytes e =
           cases (isPassed (fetched .outcome))
           (λ y.
           subst (λ (x : List ℕ). Filled s p (programOn s block n x fetched) block pages (suc n) (k + pageMost (s .geometry))) (sym e)
-          (weaker (omega arith) (program-next fetched n page-below (k + readMost (s .geometry .main)) (after-read q n k r t fetched fetch-unchanged (readMost (s .geometry .main)) fetch-spends fetch-calm) y)))
+          (weaker (omega arith) (program-next fetched n page-below (k + readMost (s .geometry .main)) fetch-leaves y)))
           (λ f.
           subst (λ (x : Progress). Filled s p x block pages (suc n) (k + pageMost (s .geometry))) (sym (program-stopped s block n bytes fetched f))
           (weaker (omega arith) (after-stop q n k r t fetched fetch-unchanged (readMost (s .geometry .main)) fetch-spends fetch-calm f)))
@@ -228,13 +238,11 @@ module _ (s : Setting) (p : Progress) (block : ℕ) (below : block < s .geometry
             failures = r .failures;
           }
 
-  -- the whole fill, from p
-  fill-each : (each : ℕ) → ((i : ℕ) → i < s .geometry .pages → sourceMost (s .geometry) (source i) ≤ each)
-      → isPassed (p .outcome) ≡ true → Called s (p .line) → Filled s p (filled s block c source p) block pages (s .geometry .pages) (eraseMost + s .geometry .pages * each)
-  fill-each each few t called =
+  -- right after the erase
+  pub erase-filled : isPassed (p .outcome) ≡ true → Called s (p .line) → Filled s p (eraseOn s block p) block pages 0 eraseMost
+  erase-filled t called =
       let e = erase-leaves s p block below t called in
-      pages-leave each few (eraseOn s block p)
-      (record {
+      record {
         sound = e .sound;
         others = e .others;
         done = λ y i h. absurd (omega (arith, h));
@@ -243,17 +251,16 @@ module _ (s : Setting) (p : Progress) (block : ℕ) (below : block < s .geometry
         damaged = λ f. ⊎-elim inl (λ x. inr (inl x)) (e .partly f);
         spent = e .spent;
         failures = e .failures;
-      })
-      (s .geometry .pages) (omega arith)
+      }
+
+  -- the whole fill, from p
+  fill-each : (each : ℕ) → ((i : ℕ) → i < s .geometry .pages → sourceMost (s .geometry) (source i) ≤ each)
+      → isPassed (p .outcome) ≡ true → Called s (p .line) → Filled s p (filled s block c source p) block pages (s .geometry .pages) (eraseMost + s .geometry .pages * each)
+  fill-each each few t called = pages-leave each few (eraseOn s block p) (erase-filled t called) (s .geometry .pages) (omega arith)
 
   -- whatever its sources
   pub fill-leaves : isPassed (p .outcome) ≡ true → Called s (p .line) → Filled s p (filled s block c source p) block pages (s .geometry .pages) (fillMost (s .geometry))
-  unfolding sourceMost
-  fill-leaves = fill-each (pageMost (s .geometry)) (λ i h. most (source i))
-    where
-      most : (from : Source) → sourceMost (s .geometry) from ≤ pageMost (s .geometry)
-      most (given main) = omega arith
-      most (kept old) = omega arith
+  fill-leaves = fill-each (pageMost (s .geometry)) (λ i h. source-most (s .geometry) (source i))
 
   -- of a copy that keeps no page, as a table
   pub fill-given : ((i : ℕ) → i < s .geometry .pages → sourceMost (s .geometry) (source i) ≤ programMost (s .geometry))

@@ -7,3 +7,6 @@ pub mod EraseLaws
 pub mod ProgramLaws
 pub mod FillLaws
 pub mod CopyLaws
+pub mod CompleteLaws
+pub mod EachLaws
+pub mod TouchLaws

@@ -44,9 +44,9 @@ module _ (s : Setting) (p : Progress) (block page : ℕ) (bytes : List ℕ) (t :
   end-is : endOf (next .line) ≡ programEnd s (p .line) block page bytes
   end-is = ap endOf line-is ∙ program-ends s (p .line) block page bytes can
 
-  outcome-is : next .outcome ≡ programEnd s (p .line) block page bytes .outcome
+  pub program-outcome-is : next .outcome ≡ programEnd s (p .line) block page bytes .outcome
   unfolding endOf
-  outcome-is = program-on-outcome s block p (p .line) refl t page bytes ∙ ap outcomeOf (sym line-is) ∙ ap (λ (e : End). e .outcome) end-is
+  program-outcome-is = program-on-outcome s block p (p .line) refl t page bytes ∙ ap outcomeOf (sym line-is) ∙ ap (λ (e : End). e .outcome) end-is
 
   array-is : next .line .chip .array ≡ programEnd s (p .line) block page bytes .array
   unfolding endOf
@@ -56,6 +56,11 @@ module _ (s : Setting) (p : Progress) (block page : ℕ) (bytes : List ℕ) (t :
   unfolding endOf
   history-is = ap (λ (e : End). e .history) end-is
 
+  -- cut before its confirm cycle it changes nothing
+  pub program-unsent : leb (p .line .left) (6 + length bytes) ≡ true → next .line .chip .array ≡ array
+  unfolding programEnd confirmedEnd
+  program-unsent cut = array-is ∙ rw cut
+
   left-is : next .line .left ≡ p .line .left - totalFor s (p .line .chip) (6 + length bytes)
   unfolding endOf programEnd confirmedEnd
   left-is = ap (λ (e : End). e .left) end-is
@@ -64,25 +69,25 @@ module _ (s : Setting) (p : Progress) (block page : ℕ) (bytes : List ℕ) (t :
   unfolding programEnd confirmedEnd
   sound =
       record {
-        known = ap isIllegal outcome-is ∙ ends-known s (p .line) 2 (6 + length bytes);
-        used-up = λ c. left-is ∙ ends-used-up s (p .line) 2 (6 + length bytes) (sym (ap isCut outcome-is) ∙ c);
-        silent-by = λ z. ends-slow s (p .line) 2 (6 + length bytes) (sym (ap isSilent outcome-is) ∙ z);
-        failed-by = λ z. ends-failing s (p .line) 2 (6 + length bytes) (sym (ap isFailed outcome-is) ∙ z);
+        known = ap isIllegal program-outcome-is ∙ ends-known s (p .line) 2 (6 + length bytes);
+        used-up = λ c. left-is ∙ ends-used-up s (p .line) 2 (6 + length bytes) (sym (ap isCut program-outcome-is) ∙ c);
+        silent-by = λ z. ends-slow s (p .line) 2 (6 + length bytes) (sym (ap isSilent program-outcome-is) ∙ z);
+        failed-by = λ z. ends-failing s (p .line) 2 (6 + length bytes) (sym (ap isFailed program-outcome-is) ∙ z);
         legal = ap (λ (x : Line). x .chip .port .illegal) line-is ∙ program-legal s (p .line) block page bytes can;
-        called = λ a. subst (Called s) (sym line-is) (program-next s (p .line) block page bytes can (sym (ap answered outcome-is) ∙ a));
+        called = λ a. subst (Called s) (sym line-is) (program-next s (p .line) block page bytes can (sym (ap answered program-outcome-is) ∙ a));
       }
 
-  started-is : next .started ≡ p .started ++ programStarts s (p .line) (rowOf (s .geometry) block page) bytes
+  pub program-started : next .started ≡ p .started ++ programStarts s (p .line) (rowOf (s .geometry) block page) bytes
   unfolding programOn
-  started-is = rw t
+  program-started = rw t
 
   failures : FailedMore p next block
   unfolding programEnd confirmedEnd
   failures b =
-      ap (failedIn b) (started-is ∙ ap (λ (x : List ArrayOperation). p .started ++ x) (program-starts s (p .line) block page bytes can))
+      ap (failedIn b) (program-started ∙ ap (λ (x : List ArrayOperation). p .started ++ x) (program-starts s (p .line) block page bytes can))
       ∙ failed-append b (p .started) _
       ∙ ap (cond (failedIn b (p .started)) true)
-      (failed-one b _ (leb (p .line .left) (6 + length bytes)) (cut-unfailed s (p .line) 2 (6 + length bytes)) ∙ ap (λ (o : Outcome). cond (eqb block b) (isFailed o) false) (sym outcome-is))
+      (failed-one b _ (leb (p .line .left) (6 + length bytes)) (cut-unfailed s (p .line) 2 (6 + length bytes)) ∙ ap (λ (o : Outcome). cond (eqb block b) (isFailed o) false) (sym program-outcome-is))
 
   abbrev old : List ℕ
   old = pageOn s p block page
@@ -113,7 +118,7 @@ module _ (s : Setting) (p : Progress) (block page : ℕ) (bytes : List ℕ) (t :
     effect : (next .line .chip .array ≡ withRow s (rowOf (s .geometry) block page) (programmed old bytes) array) × (next .line .chip .history ≡ set (p .line .chip .history) block (page + 1))
     unfolding programEnd
     effect =
-        let both = whole-effect s (p .line) 2 (6 + length bytes) _ _ _ _ (sym (ap isPassed outcome-is) ∙ passed) in
+        let both = whole-effect s (p .line) 2 (6 + length bytes) _ _ _ _ (sym (ap isPassed program-outcome-is) ∙ passed) in
         (made-of bytes (next .line .chip .array) (array-is ∙ both .0), history-is ∙ both .1)
 
     order-next : getD (next .line .chip .history) block 0 ≤ page + 1
@@ -125,7 +130,7 @@ module _ (s : Setting) (p : Progress) (block page : ℕ) (bytes : List ℕ) (t :
   unfolding programEnd
   effect-part f =
       ⊎-elim (λ e. inl (array-is ∙ e)) (λ e. inr (made-of (weakened bytes (s .mask)) (next .line .chip .array) (array-is ∙ e)))
-      (part-effect s (p .line) 2 (6 + length bytes) _ _ _ _ (sym (ap isPassed outcome-is) ∙ f))
+      (part-effect s (p .line) 2 (6 + length bytes) _ _ _ _ (sym (ap isPassed program-outcome-is) ∙ f))
 
   pub program-leaves : Programmed s p next block page bytes
   program-leaves =

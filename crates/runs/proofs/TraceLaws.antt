@@ -2,6 +2,7 @@
 use Prim.Native.Nat.{ℕ}
 use mathlib.Core.Bool.{Bool, true, false, cond}
 use mathlib.Core.List.{List, [], _∷_, _++_}
+use mathlib.Core.Logic.{inl, inr}
 use mathlib.Core.Path.{_≡_, refl, sym, ap, _∙_}
 use native.Mathlib.Omega.{arith}
 use borrow.Table.Steps.{cases}
@@ -15,9 +16,10 @@ use Rattle.operations.specs.Ends.{endsAs, totalFor, wordFor}
 use Rattle.operations.specs.Trace.{ArrayOperation}
 use Rattle.progress.specs.Progress.{Progress}
 use Rattle.runs.specs.Run.{failedIn, FailedMore, NoneFailed}
+use Rattle.runs.specs.Touched.{Each, Steady}
 use Rattle.bools.proofs.BoolLaws.{or-none, and-none}
 
-or-assoc : (a b c : Bool) → cond (cond a true b) true c ≡ cond a true (cond b true c)
+pub or-assoc : (a b c : Bool) → cond (cond a true b) true c ≡ cond a true (cond b true c)
 or-assoc true b c = refl
 or-assoc false b c = refl
 
@@ -45,6 +47,27 @@ read-unfailed s l m =
     cases (ltb (l .left) (totalFor s (l .chip) m))
     (λ t. rw t)
     (λ t. cases (ltb (busyOf (wordFor s (l .chip))) 256) (λ u. rw (t, u)) (λ u. rw (t, u)))
+
+-- a list of which no operation failed, and one of which none but the last did
+pub none-failed : (b : ℕ) (os : List ArrayOperation) → Each (λ o. isFailed (o .answer) ≡ false) os → failedIn b os ≡ false
+unfolding failedIn Each
+none-failed b [] a = refl
+none-failed b (o ∷ os) a = rw (a .0, none-failed b os (a .1)) (ap (λ (x : Bool). cond x true false) (and-none (eqb (o .block) b)))
+
+pub steady-append : (xs ys : List ArrayOperation) → Each (λ o. isFailed (o .answer) ≡ false) xs → Steady ys → Steady (xs ++ ys)
+unfolding Each Steady
+steady-append [] ys a b = b
+steady-append (x ∷ xs) ys a b = (inl (a .0), steady-append xs ys (a .1) b)
+
+pub steady-one : (c : Bool) (o : ArrayOperation) → Steady (cond c [] (o ∷ []))
+unfolding Steady
+steady-one true o = tt
+steady-one false o = (inr refl, tt)
+
+pub steady-unfailed : (os : List ArrayOperation) → Each (λ o. isFailed (o .answer) ≡ false) os → Steady os
+unfolding Each Steady
+steady-unfailed [] a = tt
+steady-unfailed (o ∷ os) a = (inl (a .0), steady-unfailed os (a .1))
 
 -- what did not fail adds nothing
 pub unfailed-none : (p q : Progress) (block : ℕ) → isFailed (q .outcome) ≡ false → FailedMore p q block → NoneFailed p q

@@ -125,7 +125,7 @@ module _ (marked invalid named : List ℕ) (blocks b : ℕ) where
   block-sound r = rw (lt-ltb b blocks (r .below), r .unmarked, r .valid, r .unnamed)
 
 -- a block below 4096 has its bit in a bitmap of 512 bytes
-set-named : (named : List ℕ) (b : ℕ) → length named ≡ 512 → b < 4096 → bitAt (withBit named b) b ≡ true
+pub set-named : (named : List ℕ) (b : ℕ) → length named ≡ 512 → b < 4096 → bitAt (withBit named b) b ≡ true
 set-named named b e h = bit-set named b (let g : byteOf b < 512 = omega arith in omega (arith, g, e))
 
 module _ (s : State) (blocks : ℕ) (room : blocks ≤ 4096) where

@@ -1,2 +1,9 @@
 pub mod PageLaws
 pub mod StoredLaws
+pub mod AfterLaws
+pub mod ApartLaws
+pub mod CalmLaws
+pub mod RenewedLaws
+pub mod ListedLaws
+pub mod KnowsLaws
+pub mod FollowLaws

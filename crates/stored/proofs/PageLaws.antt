@@ -4,7 +4,7 @@ use mathlib.Core.Bool.{true}
 use mathlib.Core.List.{List, [], _∷_}
 use mathlib.Core.Path.{_≡_, refl, sym, ap, subst, _∙_}
 use native.Mathlib.Omega.{arith}
-use lib.Bits.{bitOr, and-self}
+use lib.Bits.{bitOr}
 use lib.ListN.{getD, take, drop}
 use Rattle.geometry.specs.declared.Geometry.{Geometry}
 use Rattle.geometry.specs.Sizes.{pageSize}
@@ -12,27 +12,17 @@ use Rattle.cells.specs.Bytes.{Bytes}
 use Rattle.cells.specs.Cells.{raised}
 use Rattle.pages.specs.Check.{zeroBits}
 use Rattle.pages.specs.Layout.{whole}
-use Rattle.pages.specs.Over.{Over, none, more}
-use Rattle.pages.proofs.OverLaws.{zeroBits-over, zeroBits-same, raised-over}
+use Rattle.pages.specs.Over.{Over}
+use Rattle.pages.proofs.OverLaws.{over-refl, over-bytes-to, zeroBits-over, zeroBits-same, raised-over}
 use Rattle.pages.proofs.LayoutLaws.{whole-over-any}
 use Rattle.copies.specs.Blocks.{pageIn}
 use Rattle.stored.specs.Stored.{Left}
-
-pub over-self : (xs : List ℕ) → Bytes xs → Over xs xs
-over-self [] b = none
-over-self (x ∷ xs) b = more (and-self x) (b 0) (b 0) (over-self xs (λ i. b (suc i)))
 
 -- two pages, each with bits raised over the other, are the same
 pub over-both : {xs ys : List ℕ} → Over xs ys → Over ys xs → ys ≡ xs
 over-both {xs} {ys} o q =
     let same : zeroBits ys ≡ zeroBits xs = omega (arith, zeroBits-over o, zeroBits-over q) in
     zeroBits-same o same
-
--- the bytes of a list with bits raised are bytes
-pub over-bytes : {xs ys : List ℕ} → Over xs ys → Bytes ys
-over-bytes none i = omega arith
-over-bytes (more {x} {y} h a b o) zero = b
-over-bytes (more {x} {y} h a b o) (suc i) = over-bytes o i
 
 -- a page of a block that was erased in part is its page, erased in part
 pub take-raised : (n : ℕ) (xs ms : List ℕ) → take n (raised xs ms) ≡ raised (take n xs) ms
@@ -67,7 +57,7 @@ module _ (g : Geometry) (x ms : List ℕ) (l : Left g x) (bytes : Bytes ms) wher
   -- and whole only if no bit was raised
   pub whole-kept : whole (g .main) (raised x ms) ≡ true → raised x ms ≡ x
   whole-kept t =
-      let up = raised-over ms (over-self x (over-bytes (l .is-over))) bytes in
+      let up = raised-over ms (over-refl x (over-bytes-to (l .is-over))) bytes in
       let back : raised x ms ≡ l .page = whole-over-any (g .main) (raised-over ms (l .is-over) bytes) (l .is-whole) t in
       let down : Over (raised x ms) x = subst (λ (y : List ℕ). Over y x) (sym back) (l .is-over) in
       over-both up down

@@ -1,9 +1,8 @@
 -- The chip that an acknowledged formatting leaves is one that this store can leave. Assumes nothing.
-use Prim.Native.Nat.{ℕ, _*_, _<_}
+use Prim.Native.Nat.{ℕ, _<_}
 use mathlib.Core.Bool.{false}
 use mathlib.Core.List.{List}
 use mathlib.Core.Path.{_≡_, sym, ap, subst, _∙_}
-use native.Mathlib.Omega.{arith}
 use borrow.Table.Steps.{cases}
 use borrow.Author.Tests.{eqb-true, eqb-false}
 use lib.Dec.{eqb}
@@ -12,7 +11,7 @@ use Rattle.geometry.specs.declared.Geometry.{Geometry}
 use Rattle.geometry.specs.Limits.{Valid}
 use Rattle.geometry.specs.Sizes.{pageSize, chipSize}
 use Rattle.pages.specs.Over.{Over}
-use Rattle.cells.proofs.PartLaws.{length-part}
+use Rattle.pages.proofs.OverLaws.{over-refl}
 use Rattle.copies.specs.Blocks.{blockIn, pageIn, isMarked}
 use Rattle.copies.specs.Pick.{at}
 use Rattle.copies.specs.Table.{lists}
@@ -22,12 +21,11 @@ use Rattle.calls.specs.Call.{Result}
 use Rattle.calls.proofs.CallLaws.{sizes}
 use Rattle.array.specs.Device.{Setting}
 use Rattle.runs.proofs.FillLaws.{over-erased}
-use Rattle.runs.proofs.PlaceLaws.{block-long, page-within}
+use Rattle.runs.proofs.PlaceLaws.{page-long}
 use Rattle.formatted.specs.Formatting.{Formatted, Acknowledged}
 use Rattle.stored.specs.Stored.{Left, Stored}
-use Rattle.stored.proofs.PageLaws.{over-self}
 
-same-at : {a b : ℕ} → at a ≡ at b → a ≡ b
+pub same-at : {a b : ℕ} → at a ≡ at b → a ≡ b
 same-at e = cc
 
 module _ (g : Geometry) (v : Valid g) (array : List ℕ) (long : length array ≡ chipSize g) (st : State) (f : Formatted g array st) where
@@ -37,20 +35,16 @@ module _ (g : Geometry) (v : Valid g) (array : List ℕ) (long : length array �
   -- the table's own pages are whole
   table-left : (i : ℕ) → i < g .pages → Left g (pageIn g (row (st .table)) i)
   table-left i h =
-      record { page = pageIn g (row (st .table)) i; is-whole = f .table-whole i h; is-over = over-self (pageIn g (row (st .table)) i) (f .table-bytes i h) }
+      record { page = pageIn g (row (st .table)) i; is-whole = f .table-whole i h; is-over = over-refl (pageIn g (row (st .table)) i) (f .table-bytes i h) }
 
   -- FFh is any of them with all bits raised
-  page-long : (b i : ℕ) → b < g .blocks → i < g .pages → length (pageIn g (row b) i) ≡ pageSize g
-  page-long b i hb hi =
-      length-part (i * pageSize g) (pageSize g) (row b) (omega (arith, page-within g i hi, block-long g v array long b hb))
-
   erased-left : st .table < g .blocks → (i : ℕ) → i < g .pages → Left g (replicate (pageSize g) 255)
   erased-left there i hi =
       let page = pageIn g (row (st .table)) i in
       record {
         page = page;
         is-whole = f .table-whole i hi;
-        is-over = subst (λ (n : ℕ). Over page (replicate n 255)) (page-long (st .table) i there hi) (over-erased page (f .table-bytes i hi));
+        is-over = subst (λ (n : ℕ). Over page (replicate n 255)) (page-long g v array long (st .table) there i hi) (over-erased page (f .table-bytes i hi));
       }
 
   module _ (below : st .table < g .blocks) where

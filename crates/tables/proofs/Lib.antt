@@ -1,4 +1,3 @@
 pub mod AfterLaws
 pub mod KeepLaws
-pub mod TablesLaws
-pub mod TryLaws
+pub mod NumberLaws

@@ -1,19 +1,13 @@
 -- Table fills until one passes: each takes the next number, then the next permitted block; a failure makes that block invalid.
 use Prim.Native.Nat.{ℕ, zero, suc}
-use mathlib.Core.Bool.{true, cond}
+use mathlib.Core.Bool.{cond}
 use mathlib.Core.List.{List}
-use mathlib.Core.Path.{_≡_}
 use lib.Dec.{eqb}
 use Rattle.array.specs.Device.{Setting}
-use Rattle.chip.specs.Chip.{Cycle}
-use Rattle.bus.specs.Line.{Line}
-use Rattle.operations.specs.Ends.{Called}
-use Rattle.polling.specs.Outcomes.{answered, isPassed, isFailed}
-use Rattle.operations.specs.Trace.{ArrayOperation}
+use Rattle.polling.specs.Outcomes.{isPassed, isFailed}
 use Rattle.polling.specs.declared.Outcome.{Outcome}
-use Rattle.polling.specs.declared.Outcome.the-variants.{Passed}
 use Rattle.choose.specs.Choose.{chosen}
-use Rattle.state.specs.State.{blank, nextNumber, numbersLeft, taken, withInvalid, withTable}
+use Rattle.state.specs.State.{blank, nextNumber, taken, withInvalid, withTable}
 use Rattle.state.specs.declared.State.{State}
 use Rattle.choose.specs.declared.Choice.{Choice}
 use Rattle.choose.specs.declared.Choice.the-variants.{Block, Worn}
@@ -45,14 +39,6 @@ tryBlock s st p (Block b) =
 unfoldable pub tryTable : Setting → List ℕ → State → Progress → Tried
 tryTable s held st p = tryBlock s st p (chosen (st .marked) (st .invalid) held (s .geometry .blocks) (st .last))
 
--- a fill tried from line l, which comes to line m
-pub record TriedAs (s : Setting) (held : List ℕ) (st : State) (l m : Line) (o : Outcome) (next : State) (worn : ℕ) : Type 0 where
-  pub line-is : (cs : List Cycle) (os : List ArrayOperation) → m ≡ tryTable s held st (progress l Passed cs os) .progress .line
-  pub outcome-is : (cs : List Cycle) (os : List ArrayOperation) → o ≡ tryTable s held st (progress l Passed cs os) .progress .outcome
-  pub state-is : (cs : List Cycle) (os : List ArrayOperation) → next ≡ tryTable s held st (progress l Passed cs os) .state
-  pub worn-is : (cs : List Cycle) (os : List ArrayOperation) → worn ≡ tryTable s held st (progress l Passed cs os) .worn
-  pub next-called : answered o ≡ true → Called s m
-
 -- how table fills ended: 0 with the next state, or 8 worn, 9 spent, 10 silent, 11 cut with a stopped one
 pub record Tabled : Type 0 where
   pub progress : Progress
@@ -74,9 +60,3 @@ tablesFilled s held (suc k) st p =
     let more = tablesFilled s held k (t .state) (resumed (t .progress)) in
     cond (eqb (t .worn) 0) (cond (isFailed (t .progress .outcome)) more (endedBy (t .progress) (t .state)))
     (tabled (t .progress) 8 (blank 2))
-
--- table fills from line l, which come to line m
-pub record TabledAs (s : Setting) (held : List ℕ) (st : State) (l m : Line) (answer : ℕ) (next : State) : Type 0 where
-  pub line-is : (cs : List Cycle) (os : List ArrayOperation) → m ≡ tablesFilled s held (numbersLeft st) st (progress l Passed cs os) .progress .line
-  pub answer-is : (cs : List Cycle) (os : List ArrayOperation) → answer ≡ tablesFilled s held (numbersLeft st) st (progress l Passed cs os) .answer
-  pub state-is : (cs : List Cycle) (os : List ArrayOperation) → next ≡ tablesFilled s held (numbersLeft st) st (progress l Passed cs os) .state

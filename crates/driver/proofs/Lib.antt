@@ -1,0 +1,3 @@
+pub mod DueLaws
+pub mod PageLaws
+pub mod RunLaws
