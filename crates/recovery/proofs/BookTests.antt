@@ -14,8 +14,8 @@ use Rattle.pages.specs.Check.{zeroBits}
 use Rattle.pages.specs.Layout.{whole, allOnes, storedCheck, countedCheck, kindOf, dataKind, tableKind, numberWidth, isDataKind, isTableKind, labelOf, numberOf, bytesOf, labelBytes, encoded, label}
 use Rattle.copies.specs.Pick.{someBelow}
 use Rattle.copies.specs.Blocks.{isMarked, agrees, completeTo, isComplete}
-use Rattle.book.specs.Book.{Book, Change, write, erase, entered, Note, note, Account, account, blankAccount, Entry, changed, mounted, settled, fed}
-use Rattle.book.specs.Copy.{isDataProgram, sentPage, sentPages, hasCopy}
+use Rattle.recovery.specs.Book.{Book, Change, write, erase, entered, Note, note, Account, account, blankAccount, Entry, changed, mounted, settled, fed}
+use Rattle.recovery.specs.Copy.{isDataProgram, sentPage, sentPages, hasCopy}
 
 abbrev small : Geometry
 small = record { main = 32; spare = 16; pages = 4; blocks = 4; logical = 2 }

@@ -1,0 +1,4 @@
+pub mod BookTests
+pub mod SparedLaws
+pub mod CopyLaws
+pub mod ListTests

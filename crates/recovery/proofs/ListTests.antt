@@ -1,0 +1,104 @@
+-- Lists with a cut write on the small chip, computed: 32 main and 16 spare bytes, 4 pages, 4 blocks, 2 logical blocks. Assumes
+-- nothing.
+use Prim.Native.Nat.{ℕ}
+use mathlib.Core.Bool.{Bool, true, false, cond}
+use mathlib.Core.List.{List, [], _∷_, _++_}
+use mathlib.Core.Path.{_≡_, refl}
+use borrow.Author.Tests.{eq-eqb, ne-eqb}
+use lib.Count.{ones}
+use lib.ListN.{getD, replicate}
+use Rattle.geometry.specs.declared.Geometry.{Geometry}
+use Rattle.cells.specs.Cells.{programmed, weakened, raised}
+use Rattle.cells.specs.Part.{put}
+use Rattle.bitmaps.specs.Bitmap.{bitAt, withBit, countBits, clearFrom}
+use Rattle.interface.specs.Interface.{poweredOn, begun, statusMode, readMode, plainCommand, addressFits, latched, addressed, fateWord, nextFate, started, statusByte}
+use Rattle.array.specs.Device.{device, setting, fitting, readStarted, programStarted, eraseStarted, completed}
+use Rattle.chip.specs.Chip.{isConfirm, confirmed, confirmable, commanded, dataTaken, dataGiven, dataByte, finished, statusRead, exec}
+use Rattle.bus.specs.Line.{mayGo, cutAfter, send, byteOut, sendAll, sent, goesOn}
+use Rattle.polling.specs.Polling.{waiting, polls, outcomeOf, endedAs}
+use Rattle.polling.specs.Outcomes.{isPassed, isFailed, isSilent, isCut}
+use Rattle.polling.specs.declared.Outcome.the-variants.{Passed}
+use Rattle.sequences.specs.Cycles.{readCycles, readOutcome, outputs, readOutputs}
+use Rattle.operations.specs.Trace.{ArrayOperation, startedBy}
+use Rattle.pages.specs.Check.{zeroBits}
+use Rattle.pages.specs.Layout.{tableKind, label, whole, allOnes, storedCheck, countedCheck, kindOf, numberWidth, isDataKind, isTableKind, labelOf, numberOf, bytesOf, labelBytes, encoded}
+use Rattle.copies.specs.Blocks.{isMarked, agrees, completeTo, isComplete, isTable, isData, isCopyOf}
+use Rattle.copies.specs.Pick.{better, pick, someBelow}
+use Rattle.copies.specs.Table as table
+use Rattle.copies.specs.Current as current
+use Rattle.copies.specs.Current.{currentTable, currentCopy, reading, sharesNumber, clashesAt, clashes, judgeTable, mountAnswer}
+use Rattle.choose.specs.Choose.{permitted, searchAfter}
+use Rattle.state.specs.State.{copyBits}
+use Rattle.state.specs.declared.State.{State}
+use Rattle.progress.specs.Progress.{progress, readOn}
+use Rattle.progress.specs.Steps.{eraseOn, programOn}
+use Rattle.calls.specs.Call.{Result, callLine, stopAnswer}
+use Rattle.fill.specs.Fill.{mainOf, mainRead, pageFilled, pagesFilled, tableMain, dataSource, isGiven}
+use Rattle.tables.specs.Tables.{Tabled, afterFill, tryBlock, tryTable, tablesFilled}
+use Rattle.changes.specs.Changes.{writeUpdate, afterTry, copyTried, copiesFilled, thenTable, changeRun}
+use Rattle.recovery.specs.Book.{Change, write, entered, Account, blankAccount, changed, mounted, settled, fed}
+use Rattle.recovery.specs.Copy.{isDataProgram, sentPage, sentPages, hasCopy}
+use Rattle.recovery.specs.Calls.{Lent, toRead, Store, failedAfter, afterMount, step}
+
+abbrev small : Geometry
+small = record { main = 32; spare = 16; pages = 4; blocks = 4; logical = 2 }
+
+-- the chip after a formatting: a table under number 1 in block 0, the others erased
+abbrev tablePages : ℕ → List ℕ
+tablePages i = encoded 16 (label tableKind 0 i 1) (tableMain small (replicate 512 0) i)
+
+abbrev formatted : List ℕ
+formatted = tablePages 0 ++ (tablePages 1 ++ (tablePages 2 ++ (tablePages 3 ++ replicate 576 255)))
+
+abbrev state : State
+state =
+    record { status = 1; table = 0; last = 0; number = 2; marked = replicate 512 0; invalid = replicate 512 0; map = replicate 4096 65535 }
+
+-- a write of logical block 0, page 0 that sends 235 cycles, cut before the last: its mask lets all or nothing of an operation
+-- under way through
+abbrev cut : ℕ → ℕ → Tabled
+cut mask byte =
+    changeRun (setting small (replicate 192 mask) []) state (writeUpdate state 0 0 (replicate 32 byte))
+    (progress (callLine (device poweredOn formatted (replicate 48 255) (replicate 4 0)) 234) Passed [] [])
+
+abbrev arrayOf : Tabled → List ℕ
+arrayOf t = t .progress .line .chip .array
+
+-- its answer, whether it has a complete copy, the answer of a mount, and the first byte that then reads back
+abbrev told : Tabled → List ℕ
+told t =
+    t .answer ∷ cond (hasCopy small (arrayOf t) (t .progress .started)) 1 0 ∷ mountAnswer small (arrayOf t) ∷ getD (reading small (arrayOf t) 0 0 0) 0 0 ∷ []
+
+-- a cut write that survives, one that does not, and one that would have changed no byte
+cut-writes : told (cut 255 165) ++ (told (cut 0 165) ++ told (cut 255 255)) ≡ 11 ∷ 1 ∷ 0 ∷ 165 ∷ 11 ∷ 0 ∷ 0 ∷ 255 ∷ 11 ∷ 1 ∷ 0 ∷ 255 ∷ []
+unfolding ones begun statusMode readMode plainCommand addressFits latched addressed fateWord nextFate started statusByte fitting readStarted programStarted eraseStarted completed isConfirm confirmed confirmable commanded dataTaken dataGiven dataByte finished statusRead exec programmed weakened raised put mayGo cutAfter send byteOut sendAll sent goesOn waiting polls outcomeOf isPassed endedAs readCycles readOutcome outputs readOutputs startedBy readOn stopAnswer isSilent isCut bitAt withBit zeroBits numberWidth bytesOf numberOf labelBytes encoded kindOf eraseOn programOn isFailed mainOf mainRead pageFilled pagesFilled tableMain permitted searchAfter afterFill tryBlock tryTable tablesFilled table.tablePage isDataKind isTableKind copyBits copyTried afterTry copiesFilled thenTable dataSource isGiven hasCopy sentPages sentPage isDataProgram someBelow better pick isMarked agrees completeTo isComplete isTable isData isCopyOf currentTable currentCopy current.pageOf sharesNumber clashesAt clashes judgeTable mountAnswer whole allOnes storedCheck countedCheck labelOf countBits clearFrom table.clearWhere table.rightFirst table.rightPage table.rightTo table.rightTable
+cut-writes = refl
+
+-- the book after it, a silent mount and a mount answered 0: first byte of logical block 0, page 0
+abbrev later : ℕ → Bool → List ℕ
+later byte copy =
+    let noted = fed small (changed (write 0 0 (replicate 32 byte)) 11 []) (blankAccount small) in
+    let still = fed small (mounted 10 copy) noted in
+    getD (noted .book 0 0) 0 0 ∷ getD (still .book 0 0) 0 0 ∷ getD (fed small (mounted 0 copy) still .book 0 0) 0 0 ∷ []
+
+books-later : later 165 true ++ (later 165 false ++ later 255 true) ≡ 255 ∷ 255 ∷ 165 ∷ 255 ∷ 255 ∷ 255 ∷ 255 ∷ 255 ∷ 255 ∷ []
+unfolding fed settled entered
+books-later = refl
+
+-- a read, cut or not, changes neither book nor note; nor do a refused write and a mount answered 1
+read-unbooked : (g : Geometry) (a : Lent) (logical page : ℕ) (buffer : List ℕ) (y : Store) → step g (toRead a logical page buffer) y .account ≡ y .account
+unfolding step
+read-unbooked g a logical page buffer y = refl
+
+refused-unbooked : (g : Geometry) (c : Change) (y : Account) → (fed g (changed c 1 []) y ≡ y) × (fed g (changed c 7 []) y ≡ y) × (fed g (changed c 2 []) y ≡ y) × (fed g (changed c 3 []) y ≡ y) × (fed g (mounted 1 false) y ≡ y)
+unfolding fed
+refused-unbooked g c y = (refl, refl, refl, refl, refl)
+
+-- a mount answered 0 starts the failed blocks anew, any other keeps them
+mount-clears : (g : Geometry) (y : Store) (r : Result) (os : List ArrayOperation) (b : ℕ) → r .answer ≡ 0 → afterMount g y r os .failed b ≡ false
+unfolding afterMount
+mount-clears g y r os b z = rw (eq-eqb (r .answer) 0 z)
+
+mount-keeps : (g : Geometry) (y : Store) (r : Result) (os : List ArrayOperation) (b : ℕ) → (r .answer ≡ 0 → ⊥) → afterMount g y r os .failed b ≡ failedAfter (y .failed) os b
+unfolding afterMount
+mount-keeps g y r os b z = rw (ne-eqb (r .answer) 0 z)

@@ -1,0 +1,4 @@
+pub mod Book
+pub mod Copy
+pub mod Calls
+pub mod Recovery
