@@ -1,0 +1,1 @@
+// How writes and erases end on any chip: laws. No function.
