@@ -1,0 +1,11 @@
+pub mod InvariantLaws
+pub mod StartLaws
+pub mod MountSteps
+pub mod ReadSteps
+pub mod SizeLaws
+pub mod ChangeSteps
+pub mod ReadOnlyLaws
+pub mod MountReads
+pub mod RecoveryLaws
+pub mod AnswerLaws
+pub mod ToldLaws

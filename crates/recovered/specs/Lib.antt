@@ -1,0 +1,5 @@
+pub mod Invariant
+pub mod Answers
+pub mod Acknowledged
+pub mod Cycles
+pub mod Told

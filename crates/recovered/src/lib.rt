@@ -1,0 +1,1 @@
+// Laws of lists of calls. No function.

@@ -1,0 +1,1 @@
+// Laws of the requests that write and erase. No function.
