@@ -1,0 +1,9 @@
+pub mod LatchLaws
+pub mod AllLaws
+pub mod FailLaws
+pub mod StartLaws
+pub mod TraceLaws
+pub mod ReadOnlyLaws
+pub mod CycleLaws
+pub mod FormatLaws
+pub mod StartTests

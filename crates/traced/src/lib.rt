@@ -1,0 +1,1 @@
+// Laws of the confirm cycles that requests send. No function.
