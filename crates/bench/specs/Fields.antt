@@ -1,0 +1,37 @@
+-- What the bench reads of a line: digits, numbers, fields.
+use Prim.Native.Nat.{ℕ, suc, _+_, _-_, _*_}
+use mathlib.Core.Bool.{cond}
+use mathlib.Core.List.{List, [], _∷_}
+use lib.Dec.{eqb, leb, ltb}
+use lib.ListN.{getD, length, drop}
+use Rattle.bench.specs.declared.lines.Field.{Field}
+use Rattle.bench.specs.declared.lines.Field.the-variants.{Number, Missing}
+
+-- the value of a digit, in either case of its letter, 16 for any other byte
+unfoldable pub digitValue : ℕ → ℕ
+digitValue b =
+    cond (ltb b 48) 16 (cond (leb b 57) (b - 48) (cond (ltb b 65) 16 (cond (leb b 70) (b - 55) (cond (ltb b 97) 16 (cond (leb b 102) (b - 87) 16)))))
+
+-- a number one digit on; greater numbers count as 1,000,000
+unfoldable pub appended : ℕ → ℕ → ℕ → ℕ
+appended number base digit = cond (ltb 1000000 (number * base + digit)) 1000000 (number * base + digit)
+
+-- on from a number: the digits up to the first byte that is none
+unfoldable pub digitsFrom : ℕ → ℕ → ℕ → List ℕ → Field
+digitsFrom base number end [] = Number number end
+digitsFrom base number end (byte ∷ bytes) =
+    let more = digitsFrom base (appended number base (digitValue byte)) (suc end) bytes in
+    cond (leb base (digitValue byte)) (Number number end) more
+
+-- a field that ends where it begins is none
+abbrev pub someDigit : ℕ → Field → Field
+someDigit first (Number number end) = cond (eqb end first) Missing (Number number end)
+someDigit first Missing = Missing
+
+-- the field at a place: one space, and at least one digit
+unfoldable pub fieldAt : List ℕ → ℕ → ℕ → Field
+fieldAt line at base =
+    cond
+    (leb (length line) at)
+    Missing
+    (cond (eqb (getD line at 0) 32) (someDigit (at + 1) (digitsFrom base 0 (at + 1) (drop (at + 1) line))) Missing)
