@@ -1,0 +1,112 @@
+// The book of acknowledged writes and erases, kept along a list of calls, and the checks that a mount must meet.
+
+use super::*;
+
+#[derive(Clone)]
+struct Noted {
+    request: Request,
+    bytes: Vec<u8>,
+    confirmed: Vec<Confirmed>,
+}
+
+// The bytes of all logical pages, and the request under way.
+#[derive(Clone)]
+pub struct Book {
+    pages: Vec<Vec<u8>>,
+    noted: Option<Noted>,
+}
+
+impl Book {
+    pub fn new(geometry: &Geometry) -> Book {
+        Book { pages: vec![vec![0xFF; geometry.main]; geometry.logical * geometry.pages], noted: None }
+    }
+
+    fn enter(&mut self, geometry: &Geometry, request: &Request, bytes: &[u8]) {
+        match request {
+            Request::Write { block, page } => self.pages[block * geometry.pages + page] = bytes.to_vec(),
+            Request::Erase { block } => {
+                for page in 0..geometry.pages {
+                    self.pages[block * geometry.pages + page].fill(0xFF);
+                }
+            }
+            _ => {}
+        }
+    }
+
+    // The step for one call, with the checks on what it answered.
+    pub fn step(&mut self, run: &mut Run, world: &World, request: &Request, answer: usize, bytes: &[u8]) {
+        if world.watch.confirmed.iter().any(|confirmed| confirmed.forbidden) {
+            run.fail("a block was programmed or erased that is marked, listed or failed");
+        }
+        if answer == ILLEGAL {
+            run.fail("a cycle was answered illegal within a list");
+        }
+        match request {
+            Request::Write { .. } | Request::Erase { .. } => self.step_change(run, world, request, answer, bytes),
+            Request::Read { block, page } if answer == DONE => {
+                if self.noted.is_some() || world.own.buffer != self.pages[block * world.geometry.pages + page] {
+                    run.fail("a read differs from the book");
+                }
+            }
+            Request::Mount => self.step_mount(run, world, answer),
+            _ => {}
+        }
+    }
+
+    fn step_change(&mut self, run: &mut Run, world: &World, request: &Request, answer: usize, bytes: &[u8]) {
+        if answer == DONE {
+            self.enter(&world.geometry, request, bytes);
+        }
+        if (WORN..=CUT).contains(&answer) {
+            if self.noted.is_some() {
+                run.fail("a second request is under way");
+            }
+            let confirmed = world.watch.confirmed.clone();
+            self.noted = Some(Noted { request: request.clone(), bytes: bytes.to_vec(), confirmed });
+        }
+    }
+
+    fn step_mount(&mut self, run: &mut Run, world: &World, answer: usize) {
+        if ![DONE, GEOMETRY, SILENT, CUT, BAD_BUFFER].contains(&answer) {
+            run.fail(&format!("a mount within a list is answered {answer}"));
+        }
+        if answer != DONE {
+            return;
+        }
+        let Some(noted) = self.noted.take() else { return };
+        if has_complete_copy(world, &noted.confirmed) {
+            run.entered += 1;
+            self.enter(&world.geometry, &noted.request, &noted.bytes);
+        }
+    }
+
+    // Every page read in a copy of the world, against the book.
+    pub fn compare_all(&self, run: &mut Run, world: &World) {
+        let mut world = world.duplicate();
+        for block in 0..world.geometry.logical {
+            for page in 0..world.geometry.pages {
+                if world.read(run, block, page) != DONE {
+                    run.fail("a read after a mount is refused");
+                }
+                if world.own.buffer != self.pages[block * world.geometry.pages + page] {
+                    run.fail(&format!("logical block {block} page {page} differs from the book"));
+                }
+                if world.library.buffer != world.own.buffer {
+                    run.fail("the library's reading differs");
+                }
+            }
+        }
+    }
+}
+
+fn has_complete_copy(world: &World, confirmed: &[Confirmed]) -> bool {
+    let geometry = &world.geometry;
+    (0..geometry.blocks).any(|block| {
+        let all = (0..geometry.pages).all(|page| confirmed.iter().any(|sent| data_page(geometry, sent, block, page)));
+        all && summary_of(geometry, &world.own.chip.array, block).complete.is_some()
+    })
+}
+
+fn data_page(geometry: &Geometry, sent: &Confirmed, block: usize, page: usize) -> bool {
+    sent.program && sent.block == block && sent.page == page && sent.bytes[geometry.main + 1] == 0x44
+}

@@ -1,0 +1,400 @@
+// Random chips, states, interface words, masks, fates and lengths.
+
+use super::*;
+
+pub const SMALL: Geometry = Geometry { main: 32, spare: 16, pages: 4, blocks: 4, logical: 2 };
+
+pub fn random_geometry(random: &mut Random) -> Geometry {
+    let mut pages = random.pick(&[4, 4, 4, 8]);
+    let mut main = random.pick(&[32, 32, 33, 40, 48, 64]);
+    let mut spare = random.pick(&[16, 16, 17, 20, 24]);
+    let mut blocks = 4 + random.below(6);
+    match random.below(60) {
+        0 => blocks = 10 + random.below(30),
+        1 => pages = random.pick(&[16, 32, 64]),
+        2 => main = random.pick(&[240, 256, 300, 520]),
+        3 => spare = random.pick(&[64, 255, 256]),
+        _ => {}
+    }
+    let logical = 1 + random.below(blocks - 2);
+    Geometry { main, spare, pages, blocks, logical }
+}
+
+pub fn random_number(random: &mut Random) -> u32 {
+    match random.below(8) {
+        0 => u32::MAX,
+        1 => u32::MAX - random.below(3) as u32,
+        2 => random.next() as u32,
+        _ => random.below(12) as u32,
+    }
+}
+
+fn random_main(random: &mut Random, geometry: &Geometry) -> Vec<u8> {
+    match random.below(4) {
+        0 => vec![0xFF; geometry.main],
+        1 => vec![random.byte(); geometry.main],
+        _ => random.bytes(geometry.main),
+    }
+}
+
+fn random_label(random: &mut Random, geometry: &Geometry) -> Label {
+    let page = random.below(geometry.pages + 1);
+    if random.one_in(3) {
+        return table_label(page, random_number(random));
+    }
+    data_label(random.below(geometry.logical + 2), page, random_number(random))
+}
+
+pub fn copy_block(random: &mut Random, geometry: &Geometry, logical: usize, number: u32) -> Vec<u8> {
+    let mut block = Vec::new();
+    for page in 0..geometry.pages {
+        let main = random_main(random, geometry);
+        block.extend(encode_page(geometry, &main, &data_label(logical, page, number)));
+    }
+    block
+}
+
+// A table over a random bitmap that mostly leaves its own block and the unused bits aside.
+fn table_block(random: &mut Random, geometry: &Geometry, own: usize, number: u32) -> Vec<u8> {
+    let mut invalid = vec![0u8; 512];
+    let wild = random.one_in(12);
+    let places = if wild { (geometry.blocks + 7) / 8 * 8 } else { geometry.blocks };
+    for place in 0..places {
+        if random.one_in(6) && (wild || place != own) {
+            invalid[place / 8] |= 1 << (place % 8);
+        }
+    }
+    table_of(random, geometry, &invalid, number)
+}
+
+fn table_of(random: &mut Random, geometry: &Geometry, invalid: &[u8], number: u32) -> Vec<u8> {
+    let mut main = table_main(geometry, invalid);
+    if random.one_in(5) {
+        spoil_table(random, geometry, &mut main);
+    }
+    let logical = if random.one_in(20) { random.below(3) as u16 } else { 0 };
+    let other = if random.one_in(20) { random.below(geometry.pages) } else { 0 };
+    let mut block = Vec::new();
+    for page in 0..geometry.pages {
+        let mut bytes = if page == 0 { main.clone() } else { vec![0xFF; geometry.main] };
+        if page == other && page > 0 {
+            bytes[random.below(geometry.main)] = 0x7F;
+        }
+        block.extend(encode_page(geometry, &bytes, &Label { logical, ..table_label(page, number) }));
+    }
+    block
+}
+
+fn spoil_table(random: &mut Random, geometry: &Geometry, main: &mut [u8]) {
+    let place = match random.below(3) {
+        0 => random.below(8),
+        1 => 8 + random.below((geometry.blocks + 7) / 8),
+        _ => random.below(geometry.main),
+    };
+    main[place] ^= 1 << random.below(8);
+}
+
+fn mixed_block(random: &mut Random, geometry: &Geometry) -> Vec<u8> {
+    let mut block = Vec::new();
+    for _ in 0..geometry.pages {
+        let main = random_main(random, geometry);
+        let label = random_label(random, geometry);
+        block.extend(encode_page(geometry, &main, &label));
+    }
+    block
+}
+
+fn random_block(random: &mut Random, geometry: &Geometry, own: usize, numbers: &[u32]) -> Vec<u8> {
+    let size = geometry.block_bytes();
+    let number = numbers[own];
+    let mut block = match random.below(12) {
+        0 | 1 => vec![0xFF; size],
+        2 => random.bytes(size),
+        3 | 4 => table_block(random, geometry, own, number),
+        5 => mixed_block(random, geometry),
+        6 => copy_block(random, geometry, geometry.logical, number),
+        _ => {
+            let logical = random.below(geometry.logical);
+            copy_block(random, geometry, logical, number)
+        }
+    };
+    if random.one_in(4) {
+        damage(random, geometry, &mut block);
+    }
+    block
+}
+
+// Bits raised or cleared, a missing tail, a mark, or a wrong byte past the check.
+fn damage(random: &mut Random, geometry: &Geometry, block: &mut [u8]) {
+    let size = geometry.page_bytes();
+    let page = random.below(geometry.pages) * size;
+    match random.below(7) {
+        0 => block[page..].fill(0xFF),
+        1 => (page..page + size).for_each(|place| block[place] |= random.byte() & random.byte()),
+        2 => block[random.below(geometry.block_bytes())] |= 1 << random.below(8),
+        3 => block[random.below(geometry.block_bytes())] &= !(1 << random.below(8)),
+        4 => block[random.below(2) * size + geometry.main] = random.byte(),
+        5 => block[page + geometry.main] = random.byte(),
+        _ => block[page + geometry.main + 11 + random.below(geometry.spare - 11)] = random.byte(),
+    }
+}
+
+pub fn random_array(random: &mut Random, geometry: &Geometry) -> Vec<u8> {
+    match random.below(12) {
+        0 => vec![0xFF; geometry.chip_bytes()],
+        1 => random.bytes(geometry.chip_bytes()),
+        2 => vec![0; geometry.chip_bytes()],
+        3 => (0..geometry.blocks).flat_map(|_| mixed_block(random, geometry)).collect(),
+        _ => {
+            let numbers = random_numbers(random, geometry.blocks);
+            (0..geometry.blocks).flat_map(|block| random_block(random, geometry, block, &numbers)).collect()
+        }
+    }
+}
+
+// A number for each block: mostly different ones, few that come often, or any.
+fn random_numbers(random: &mut Random, count: usize) -> Vec<u32> {
+    let few = [random_number(random), random_number(random)];
+    let often = random.pick(&[2, 5, 1000]);
+    let start = random.pick(&[1, 20, u32::MAX - count as u32]);
+    let mut numbers: Vec<u32> = (0..count as u32).map(|place| start + place).collect();
+    for place in (1..count).rev() {
+        numbers.swap(place, random.below(place + 1));
+    }
+    for number in &mut numbers {
+        match random.below(often) {
+            0 => *number = random.pick(&few),
+            1 => *number = random_number(random),
+            _ => {}
+        }
+    }
+    numbers
+}
+
+// A chip of which few blocks are marked, so that a formatting mostly succeeds.
+pub fn used_array(random: &mut Random, geometry: &Geometry) -> Vec<u8> {
+    let mut array = random_array(random, geometry);
+    let size = geometry.page_bytes();
+    for block in 0..geometry.blocks {
+        let from = geometry.page_start(block, 0) + geometry.main;
+        if !random.one_in(10) {
+            array[from] = 0xFF;
+            array[from + size] = 0xFF;
+        }
+    }
+    array
+}
+
+pub fn random_mask(random: &mut Random, geometry: &Geometry) -> Vec<u8> {
+    let size = geometry.block_bytes();
+    match random.below(6) {
+        0 | 1 => vec![0xFF; size],
+        2 => vec![0; size],
+        3 => (0..size).map(|_| random.byte() | random.byte() | random.byte()).collect(),
+        4 => masked_part(random, size),
+        _ => random.bytes(size),
+    }
+}
+
+fn masked_part(random: &mut Random, size: usize) -> Vec<u8> {
+    let (first, second) = (random.byte(), random.byte());
+    let middle = random.below(size);
+    let mut mask = vec![if first & 1 == 0 { 0 } else { 0xFF }; size];
+    mask[middle..].fill(if second & 1 == 0 { 0xFF } else { 0 });
+    mask
+}
+
+fn random_fate(random: &mut Random, failing: usize) -> u32 {
+    let busy = match random.below(12) {
+        0 => random.below(5),
+        1 if random.one_in(4) => random.pick(&[254, 255]),
+        2 if random.one_in(20) => random.pick(&[256, 257, 300, 511, 512, 65535]),
+        _ => 0,
+    };
+    let fail = if random.one_in(failing) { 1 << 16 } else { 0 };
+    let ignored = if random.one_in(3) { (random.next() as u32) << 17 } else { 0 };
+    busy as u32 | fail | ignored
+}
+
+pub fn random_fates(random: &mut Random, geometry: &Geometry) -> Vec<u32> {
+    if random.one_in(2) {
+        return Vec::new();
+    }
+    let most = 3 * geometry.pages * geometry.blocks;
+    let count = if random.one_in(2) { random.below(6) } else { random.below(most) };
+    let failing = random.pick(&[2, 4, 10, 40]);
+    (0..count).map(|_| random_fate(random, failing)).collect()
+}
+
+// About as many cycles as the request sends unbusied.
+fn usual_cycles(geometry: &Geometry, request: &Request) -> usize {
+    let page = geometry.page_bytes() + 10;
+    match request {
+        Request::Format => 3 + geometry.blocks * 29 + geometry.pages * page + 20,
+        Request::Mount => 3 + geometry.blocks * geometry.pages * page,
+        Request::Read { .. } => 10 + geometry.main,
+        _ => 7 + geometry.pages * 2 * page,
+    }
+}
+
+pub fn random_allowance(random: &mut Random, geometry: &Geometry, request: &Request) -> u32 {
+    match random.below(10) {
+        0 => random.below(14) as u32,
+        1 | 2 => random.below(usual_cycles(geometry, request) + 5) as u32,
+        3 => random.below(2 * usual_cycles(geometry, request)) as u32,
+        _ => u32::MAX,
+    }
+}
+
+pub fn random_call(random: &mut Random, geometry: &Geometry, request: &Request) -> Call {
+    Call {
+        mask: random_mask(random, geometry),
+        fates: random_fates(random, geometry),
+        allowed: random_allowance(random, geometry, request),
+    }
+}
+
+// ---- wrong arguments ----
+
+fn other_length(random: &mut Random, right: usize) -> usize {
+    match random.below(5) {
+        0 => 0,
+        1 => right - 1,
+        2 => right + 1,
+        3 => right / 2,
+        _ => random.below(2 * right + 2),
+    }
+}
+
+pub fn random_wrong(random: &mut Random, geometry: &Geometry) -> Wrong {
+    match random.below(7) {
+        0 => Wrong::State(other_length(random, STATE_BYTES)),
+        1 => Wrong::Words(other_length(random, WORDS)),
+        2 => Wrong::Sent(other_length(random, 1)),
+        3 => Wrong::Array(other_length(random, geometry.chip_bytes())),
+        4 => Wrong::Register(other_length(random, geometry.page_bytes())),
+        5 => Wrong::History(other_length(random, geometry.blocks)),
+        _ => Wrong::Mask(other_length(random, geometry.block_bytes())),
+    }
+}
+
+fn odd_number(random: &mut Random, right: usize) -> usize {
+    match random.below(8) {
+        0 => 0,
+        1 => random.below(20),
+        2 => usize::MAX - random.below(3),
+        3 => right.wrapping_add(1),
+        4 => right.wrapping_sub(1),
+        5 => random.next() as usize,
+        6 => 1usize << random.below(64),
+        _ => random.pick(&[15, 31, 257, 4095, 4097, 65536, usize::MAX / 2 + 1]),
+    }
+}
+
+pub fn other_geometry(random: &mut Random, geometry: &Geometry) -> Geometry {
+    let mut other = *geometry;
+    match random.below(7) {
+        0 => other.main = odd_number(random, other.main),
+        1 => other.spare = odd_number(random, other.spare),
+        2 => other.pages = odd_number(random, other.pages),
+        3 => other.blocks = odd_number(random, other.blocks),
+        4 => other.logical = odd_number(random, other.logical),
+        5 => (other.main, other.spare) = (other.main + 1, other.spare - 1),
+        _ => (other.pages, other.blocks) = (other.pages * 2, other.blocks / 2),
+    }
+    other
+}
+
+// A geometry that breaks a limit.
+pub fn broken_geometry(random: &mut Random, geometry: &Geometry) -> Geometry {
+    loop {
+        let other = other_geometry(random, geometry);
+        if !other.within_limits() {
+            return other;
+        }
+    }
+}
+
+// ---- states and words ----
+
+pub fn random_words(random: &mut Random) -> Vec<u64> {
+    let mut words: Vec<u64> = (0..WORDS).map(|_| random_word(random)).collect();
+    words[PHASE] = match random.below(4) {
+        0 | 1 => random.below(3) as u64,
+        2 => random.below(10) as u64,
+        _ => random_word(random),
+    };
+    words
+}
+
+fn random_word(random: &mut Random) -> u64 {
+    match random.below(4) {
+        0 => 0,
+        1 => 1,
+        2 => random.below(70) as u64,
+        _ => random.next() >> random.below(64),
+    }
+}
+
+// A mounted state of one's own making, which any chip may belie.
+pub fn made_state(random: &mut Random, geometry: &Geometry) -> State {
+    let mut state = State::from_bytes(&vec![0; STATE_BYTES]);
+    let mut blocks: Vec<usize> = (0..geometry.blocks).collect();
+    for place in (1..blocks.len()).rev() {
+        blocks.swap(place, random.below(place + 1));
+    }
+    state.status = 1;
+    state.table = blocks.pop().unwrap() as u64;
+    state.last = random.below(geometry.blocks) as u64;
+    state.next = if random.one_in(3) { random_number(random) as u64 } else { 100 };
+    state.map.fill(0xFFFF);
+    for logical in 0..geometry.logical {
+        if random.one_in(2) {
+            state.map[logical] = blocks.pop().unwrap() as u16;
+        }
+    }
+    for block in blocks {
+        match random.below(8) {
+            0 => state.marks[block / 8] |= 1 << (block % 8),
+            1 => state.invalid[block / 8] |= 1 << (block % 8),
+            _ => {}
+        }
+    }
+    state
+}
+
+// One field changed.
+pub fn change_state(random: &mut Random, geometry: &Geometry, state: &mut State) {
+    let block = random.below(geometry.blocks + 2);
+    let place = if random.one_in(3) { random.below(4096) } else { block };
+    let word = random_word(random);
+    match random.below(9) {
+        0 => state.status = word,
+        1 => state.table = random.pick(&[block as u64, word]),
+        2 => state.last = random.pick(&[block as u64, word]),
+        3 => state.next = random.pick(&[0, LAST_NUMBER - 1, LAST_NUMBER, LAST_NUMBER + 1, word, u64::MAX]),
+        4 => state.marks[place / 8] ^= 1 << (place % 8),
+        5 => state.invalid[place / 8] ^= 1 << (place % 8),
+        6 => state.map[random.below(geometry.logical)] = random.pick(&[block as u16, word as u16]),
+        7 => state.map[geometry.logical] = random.pick(&[0xFFFF, block as u16, 0]),
+        _ => state.map[random.below(4096)] = word as u16,
+    }
+}
+
+pub fn random_state(random: &mut Random, geometry: &Geometry, present: &[u8]) -> Vec<u8> {
+    match random.below(6) {
+        0 => random.bytes(STATE_BYTES),
+        1 => vec![random.pick(&[0, 1, 2, 0xFF]); STATE_BYTES],
+        2 | 3 => made_state(random, geometry).to_bytes(),
+        4 => {
+            let mut state = made_state(random, geometry);
+            change_state(random, geometry, &mut state);
+            state.to_bytes()
+        }
+        _ => {
+            let mut state = State::from_bytes(present);
+            change_state(random, geometry, &mut state);
+            state.to_bytes()
+        }
+    }
+}

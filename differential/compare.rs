@@ -1,0 +1,433 @@
+// Compares the library, call by call and byte for byte, with the second implementation in store.rs.
+// `compare` runs a fixed selection, `compare COUNT SEED` random lists until COUNT calls were made.
+
+mod book;
+mod chips;
+mod fixed;
+mod lists;
+mod store;
+
+use book::*;
+use chips::*;
+use fixed::*;
+use lists::*;
+use std::process::exit;
+use store::*;
+
+// ---- the library ----
+
+type Lent<T> = *mut T;
+
+macro_rules! library_call {
+    ($name:ident $(, $extra:ident : $kind:ty)*) => {
+        fn $name(
+            main: usize, spare: usize, pages: usize, blocks: usize, logical: usize,
+            state: Lent<u8>, state_len: usize, words: Lent<u64>, words_len: usize,
+            array: Lent<u8>, array_len: usize, page_register: Lent<u8>, page_register_len: usize,
+            history: Lent<u8>, history_len: usize, mask: *const u8, mask_len: usize,
+            fates: *const u32, fates_len: usize, allowed: u32, sent: Lent<u64>, sent_len: usize
+            $(, $extra: $kind)*
+        ) -> usize;
+    };
+}
+
+extern "C" {
+    library_call!(flash_store_format);
+    library_call!(flash_store_mount);
+    library_call!(flash_store_read, block: usize, page: usize, buffer: Lent<u8>, buffer_len: usize);
+    library_call!(flash_store_write, block: usize, page: usize, bytes: *const u8, bytes_len: usize);
+    library_call!(flash_store_erase, block: usize);
+}
+
+// What one side holds before and after a call.
+#[derive(Clone, PartialEq, Eq)]
+struct Side {
+    state: Vec<u8>,
+    chip: Chip,
+    buffer: Vec<u8>,
+    sent: Vec<u64>,
+}
+
+fn restore<T: Clone>(part: &mut Vec<T>, kept: &[T]) {
+    if part.len() != kept.len() {
+        *part = kept.to_vec();
+    }
+}
+
+impl Side {
+    // A copy, without an array that is too long to be shown.
+    fn shown_part(&self) -> Side {
+        let array = if self.chip.array.len() <= LARGEST_SHOWN { self.chip.array.clone() } else { Vec::new() };
+        let words = self.chip.words.clone();
+        let (register, history) = (self.chip.register.clone(), self.chip.history.clone());
+        let chip = Chip { words, array, register, history };
+        Side { state: self.state.clone(), chip, buffer: self.buffer.clone(), sent: self.sent.clone() }
+    }
+
+    fn restore_lengths(&mut self, kept: &Side) {
+        restore(&mut self.state, &kept.state);
+        restore(&mut self.sent, &kept.sent);
+        restore(&mut self.chip.words, &kept.chip.words);
+        restore(&mut self.chip.array, &kept.chip.array);
+        restore(&mut self.chip.register, &kept.chip.register);
+        restore(&mut self.chip.history, &kept.chip.history);
+    }
+}
+
+macro_rules! lend {
+    ($function:ident, $g:expr, $s:expr, $c:expr $(, $extra:expr)*) => {
+        $function(
+            $g.main, $g.spare, $g.pages, $g.blocks, $g.logical,
+            $s.state.as_mut_ptr(), $s.state.len(), $s.chip.words.as_mut_ptr(), $s.chip.words.len(),
+            $s.chip.array.as_mut_ptr(), $s.chip.array.len(), $s.chip.register.as_mut_ptr(), $s.chip.register.len(),
+            $s.chip.history.as_mut_ptr(), $s.chip.history.len(), $c.mask.as_ptr(), $c.mask.len(),
+            $c.fates.as_ptr(), $c.fates.len(), $c.allowed, $s.sent.as_mut_ptr(), $s.sent.len()
+            $(, $extra)*
+        )
+    };
+}
+
+// The library's answer.
+fn library(geometry: &Geometry, request: &Request, side: &mut Side, call: &Call) -> usize {
+    let buffer = side.buffer.as_mut_ptr();
+    let length = side.buffer.len();
+    // The buffers are as long as said and none overlaps another.
+    unsafe {
+        match request {
+            Request::Format => lend!(flash_store_format, geometry, side, call),
+            Request::Mount => lend!(flash_store_mount, geometry, side, call),
+            Request::Read { block, page } => {
+                lend!(flash_store_read, geometry, side, call, *block, *page, buffer, length)
+            }
+            Request::Write { block, page } => {
+                lend!(flash_store_write, geometry, side, call, *block, *page, buffer as *const u8, length)
+            }
+            Request::Erase { block } => lend!(flash_store_erase, geometry, side, call, *block),
+        }
+    }
+}
+
+// ---- random numbers ----
+
+struct Random(u64);
+
+impl Random {
+    fn new(seed: u64) -> Random {
+        let mut mixed = seed.wrapping_add(0x9E37_79B9_7F4A_7C15);
+        mixed = (mixed ^ mixed >> 30).wrapping_mul(0xBF58_476D_1CE4_E5B9);
+        mixed = (mixed ^ mixed >> 27).wrapping_mul(0x94D0_49BB_1331_11EB);
+        Random((mixed ^ mixed >> 31) | 1)
+    }
+
+    fn next(&mut self) -> u64 {
+        self.0 ^= self.0 >> 12;
+        self.0 ^= self.0 << 25;
+        self.0 ^= self.0 >> 27;
+        self.0.wrapping_mul(0x2545_F491_4F6C_DD1D)
+    }
+
+    fn below(&mut self, limit: usize) -> usize {
+        ((self.next() >> 32) as usize) % limit
+    }
+
+    fn one_in(&mut self, count: usize) -> bool {
+        self.below(count) == 0
+    }
+
+    fn pick<T: Copy>(&mut self, from: &[T]) -> T {
+        from[self.below(from.len())]
+    }
+
+    fn byte(&mut self) -> u8 {
+        (self.next() >> 56) as u8
+    }
+
+    fn bytes(&mut self, count: usize) -> Vec<u8> {
+        let mut bytes = vec![0; count];
+        for part in bytes.chunks_mut(8) {
+            part.copy_from_slice(&self.next().to_le_bytes()[..part.len()]);
+        }
+        bytes
+    }
+}
+
+// ---- counting and reporting ----
+
+const KINDS: [&str; 5] = ["format", "mount", "read", "write", "erase"];
+const ANSWERS: [usize; 14] = [0, 1, 2, 3, 4, 5, 6, 7, 8, 9, 10, 11, 100, 255];
+
+fn kind_of(request: &Request) -> usize {
+    match request {
+        Request::Format => 0,
+        Request::Mount => 1,
+        Request::Read { .. } => 2,
+        Request::Write { .. } => 3,
+        Request::Erase { .. } => 4,
+    }
+}
+
+#[derive(Default)]
+struct Run {
+    origin: String,
+    calls: usize,
+    answers: [[usize; 14]; 5],
+    books: usize,
+    entered: usize,
+    progress: usize,
+}
+
+impl Run {
+    // For calls that only lead to a chip or measure a request; they are not counted.
+    fn of_setting() -> Run {
+        Run { origin: "a chip's setting".to_string(), ..Run::default() }
+    }
+
+    fn count(&mut self, request: &Request, answer: usize) {
+        self.calls += 1;
+        match ANSWERS.iter().position(|known| *known == answer) {
+            Some(place) => self.answers[kind_of(request)][place] += 1,
+            None => self.fail(&format!("answer {answer} is none of the paper's")),
+        }
+        if self.progress > 0 && self.calls % self.progress == 0 {
+            println!("{}", self.line());
+        }
+    }
+
+    // Calls by kind and answer.
+    fn line(&self) -> String {
+        let mut line = format!("{} calls compared", self.calls);
+        for (name, answers) in KINDS.iter().zip(&self.answers) {
+            line += &format!("; {name}");
+            for (answer, count) in ANSWERS.iter().zip(answers).filter(|(_, count)| **count > 0) {
+                line += &format!(" {answer}:{count}");
+            }
+        }
+        line + &format!("; {} lists with a book, {} requests entered by a mount", self.books, self.entered)
+    }
+
+    fn every_answer(&self) -> bool {
+        (0..ANSWERS.len()).all(|place| self.answers.iter().any(|answers| answers[place] > 0))
+    }
+
+    fn fail(&self, what: &str) -> ! {
+        println!("DIFFERENCE at call {} of {}: {what}", self.calls, self.origin);
+        exit(1)
+    }
+}
+
+// Bytes in hexadecimal, a byte that repeats with its count.
+fn shown(bytes: &[u8]) -> String {
+    let mut text = String::new();
+    let mut place = 0;
+    while place < bytes.len() {
+        let same = bytes[place..].iter().take_while(|byte| **byte == bytes[place]).count();
+        text += &format!("{:02X}", bytes[place]);
+        if same > 1 {
+            text += &format!("*{same}");
+        }
+        text.push(' ');
+        place += same;
+    }
+    text
+}
+
+fn first_difference(name: &str, own: &[u8], library: &[u8]) -> Option<String> {
+    if own == library {
+        return None;
+    }
+    let place = own.iter().zip(library).position(|(a, b)| a != b).unwrap_or(0);
+    Some(format!("{name} byte {place}: here {:02X}, library {:02X}", own[place], library[place]))
+}
+
+fn first_word(name: &str, own: &[u64], library: &[u64]) -> Option<String> {
+    let place = own.iter().zip(library).position(|(a, b)| a != b)?;
+    Some(format!("{name} word {place}: here {own:?}, library {library:?}"))
+}
+
+fn difference(own: &Side, library: &Side) -> Option<String> {
+    first_word("sent", &own.sent, &library.sent)
+        .or_else(|| first_word("interface", &own.chip.words, &library.chip.words))
+        .or_else(|| first_difference("state", &own.state, &library.state))
+        .or_else(|| first_difference("history", &own.chip.history, &library.chip.history))
+        .or_else(|| first_difference("register", &own.chip.register, &library.chip.register))
+        .or_else(|| first_difference("array", &own.chip.array, &library.chip.array))
+        .or_else(|| first_difference("buffer", &own.buffer, &library.buffer))
+}
+
+fn print_arguments(geometry: &Geometry, request: &Request, call: &Call, before: &Side) {
+    println!("{geometry:?} {request:?} allowed {} fates {:X?}", call.allowed, call.fates);
+    println!("words {:?} sent {:?}", before.chip.words, before.sent);
+    for (name, bytes) in [
+        ("mask", &call.mask),
+        ("buffer", &before.buffer),
+        ("history", &before.chip.history),
+        ("register", &before.chip.register),
+        ("state", &before.state),
+        ("array", &before.chip.array),
+    ] {
+        println!("{name} ({} bytes) {}", bytes.len(), shown(bytes));
+    }
+}
+
+// ---- one chip under both ----
+
+const LARGEST_SHOWN: usize = 200_000;
+
+struct World {
+    geometry: Geometry,
+    own: Side,
+    library: Side,
+    watch: Watch,
+}
+
+// Lengths that one call gets instead of the right ones.
+#[derive(Clone, Copy, PartialEq, Eq, Debug)]
+enum Wrong {
+    State(usize),
+    Words(usize),
+    Sent(usize),
+    Array(usize),
+    Register(usize),
+    History(usize),
+    Mask(usize),
+}
+
+impl World {
+    fn new(geometry: Geometry, array: Vec<u8>) -> World {
+        let chip = Chip {
+            words: vec![0; WORDS],
+            array,
+            register: vec![0; geometry.page_bytes()],
+            history: vec![0; geometry.blocks],
+        };
+        let own = Side { state: vec![0; STATE_BYTES], chip, buffer: Vec::new(), sent: vec![0] };
+        World { geometry, library: own.clone(), own, watch: Watch::default() }
+    }
+
+    fn fresh(geometry: Geometry) -> World {
+        World::new(geometry, vec![0xFF; geometry.chip_bytes()])
+    }
+
+    // Changes both sides alike.
+    fn both(&mut self, change: impl Fn(&mut Side)) {
+        change(&mut self.own);
+        change(&mut self.library);
+    }
+
+    fn state(&self) -> State {
+        State::from_bytes(&self.own.state)
+    }
+
+    fn mask(&self, byte: u8) -> Vec<u8> {
+        vec![byte; self.geometry.block_bytes()]
+    }
+
+    fn plain(&self) -> Call {
+        Call { mask: self.mask(0), fates: Vec::new(), allowed: u32::MAX }
+    }
+
+    // One call on both sides, which are alike before it; the answer.
+    fn call(&mut self, run: &mut Run, geometry: Geometry, request: &Request, call: &Call, buffer: &[u8]) -> usize {
+        self.both(|side| side.buffer = buffer.to_vec());
+        self.both(|side| side.sent.fill(0xABCD));
+        let before = self.own.shown_part();
+        let (mask, fates) = (call.mask.clone(), call.fates.clone());
+        let answer = self.own_call(&geometry, request, call);
+        run.count(request, answer);
+        let theirs = library(&geometry, request, &mut self.library, call);
+        let found = difference(&self.own, &self.library);
+        if answer != theirs || found.is_some() || call.mask != mask || call.fates != fates {
+            print_arguments(&geometry, request, &Call { mask, fates, allowed: call.allowed }, &before);
+            let found = found.unwrap_or("all bytes alike, or mask or fates written".to_string());
+            run.fail(&format!("answered {answer} here, {theirs} by the library; {found}"));
+        }
+        answer
+    }
+
+    fn own_call(&mut self, geometry: &Geometry, request: &Request, call: &Call) -> usize {
+        let side = &mut self.own;
+        self.watch.confirmed.clear();
+        let (state, chip, buffer, sent) = (&mut side.state, &mut side.chip, &mut side.buffer, &mut side.sent);
+        store::call(geometry, request, state, chip, call, buffer, sent, &mut self.watch)
+    }
+
+    fn right(&mut self, run: &mut Run, request: &Request, call: &Call, buffer: &[u8]) -> usize {
+        self.call(run, self.geometry, request, call, buffer)
+    }
+
+    fn simple(&mut self, run: &mut Run, request: &Request, buffer: &[u8]) -> usize {
+        let call = self.plain();
+        self.right(run, request, &call, buffer)
+    }
+
+    fn format(&mut self, run: &mut Run) -> usize {
+        self.simple(run, &Request::Format, &[])
+    }
+
+    fn mount(&mut self, run: &mut Run) -> usize {
+        self.simple(run, &Request::Mount, &[])
+    }
+
+    fn write(&mut self, run: &mut Run, block: usize, page: usize, byte: u8) -> usize {
+        let bytes = vec![byte; self.geometry.main];
+        self.simple(run, &Request::Write { block, page }, &bytes)
+    }
+
+    fn read(&mut self, run: &mut Run, block: usize, page: usize) -> usize {
+        let buffer = vec![0x5C; self.geometry.main];
+        self.simple(run, &Request::Read { block, page }, &buffer)
+    }
+
+    fn erase(&mut self, run: &mut Run, block: usize) -> usize {
+        self.simple(run, &Request::Erase { block }, &[])
+    }
+
+    // A call in which one buffer may have another length; such a buffer is as before afterwards.
+    fn wrong(&mut self, run: &mut Run, request: &Request, call: &Call, buffer: &[u8], wrong: Wrong) -> usize {
+        let kept = self.own.clone();
+        let mut call = call.clone();
+        match wrong {
+            Wrong::State(length) => self.both(|side| side.state.resize(length, 0x11)),
+            Wrong::Words(length) => self.both(|side| side.chip.words.resize(length, 1)),
+            Wrong::Sent(length) => self.both(|side| side.sent.resize(length, 7)),
+            Wrong::Array(length) => self.both(|side| side.chip.array.resize(length, 0xFF)),
+            Wrong::Register(length) => self.both(|side| side.chip.register.resize(length, 0x22)),
+            Wrong::History(length) => self.both(|side| side.chip.history.resize(length, 0)),
+            Wrong::Mask(length) => call.mask.resize(length, 0xF0),
+        }
+        let answer = self.right(run, request, &call, buffer);
+        self.both(|side| side.restore_lengths(&kept));
+        answer
+    }
+
+    fn duplicate(&self) -> World {
+        World { geometry: self.geometry, own: self.own.clone(), library: self.own.clone(), watch: self.watch.clone() }
+    }
+}
+
+fn main() {
+    let arguments: Vec<String> = std::env::args().skip(1).collect();
+    let mut run = Run::default();
+    match arguments.as_slice() {
+        [] => {
+            fixed_selection(&mut run);
+            if !run.every_answer() {
+                run.fail("an answer never came up");
+            }
+        }
+        [count, seed] => {
+            let number = |text: &str| text.parse::<u64>().unwrap_or_else(|_| usage());
+            let count = number(count) as usize;
+            bench_figures(&mut run);
+            run.progress = (count / 20).max(100_000);
+            random_lists(&mut run, count, number(seed));
+        }
+        _ => usage(),
+    }
+    println!("{}", run.line());
+}
+
+fn usage() -> ! {
+    println!("usage: compare [COUNT SEED]");
+    exit(2)
+}

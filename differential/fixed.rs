@@ -1,0 +1,595 @@
+// The fixed selection: the paper's bench figures, then every cut, failure and silence of requests on small chips,
+// forged states and words, wrong lengths, a chip with rows past sixteen bits, and random lists.
+
+use super::*;
+
+const RANDOM_CALLS: usize = 100_000;
+
+pub fn fixed_selection(run: &mut Run) {
+    bench_figures(run);
+    every_cut(run);
+    every_failure(run);
+    every_silence(run);
+    words_of_any_phase(run);
+    changed_states(run);
+    wrong_lengths(run);
+    limits(run);
+    every_bit(run);
+    every_table(run);
+    every_arrangement(run);
+    large_chip(run);
+    random_lists(run, RANDOM_CALLS, 1);
+}
+
+// ---- bench figures ----
+
+type Line = (usize, u64, usize);
+
+// Answer, cycles and free blocks after a call.
+fn line(world: &World, answer: usize) -> Line {
+    (answer, world.own.sent[0], world.state().free_blocks(&world.geometry))
+}
+
+fn expect<T: PartialEq + std::fmt::Debug>(run: &Run, what: &str, found: T, wanted: T) {
+    if found != wanted {
+        run.fail(&format!("{what}: {found:?}, the paper says {wanted:?}"));
+    }
+}
+
+pub fn bench_figures(run: &mut Run) {
+    run.origin = "the bench figures".to_string();
+    bench_program(run);
+    bench_pages(run);
+    bench_limits(run);
+    bench_silence(run);
+    bench_replacement(run);
+    bench_numbers(run);
+    bench_column(run);
+}
+
+fn bench_program(run: &mut Run) {
+    let mut world = World::fresh(SMALL);
+    let answer = world.format(run);
+    expect(run, "F", line(&world, answer), (0, 354, 3));
+    let page = &world.own.chip.array[..SMALL.page_bytes()];
+    expect(run, "check of the table", (page[41], page[42]), (129, 0));
+    let answer = world.write(run, 0, 0, 0xA5);
+    expect(run, "W 0 0 A5", line(&world, answer), (0, 235, 2));
+    let answer = world.read(run, 0, 0);
+    expect(run, "R 0 0", line(&world, answer), (0, 42, 2));
+    let answer = world.read(run, 1, 3);
+    expect(run, "R 1 3", line(&world, answer), (0, 0, 2));
+    let answer = world.erase(run, 0);
+    expect(run, "E 0", line(&world, answer), (0, 235, 2));
+    let answer = world.write(run, 0, 1, 0x5A);
+    expect(run, "W 0 1 5A", line(&world, answer), (0, 361, 2));
+    let answer = world.write(run, 2, 0, 0);
+    expect(run, "W 2 0 00", line(&world, answer), (2, 0, 2));
+}
+
+fn bench_pages(run: &mut Run) {
+    let mut page = encode_page(&SMALL, &[0xFF; 32], &data_label(0, 0, 2));
+    expect(run, "check of a data page", (page[41], page[42]), (61, 0));
+    expect(run, "a data page", whole_page(&SMALL, &page), Some(data_label(0, 0, 2)));
+    page[32 + 4] = 1;
+    expect(run, "a raised page", whole_page(&SMALL, &page), None);
+    expect(run, "an erased page", whole_page(&SMALL, &[0xFF; 48]), None);
+}
+
+fn bench_limits(run: &mut Run) {
+    let mut world = World::fresh(SMALL);
+    let call = world.plain();
+    let answer = world.call(run, Geometry { logical: 3, ..SMALL }, &Request::Format, &call, &[]);
+    expect(run, "N 3 on 4 blocks", line(&world, answer), (1, 0, 0));
+    let answer = world.read(run, 0, 0);
+    expect(run, "R before F", line(&world, answer), (7, 0, 0));
+    let answer = world.mount(run);
+    expect(run, "a mount of an erased chip", answer, NO_TABLE);
+    world.both(|side| side.chip.array[SMALL.page_start(2, 1) + 32] = 0x7F);
+    let answer = world.format(run);
+    expect(run, "one marked block of four", line(&world, answer), (8, 112, 0));
+}
+
+// A formatted small chip with one page written to each logical block.
+fn written() -> (World, Book) {
+    let mut run = Run::of_setting();
+    let mut world = World::fresh(SMALL);
+    world.watch.on = true;
+    let mut book = Book::new(&SMALL);
+    world.format(&mut run);
+    for (block, page, byte) in [(0, 0, 0x11), (1, 2, 0x3C)] {
+        let answer = world.write(&mut run, block, page, byte);
+        book.step(&mut run, &world, &Request::Write { block, page }, answer, &vec![byte; SMALL.main]);
+    }
+    (world, book)
+}
+
+fn bench_silence(run: &mut Run) {
+    let (world, _) = written();
+    let request = Request::Read { block: 0, page: 0 };
+    let buffer = vec![0; SMALL.main];
+    // 8 cycles up to 70h, the status reads, then 00h and the bytes.
+    for (busy, allowed, wanted) in [
+        (255, u32::MAX, (DONE, 42 + 255)),
+        (255, 42 + 255, (DONE, 42 + 255)),
+        (255, 41 + 255, (CUT, 41 + 255)),
+        (256, u32::MAX, (SILENT, 8 + 256)),
+        (256, 8 + 256, (SILENT, 8 + 256)),
+        (256, 7 + 256, (CUT, 7 + 256)),
+        (0, 0, (CUT, 0)),
+    ] {
+        let mut world = world.duplicate();
+        let call = Call { fates: vec![busy], allowed, ..world.plain() };
+        let answer = world.right(run, &request, &call, &buffer);
+        expect(run, &format!("{busy} busy reads"), (answer, world.own.sent[0]), wanted);
+    }
+    bench_no_cycle(run);
+}
+
+fn bench_no_cycle(run: &mut Run) {
+    let mut world = World::fresh(SMALL);
+    world.format(run);
+    let call = Call { allowed: 0, ..world.plain() };
+    let buffer = vec![0; SMALL.main];
+    let answer = world.right(run, &Request::Read { block: 1, page: 0 }, &call, &buffer);
+    expect(run, "a blank read with no cycle allowed", line(&world, answer), (0, 0, 3));
+    let answer = world.right(run, &Request::Read { block: 2, page: 0 }, &call, &buffer);
+    expect(run, "a refusal with no cycle allowed", line(&world, answer), (2, 0, 3));
+}
+
+fn bench_replacement(run: &mut Run) {
+    let mut world = World::fresh(SMALL);
+    world.format(run);
+    world.write(run, 0, 0, 0x22);
+    world.write(run, 1, 0, 0x33);
+    let call = Call { mask: world.mask(0xFF), fates: Vec::new(), allowed: 70 };
+    let request = Request::Write { block: 0, page: 0 };
+    let answer = world.right(run, &request, &call, &[0x44; 32]);
+    expect(run, "a write cut at 70", line(&world, answer), (11, 70, 0));
+    world.mount(run);
+    let answer = world.write(run, 0, 0, 0x55);
+    expect(run, "the block filled last is the last candidate", line(&world, answer), (0, 361, 1));
+
+    let mut world = World::fresh(SMALL);
+    world.format(run);
+    world.write(run, 0, 0, 0x11);
+    let call = Call { fates: vec![1 << 16], ..world.plain() };
+    let answer = world.right(run, &request, &call, &[0x66; 32]);
+    expect(run, "the old copy's block is free for the table", line(&world, answer), (0, 603, 1));
+}
+
+fn bench_numbers(run: &mut Run) {
+    let (mut world, _) = written();
+    let mut state = world.state();
+    state.next = LAST_NUMBER;
+    world.both(|side| side.state = state.to_bytes());
+    let answer = world.write(run, 0, 0, 0x77);
+    expect(run, "the last number", (answer, world.state().next), (DONE, LAST_NUMBER + 1));
+    let answer = world.write(run, 0, 0, 0x78);
+    expect(run, "no number left", line(&world, answer), (9, 0, 0));
+    let answer = world.mount(run);
+    expect(run, "a mount after the last number", (answer, world.state().next), (DONE, LAST_NUMBER + 1));
+}
+
+fn bench_column(run: &mut Run) {
+    let mut world = World::fresh(Geometry { main: 2048, ..SMALL });
+    let call = Call { allowed: 9, ..world.plain() };
+    let answer = world.right(run, &Request::Format, &call, &[]);
+    expect(run, "a formatting cut at the first address", answer, CUT);
+    expect(run, "column 2,048", world.own.chip.words[ADDRESS_REGISTER], 0x0800);
+}
+
+// ---- every place of a request ----
+
+fn requests() -> [Request; 7] {
+    [
+        Request::Format,
+        Request::Mount,
+        Request::Read { block: 0, page: 0 },
+        Request::Write { block: 0, page: 1 },
+        Request::Write { block: 1, page: 3 },
+        Request::Erase { block: 0 },
+        Request::Erase { block: 1 },
+    ]
+}
+
+// All bits, none and random ones; one mask where the request changes nothing.
+fn masks(world: &World, request: &Request) -> Vec<Vec<u8>> {
+    let random = Random::new(77).bytes(world.geometry.block_bytes());
+    match request {
+        Request::Mount | Request::Read { .. } => vec![random],
+        _ => vec![random, world.mask(0xFF), world.mask(0)],
+    }
+}
+
+fn buffer_for(world: &World, request: &Request) -> Vec<u8> {
+    match request {
+        Request::Read { .. } => vec![0x5C; world.geometry.main],
+        Request::Write { .. } => (0..world.geometry.main).map(|place| place as u8 ^ 0x69).collect(),
+        _ => Vec::new(),
+    }
+}
+
+// One call on a copy of the chip, then a mount and, where the book stands, a reading of all pages.
+fn try_call(run: &mut Run, base: &(World, Book), request: &Request, call: &Call) {
+    let mut world = base.0.duplicate();
+    let mut book = base.1.clone();
+    world.watch.failed.clear();
+    let buffer = buffer_for(&world, request);
+    let answer = world.right(run, request, call, &buffer);
+    if matches!(request, Request::Format) {
+        world.mount(run);
+        return;
+    }
+    book.step(run, &world, request, answer, &buffer);
+    let answer = world.mount(run);
+    book.step(run, &world, &Request::Mount, answer, &[]);
+    book.compare_all(run, &world);
+}
+
+// Cycles and fate words of a request that passes, with this many words at hand.
+fn usual(base: &World, request: &Request, fates: &[u32]) -> (u64, usize) {
+    let mut world = base.duplicate();
+    let call = Call { fates: fates.to_vec(), ..world.plain() };
+    let buffer = buffer_for(&world, request);
+    world.right(&mut Run::of_setting(), request, &call, &buffer);
+    (world.own.sent[0], world.own.chip.words[FATES_USED] as usize)
+}
+
+fn operations(base: &World, request: &Request) -> usize {
+    usual(base, request, &[0; 1000]).1
+}
+
+// A chip with eight pages a block, six blocks, one of them marked and one invalid.
+fn larger() -> (World, Book) {
+    let geometry = Geometry { main: 40, spare: 17, pages: 8, blocks: 6, logical: 2 };
+    let mut run = Run::of_setting();
+    let mut world = World::fresh(geometry);
+    world.watch.on = true;
+    world.both(|side| side.chip.array[geometry.page_start(2, 0) + 40] = 0);
+    let mut book = Book::new(&geometry);
+    let mut fates = vec![0; 13];
+    fates[12] = 1 << 16;
+    let call = Call { fates, ..world.plain() };
+    world.right(&mut run, &Request::Format, &call, &[]);
+    let answer = world.write(&mut run, 0, 1, 0x10);
+    book.step(&mut run, &world, &Request::Write { block: 0, page: 1 }, answer, &vec![0x10; 40]);
+    (world, book)
+}
+
+fn every_cut(run: &mut Run) {
+    for (base, fates) in [(written(), vec![]), (written(), vec![1 << 16, 2]), (larger(), vec![0, 0, 1 << 16])] {
+        for request in requests() {
+            let (cycles, _) = usual(&base.0, &request, &fates);
+            for mask in masks(&base.0, &request) {
+                run.origin = format!("every cut of {request:?} on {:?} with fates {fates:X?}", base.0.geometry);
+                for allowed in (0..=cycles as u32).step_by(stride(&base.0, &request)) {
+                    try_call(run, &base, &request, &Call { mask: mask.clone(), fates: fates.clone(), allowed });
+                }
+            }
+        }
+    }
+}
+
+// Every cycle, but every seventh one of the longest mount.
+fn stride(world: &World, request: &Request) -> usize {
+    match request {
+        Request::Mount if world.geometry.pages > 4 => 7,
+        _ => 1,
+    }
+}
+
+fn every_failure(run: &mut Run) {
+    for base in [written(), larger()] {
+        for request in requests() {
+            let count = operations(&base.0, &request);
+            run.origin = format!("every failure of {request:?} on {:?}", base.0.geometry);
+            for mask in masks(&base.0, &request) {
+                for first in 0..count.min(60) {
+                    for second in [first, first + 1, first + 2, first + 5, count] {
+                        let mut fates = vec![0; second + 1];
+                        fates[first] = 1 << 16;
+                        fates[second] = 1 << 16;
+                        try_call(run, &base, &request, &Call { mask: mask.clone(), fates, allowed: u32::MAX });
+                    }
+                }
+            }
+        }
+    }
+}
+
+fn every_silence(run: &mut Run) {
+    let base = written();
+    for request in requests() {
+        let count = operations(&base.0, &request);
+        run.origin = format!("every silence of {request:?}");
+        for place in 0..count {
+            for busy in [1, 254, 255, 256, 257, 511, 512, 65535, 0x1_00FF, 0x1_0100, 0xFFFE_0002] {
+                let mut fates = vec![0; place];
+                fates.push(busy);
+                let (sent, _) = usual(&base.0, &request, &fates);
+                let mask = &masks(&base.0, &request)[0];
+                for allowed in [sent as u32 - 1, sent as u32, u32::MAX] {
+                    try_call(run, &base, &request, &Call { mask: mask.clone(), fates: fates.clone(), allowed });
+                }
+            }
+        }
+    }
+}
+
+// ---- forged words, states and lengths ----
+
+fn words_of_any_phase(run: &mut Run) {
+    let (base, _) = written();
+    for phase in (0..10).chain([255, 256, 1 << 32, u64::MAX]) {
+        for loaded in [0, 1, 2, u64::MAX] {
+            for others in [0, 1, 5, 47, 48, 49, 1 << 40, u64::MAX] {
+                run.origin = format!("interface words in phase {phase}, loaded {loaded}, others {others}");
+                let mut words = vec![others; WORDS];
+                words[PHASE] = phase;
+                words[LOADED] = loaded;
+                let mut forged = base.duplicate();
+                forged.both(|side| side.chip.words = words.clone());
+                calls_in_phase(run, &forged);
+            }
+        }
+    }
+}
+
+fn calls_in_phase(run: &mut Run, base: &World) {
+    for request in requests() {
+        for allowed in [0, 1, 2, 3, 6, 7, 8, 9, 10, 20, 65, u32::MAX] {
+            let mut world = base.duplicate();
+            let call = Call { allowed, ..world.plain() };
+            let buffer = buffer_for(&world, &request);
+            world.right(run, &request, &call, &buffer);
+        }
+    }
+}
+
+fn changed_states(run: &mut Run) {
+    let (base, _) = written();
+    let state = base.state();
+    let mut states = Vec::new();
+    for number in [0, 1, 2, 3, 4, 5, 255, 256, 1 << 16, 1 << 32, LAST_NUMBER, u64::MAX] {
+        states.push(State { status: number, ..state.clone() });
+        states.push(State { table: number, ..state.clone() });
+        states.push(State { last: number, ..state.clone() });
+        states.push(State { next: number, ..state.clone() });
+        for logical in [0, 1, 2, 3, 4095] {
+            let mut changed = state.clone();
+            changed.map[logical] = number as u16;
+            states.push(changed);
+        }
+    }
+    for bit in (0..12).chain([4094, 4095]) {
+        let (mut marked, mut invalid) = (state.clone(), state.clone());
+        marked.marks[bit / 8] |= 1 << (bit % 8);
+        invalid.invalid[bit / 8] |= 1 << (bit % 8);
+        let mut twice = marked.clone();
+        twice.invalid[bit / 8] |= 1 << (bit % 8);
+        states.extend([marked, invalid, twice]);
+    }
+    for (place, state) in states.iter().enumerate() {
+        run.origin = format!("changed state {place}");
+        calls_with_state(run, &base, state);
+    }
+}
+
+fn calls_with_state(run: &mut Run, base: &World, state: &State) {
+    for request in requests() {
+        for fates in [vec![], vec![1 << 16], vec![0, 1 << 16, 1 << 16]] {
+            let mut world = base.duplicate();
+            world.both(|side| side.state = state.to_bytes());
+            let call = Call { fates, ..world.plain() };
+            let buffer = buffer_for(&world, &request);
+            world.right(run, &request, &call, &buffer);
+            world.mount(run);
+        }
+    }
+}
+
+fn wrong_lengths(run: &mut Run) {
+    let (mut world, _) = written();
+    run.origin = "wrong lengths".to_string();
+    for request in requests() {
+        for kind in 0..7 {
+            for place in 0..5 {
+                let call = world.plain();
+                let buffer = buffer_for(&world, &request);
+                world.wrong(run, &request, &call, &buffer, wrong_length(&SMALL, kind, place));
+            }
+        }
+        for length in [0, 1, 31, 33, 48, 4096] {
+            world.simple(run, &request, &vec![3; length]);
+        }
+    }
+}
+
+fn wrong_length(geometry: &Geometry, kind: usize, place: usize) -> Wrong {
+    let length = |right: usize| [0, right - 1, right + 1, 2 * right, right][place];
+    match kind {
+        0 => Wrong::State(length(STATE_BYTES)),
+        1 => Wrong::Words(length(WORDS)),
+        2 => Wrong::Sent(length(1)),
+        3 => Wrong::Array(length(geometry.chip_bytes())),
+        4 => Wrong::Register(length(geometry.page_bytes())),
+        5 => Wrong::History(length(geometry.blocks)),
+        _ => Wrong::Mask(length(geometry.block_bytes())),
+    }
+}
+
+// ---- limits ----
+
+fn limits(run: &mut Run) {
+    let mut chips = Vec::new();
+    for logical in 0..=4 {
+        chips.extend((3..=6).map(|blocks| Geometry { blocks, logical, ..SMALL }));
+    }
+    chips.extend((0..=130).map(|pages| Geometry { pages, ..SMALL }));
+    chips.extend([0, 1, 15, 16, 17, 255, 256, 257].map(|spare| Geometry { spare, ..SMALL }));
+    chips.extend([0, 7, 8, 9, 31, 32, 33, 4095, 4096, 4097].map(|main| Geometry { main, ..SMALL }));
+    chips.extend([191, 192, 193].map(|blocks| Geometry { blocks, ..SMALL }));
+    chips.extend([4095, 4096, 4097].map(|blocks| Geometry { blocks, main: 521, ..SMALL }));
+    chips.extend([4095, 4096].map(|blocks| Geometry { blocks, main: 519, ..SMALL }));
+    for geometry in chips {
+        at_limit(run, geometry);
+    }
+}
+
+// Buffers of the right lengths: only the limits can refuse.
+fn at_limit(run: &mut Run, geometry: Geometry) {
+    run.origin = format!("limits at {geometry:?}");
+    for request in [Request::Mount, Request::Format] {
+        for allowed in [0, 11] {
+            let mut world = World::fresh(geometry);
+            let call = Call { allowed, ..world.plain() };
+            let answer = world.right(run, &request, &call, &[]);
+            expect(run, "a limit", answer, if geometry.within_limits() { CUT } else { GEOMETRY });
+        }
+    }
+}
+
+// ---- chips for a mount ----
+
+fn mount_array(run: &mut Run, array: Vec<u8>) {
+    let mut world = World::new(SMALL, array);
+    world.mount(run);
+    for block in 0..SMALL.logical {
+        world.read(run, block, 1);
+    }
+}
+
+fn every_bit(run: &mut Run) {
+    let (world, _) = written();
+    for place in 0..SMALL.chip_bytes() {
+        for bit in 0..8 {
+            run.origin = format!("bit {bit} of byte {place} changed");
+            let mut array = world.own.chip.array.clone();
+            array[place] ^= 1 << bit;
+            mount_array(run, array);
+        }
+    }
+}
+
+// A table block with these main bytes of page 0 and of the other pages.
+fn table_with(first: &[u8], others: &[u8], logical: u16, number: u32) -> Vec<u8> {
+    let mains = (0..SMALL.pages).map(|page| if page == 0 { first } else { others });
+    let label = |page| Label { logical, ..table_label(page, number) };
+    mains.enumerate().flat_map(|(page, main)| encode_page(&SMALL, main, &label(page))).collect()
+}
+
+fn mount_table(run: &mut Run, table: &[u8]) {
+    let (world, _) = written();
+    let mut array = world.own.chip.array.clone();
+    array[..table.len()].copy_from_slice(table);
+    mount_array(run, array.clone());
+    array[SMALL.page_start(3, 1) + SMALL.main] = 0;
+    mount_array(run, array);
+}
+
+fn every_table(run: &mut Run) {
+    let blank = [0xFF; 32];
+    let right = table_main(&SMALL, &[0; 512]);
+    for bitmap in 0..=255 {
+        run.origin = format!("a table with bitmap {bitmap:02X}");
+        let mut invalid = [0; 512];
+        invalid[0] = bitmap;
+        mount_table(run, &table_with(&table_main(&SMALL, &invalid), &blank, 0, 9));
+    }
+    for bit in 0..256 {
+        run.origin = format!("a table with bit {bit} changed");
+        let (mut first, mut others) = (right.clone(), blank);
+        first[bit / 8] ^= 1 << (bit % 8);
+        others[bit / 8] ^= 1 << (bit % 8);
+        mount_table(run, &table_with(&first, &blank, 0, 9));
+        mount_table(run, &table_with(&right, &others, 0, 9));
+    }
+    for bit in 0..16 {
+        run.origin = format!("a table with bit {bit} of its logical block");
+        mount_table(run, &table_with(&right, &blank, 1 << bit, 9));
+    }
+}
+
+// What a block may hold where all arrangements are tried.
+fn contents() -> Vec<Vec<u8>> {
+    let mut random = Random::new(5);
+    let table = |bitmap: u8, number| {
+        let mut invalid = [0; 512];
+        invalid[0] = bitmap;
+        table_with(&table_main(&SMALL, &invalid), &[0xFF; 32], 0, number)
+    };
+    let mut marked = table(0, 3);
+    marked[SMALL.page_bytes() + SMALL.main] = 0xFE;
+    let mut contents = vec![vec![0xFF; SMALL.block_bytes()], marked, table(0, 1), table(0, 2), table(2, 2), table(12, 2)];
+    for (logical, number) in [(0, 1), (0, 2), (1, 2), (2, 3)] {
+        contents.push(copy_block(&mut random, &SMALL, logical, number));
+    }
+    contents
+}
+
+fn every_arrangement(run: &mut Run) {
+    let contents = contents();
+    let count = contents.len();
+    for place in 0..count.pow(4) {
+        run.origin = format!("arrangement {place}");
+        let chosen = [place, place / count, place / count.pow(2), place / count.pow(3)];
+        mount_array(run, chosen.iter().flat_map(|block| contents[block % count].clone()).collect());
+    }
+}
+
+// ---- rows past sixteen bits ----
+
+const LARGE: Geometry = Geometry { main: 520, spare: 16, pages: 64, blocks: 4096, logical: 4000 };
+
+fn large_chip(run: &mut Run) {
+    run.origin = "the chip of 4,096 blocks".to_string();
+    let mut world = World::fresh(LARGE);
+    world.both(|side| side.chip.array[LARGE.page_start(1025, 1) + LARGE.main] = 0);
+    let call = Call { fates: vec![0, 3, 7], ..world.plain() };
+    let answer = world.right(run, &Request::Format, &call, &[]);
+    expect(run, "formatting", answer, DONE);
+    for (last, block, page) in [(1022, 5, 63), (1023, 6, 0), (1024, 7, 1), (4094, 3999, 63)] {
+        start_after(&mut world, last);
+        let answer = world.write(run, block, page, page as u8 + 1);
+        expect(run, "a write", answer, DONE);
+        let answer = world.read(run, block, page);
+        expect(run, "its read", answer, DONE);
+    }
+    large_rows(run, &mut world);
+    large_replacement(run, &mut world);
+    let answer = world.mount(run);
+    expect(run, "a mount", answer, DONE);
+    for (block, page) in [(5, 63), (6, 0), (7, 1), (3999, 63), (3999, 62), (0, 0)] {
+        let answer = world.read(run, block, page);
+        expect(run, "a read", answer, DONE);
+    }
+}
+
+// The state with another block filled last.
+fn start_after(world: &mut World, last: u64) {
+    let state = State { last, ..world.state() };
+    world.both(|side| side.state = state.to_bytes());
+}
+
+fn large_rows(run: &mut Run, world: &mut World) {
+    for (block, page, row) in [(5, 63, 65_535), (6, 0, 65_536), (7, 1, 1026 * 64 + 1), (3999, 63, 262_143)] {
+        world.read(run, block, page);
+        expect(run, "a row", world.own.chip.words[ADDRESS_REGISTER] >> 16, row);
+    }
+}
+
+fn large_replacement(run: &mut Run, world: &mut World) {
+    start_after(world, 1500);
+    let mut mask = world.mask(0);
+    mask[..40_000.min(LARGE.block_bytes())].fill(0xF3);
+    let call = Call { mask, fates: vec![0, 0, 1 << 16, 5], allowed: u32::MAX };
+    let bytes = vec![0xC3; LARGE.main];
+    let answer = world.right(run, &Request::Write { block: 6, page: 9 }, &call, &bytes);
+    expect(run, "a failed write", answer, DONE);
+    let answer = world.erase(run, 7);
+    expect(run, "an erase", answer, DONE);
+    let cut = Call { allowed: 20_000, ..call };
+    let answer = world.right(run, &Request::Write { block: 3999, page: 0 }, &cut, &bytes);
+    expect(run, "a cut write", answer, CUT);
+}

@@ -1,0 +1,187 @@
+// Random lists of calls.
+
+use super::*;
+
+fn random_request(random: &mut Random, geometry: &Geometry) -> Request {
+    let odd = random.one_in(30);
+    let mut block = random.below(geometry.logical);
+    let mut page = random.below(geometry.pages);
+    if odd {
+        let far = random.next() as usize;
+        block = random.pick(&[block, geometry.logical, geometry.blocks, far, usize::MAX]);
+        page = random.pick(&[page, geometry.pages, far, usize::MAX]);
+    }
+    match random.below(10) {
+        0 | 1 => Request::Mount,
+        2 | 3 | 4 => Request::Read { block, page },
+        5 | 6 | 7 => Request::Write { block, page },
+        8 => Request::Erase { block },
+        _ => Request::Format,
+    }
+}
+
+fn random_buffer(random: &mut Random, geometry: &Geometry, request: &Request) -> Vec<u8> {
+    let mut length = geometry.main;
+    if random.one_in(40) {
+        length = random.pick(&[0, length - 1, length + 1, geometry.page_bytes()]);
+    }
+    match request {
+        Request::Read { .. } => vec![0x5C; length],
+        Request::Write { .. } if random.one_in(2) => vec![random.byte(); length],
+        Request::Write { .. } => random.bytes(length),
+        _ => Vec::new(),
+    }
+}
+
+// Any call on any chip, state and words.
+fn wild_list(run: &mut Run, random: &mut Random) {
+    let geometry = random_geometry(random);
+    let mut world = World::new(geometry, random_array(random, &geometry));
+    let history = if random.one_in(2) { vec![0; geometry.blocks] } else { random.bytes(geometry.blocks) };
+    let register = random.bytes(geometry.page_bytes());
+    world.both(|side| side.chip.history = history.clone());
+    world.both(|side| side.chip.register = register.clone());
+    if random.one_in(2) {
+        world.mount(run);
+    }
+    for _ in 0..1 + random.below(10) {
+        forge(random, &mut world);
+        wild_call(run, random, &mut world);
+    }
+}
+
+fn forge(random: &mut Random, world: &mut World) {
+    if random.one_in(3) {
+        let state = random_state(random, &world.geometry, &world.own.state);
+        world.both(|side| side.state = state.clone());
+    }
+    if random.one_in(4) {
+        let words = random_words(random);
+        world.both(|side| side.chip.words = words.clone());
+    }
+}
+
+fn wild_call(run: &mut Run, random: &mut Random, world: &mut World) {
+    let request = random_request(random, &world.geometry);
+    let call = random_call(random, &world.geometry, &request);
+    let buffer = random_buffer(random, &world.geometry, &request);
+    match random.below(12) {
+        0 => {
+            let wrong = random_wrong(random, &world.geometry);
+            world.wrong(run, &request, &call, &buffer, wrong);
+        }
+        1 => {
+            let other = other_geometry(random, &world.geometry);
+            world.call(run, other, &request, &call, &buffer);
+        }
+        2 => {
+            let wrong = random_wrong(random, &world.geometry);
+            let right = world.geometry;
+            world.geometry = other_geometry(random, &right);
+            world.wrong(run, &request, &call, &buffer, wrong);
+            world.geometry = right;
+        }
+        _ => {
+            world.right(run, &request, &call, &buffer);
+        }
+    }
+}
+
+// A list after an acknowledged formatting, with the book kept.
+fn book_list(run: &mut Run, random: &mut Random) {
+    let geometry = random_geometry(random);
+    let mut world = World::new(geometry, used_array(random, &geometry));
+    world.watch.on = true;
+    if !acknowledged_formatting(run, random, &mut world) {
+        return;
+    }
+    run.books += 1;
+    let mut book = Book::new(&geometry);
+    for _ in 0..1 + random.below(25) {
+        book_call(run, random, &mut world, &mut book);
+    }
+    last_mount(run, random, &mut world, &mut book);
+    book.compare_all(run, &world);
+}
+
+fn acknowledged_formatting(run: &mut Run, random: &mut Random, world: &mut World) -> bool {
+    for _ in 0..3 {
+        world.watch.failed.clear();
+        let call = random_call(random, &world.geometry, &Request::Format);
+        if world.right(run, &Request::Format, &call, &[]) == DONE {
+            return true;
+        }
+    }
+    false
+}
+
+fn book_call(run: &mut Run, random: &mut Random, world: &mut World, book: &mut Book) {
+    let geometry = world.geometry;
+    let mounted = world.state().status == 1;
+    let mut request = random_request(random, &geometry);
+    if matches!(request, Request::Format) || !mounted && random.one_in(2) {
+        request = Request::Mount;
+    }
+    let call = random_call(random, &geometry, &request);
+    let buffer = random_buffer(random, &geometry, &request);
+    let answer = match random.below(25) {
+        0 => {
+            let wrong = random_wrong(random, &geometry);
+            world.wrong(run, &request, &call, &buffer, wrong)
+        }
+        1 => {
+            let broken = broken_geometry(random, &geometry);
+            world.call(run, broken, &request, &call, &buffer)
+        }
+        _ => world.right(run, &request, &call, &buffer),
+    };
+    book.step(run, world, &request, answer, &buffer);
+    if answer == CUT && random.one_in(2) {
+        power_on(random, world);
+    }
+    if matches!(request, Request::Mount) && answer == DONE {
+        world.watch.failed.clear();
+        if random.one_in(4) {
+            book.compare_all(run, world);
+        }
+    }
+}
+
+// The interface as it is after power came on, and any bytes in the page register.
+fn power_on(random: &mut Random, world: &mut World) {
+    let register = random.bytes(world.geometry.page_bytes());
+    world.both(|side| side.chip.words = vec![0; WORDS]);
+    world.both(|side| side.chip.register = register.clone());
+}
+
+// A mount that is neither cut nor silent, with any other fates.
+fn last_mount(run: &mut Run, random: &mut Random, world: &mut World, book: &mut Book) {
+    let mut call = random_call(random, &world.geometry, &Request::Mount);
+    call.allowed = u32::MAX;
+    call.fates.iter_mut().for_each(|fate| *fate &= 0xFFFF_00FF);
+    let answer = world.right(run, &Request::Mount, &call, &[]);
+    book.step(run, world, &Request::Mount, answer, &[]);
+    if answer != DONE {
+        run.fail("the mount after a list is refused");
+    }
+}
+
+pub fn one_list(run: &mut Run, seed: u64) {
+    let mut random = Random::new(seed);
+    run.origin = format!("seed {seed} (repeat with: compare 1 {seed})");
+    if random.one_in(2) {
+        wild_list(run, &mut random);
+    } else {
+        book_list(run, &mut random);
+    }
+}
+
+// Lists with rising seeds until `count` calls were made.
+pub fn random_lists(run: &mut Run, count: usize, seed: u64) {
+    let last = run.calls + count;
+    let mut list = seed;
+    while run.calls < last {
+        one_list(run, list);
+        list = list.wrapping_add(1);
+    }
+}

@@ -1,0 +1,1158 @@
+// A second implementation of the flash store: chip model, page layout, mounted state and the five requests.
+
+pub const STATE_BYTES: usize = 9248;
+pub const WORDS: usize = 11;
+pub const LAST_NUMBER: u64 = 4_294_967_295;
+
+const MOST_BLOCKS: usize = 4096;
+const EMPTY: u16 = 0xFFFF;
+const DATA: u8 = 0x44;
+const TABLE: u8 = 0x54;
+
+pub const DONE: usize = 0;
+pub const GEOMETRY: usize = 1;
+pub const ADDRESS: usize = 2;
+pub const LENGTH: usize = 3;
+pub const NO_TABLE: usize = 4;
+pub const WRONG_TABLE: usize = 5;
+pub const CLASH: usize = 6;
+pub const MOUNT_FIRST: usize = 7;
+pub const WORN: usize = 8;
+pub const SPENT: usize = 9;
+pub const SILENT: usize = 10;
+pub const CUT: usize = 11;
+pub const BAD_BUFFER: usize = 100;
+pub const ILLEGAL: usize = 255;
+
+// ---- geometry ----
+
+#[derive(Clone, Copy, PartialEq, Eq, Debug)]
+pub struct Geometry {
+    pub main: usize,
+    pub spare: usize,
+    pub pages: usize,
+    pub blocks: usize,
+    pub logical: usize,
+}
+
+impl Geometry {
+    pub fn page_bytes(&self) -> usize {
+        self.main + self.spare
+    }
+
+    pub fn block_bytes(&self) -> usize {
+        self.page_bytes() * self.pages
+    }
+
+    pub fn chip_bytes(&self) -> usize {
+        self.block_bytes() * self.blocks
+    }
+
+    pub fn within_limits(&self) -> bool {
+        (32..=4096).contains(&self.main)
+            && (16..=256).contains(&self.spare)
+            && [4, 8, 16, 32, 64].contains(&self.pages)
+            && (4..=MOST_BLOCKS).contains(&self.blocks)
+            && self.blocks <= 8 * (self.main - 8)
+            && (1..=self.blocks - 2).contains(&self.logical)
+    }
+
+    pub fn page_start(&self, block: usize, page: usize) -> usize {
+        (block * self.pages + page) * self.page_bytes()
+    }
+}
+
+// ---- the chip ----
+
+// Places of the interface words.
+pub const PHASE: usize = 0;
+pub const COUNT: usize = 1;
+pub const ADDRESS_REGISTER: usize = 2;
+pub const FIRST_COLUMN: usize = 3;
+pub const NEXT_COLUMN: usize = 4;
+pub const OPERATION: usize = 5;
+pub const BUSY_LEFT: usize = 6;
+pub const FAILED: usize = 7;
+pub const LOADED: usize = 8;
+pub const FATES_USED: usize = 9;
+pub const ILLEGAL_SEEN: usize = 10;
+
+// Phases.
+pub const READY: u64 = 0;
+pub const STATUS: u64 = 1;
+pub const DATA_OUTPUT: u64 = 2;
+pub const READ_ADDRESS: u64 = 3;
+pub const PROGRAM_ADDRESS: u64 = 4;
+pub const ERASE_ADDRESS: u64 = 5;
+pub const PROGRAM_DATA: u64 = 6;
+pub const BUSY: u64 = 7;
+pub const BUSY_STATUS: u64 = 8;
+
+// Operations under way.
+const READING: u64 = 1;
+const PROGRAMMING: u64 = 2;
+const ERASING: u64 = 3;
+
+#[derive(Clone, PartialEq, Eq)]
+pub struct Chip {
+    pub words: Vec<u64>,
+    pub array: Vec<u8>,
+    pub register: Vec<u8>,
+    pub history: Vec<u8>,
+}
+
+#[derive(Clone)]
+pub struct Call {
+    pub mask: Vec<u8>,
+    pub fates: Vec<u32>,
+    pub allowed: u32,
+}
+
+// A program or erase whose confirm cycle was taken; `forbidden` says that its block was marked, listed or had failed.
+#[derive(Clone)]
+pub struct Confirmed {
+    pub program: bool,
+    pub block: usize,
+    pub page: usize,
+    pub bytes: Vec<u8>,
+    pub forbidden: bool,
+}
+
+// What is kept while a list is watched: blocks that failed since the mount, confirm cycles of the last call.
+#[derive(Clone, Default)]
+pub struct Watch {
+    pub on: bool,
+    pub failed: Vec<usize>,
+    pub confirmed: Vec<Confirmed>,
+}
+
+#[derive(Clone, Copy, PartialEq, Eq, Debug)]
+pub enum Stop {
+    Worn,
+    Spent,
+    Silent,
+    Cut,
+    Illegal,
+}
+
+impl Stop {
+    fn answer(self) -> usize {
+        match self {
+            Stop::Worn => WORN,
+            Stop::Spent => SPENT,
+            Stop::Silent => SILENT,
+            Stop::Cut => CUT,
+            Stop::Illegal => ILLEGAL,
+        }
+    }
+}
+
+struct Bus<'a> {
+    geometry: Geometry,
+    chip: &'a mut Chip,
+    call: &'a Call,
+    watch: &'a mut Watch,
+    sent: u64,
+}
+
+impl<'a> Bus<'a> {
+    fn word(&self, place: usize) -> u64 {
+        self.chip.words[place]
+    }
+
+    fn set(&mut self, place: usize, value: u64) {
+        self.chip.words[place] = value;
+    }
+
+    fn due(&mut self) -> Result<(), Stop> {
+        if self.sent == self.call.allowed as u64 {
+            return Err(Stop::Cut);
+        }
+        self.sent += 1;
+        Ok(())
+    }
+
+    fn illegal<T>(&mut self) -> Result<T, Stop> {
+        self.set(ILLEGAL_SEEN, 1);
+        Err(Stop::Illegal)
+    }
+
+    fn idle(&self) -> bool {
+        matches!(self.word(PHASE), READY | STATUS | DATA_OUTPUT)
+    }
+
+    fn command(&mut self, code: u8) -> Result<(), Stop> {
+        self.due()?;
+        let taken = match code {
+            0xFF => self.reset_command(),
+            0x70 => self.status_command(),
+            0x00 => self.read_command(),
+            0x80 => self.setup_command(PROGRAM_ADDRESS, 0),
+            0x60 => self.setup_command(ERASE_ADDRESS, 2),
+            0x30 => self.read_confirm(),
+            0x10 => self.program_confirm(),
+            0xD0 => self.erase_confirm(),
+            _ => false,
+        };
+        if taken {
+            Ok(())
+        } else {
+            self.illegal()
+        }
+    }
+
+    fn reset_command(&mut self) -> bool {
+        for place in PHASE..=LOADED {
+            self.set(place, 0);
+        }
+        true
+    }
+
+    fn status_command(&mut self) -> bool {
+        match self.word(PHASE) {
+            READY | STATUS | DATA_OUTPUT => self.set(PHASE, STATUS),
+            BUSY | BUSY_STATUS => self.set(PHASE, BUSY_STATUS),
+            _ => return false,
+        }
+        true
+    }
+
+    fn read_command(&mut self) -> bool {
+        if !self.idle() {
+            return false;
+        }
+        if self.word(LOADED) == 1 {
+            self.set(PHASE, DATA_OUTPUT);
+            self.set(FIRST_COLUMN, self.word(NEXT_COLUMN));
+        } else {
+            self.start_address(READ_ADDRESS, 0);
+        }
+        true
+    }
+
+    fn setup_command(&mut self, phase: u64, count: u64) -> bool {
+        if !self.idle() {
+            return false;
+        }
+        self.start_address(phase, count);
+        true
+    }
+
+    fn start_address(&mut self, phase: u64, count: u64) {
+        self.set(PHASE, phase);
+        self.set(COUNT, count);
+        self.set(ADDRESS_REGISTER, 0);
+        self.set(LOADED, 0);
+    }
+
+    fn address(&mut self, byte: u8) -> Result<(), Stop> {
+        self.due()?;
+        if self.word(PHASE) == DATA_OUTPUT && self.word(FIRST_COLUMN) == self.word(NEXT_COLUMN) {
+            self.start_address(READ_ADDRESS, 0);
+        }
+        let phase = self.word(PHASE);
+        let count = self.word(COUNT);
+        if !matches!(phase, READ_ADDRESS | PROGRAM_ADDRESS | ERASE_ADDRESS) || count >= 5 {
+            return self.illegal();
+        }
+        let register = self.word(ADDRESS_REGISTER) >> 8 | (byte as u64) << 32;
+        if count == 4 && !self.on_chip(register) {
+            return self.illegal();
+        }
+        self.set(ADDRESS_REGISTER, register);
+        self.set(COUNT, count + 1);
+        if count == 4 {
+            self.set(FIRST_COLUMN, register & 0xFFFF);
+            self.set(NEXT_COLUMN, register & 0xFFFF);
+        }
+        if count == 4 && phase == PROGRAM_ADDRESS {
+            self.set(PHASE, PROGRAM_DATA);
+        }
+        Ok(())
+    }
+
+    fn on_chip(&self, register: u64) -> bool {
+        let column = (register & 0xFFFF) as usize;
+        let row = (register >> 16) as usize;
+        column < self.geometry.page_bytes() && row < self.geometry.pages * self.geometry.blocks
+    }
+
+    fn row(&self) -> usize {
+        (self.word(ADDRESS_REGISTER) >> 16) as usize
+    }
+
+    fn addressed_block(&self) -> usize {
+        self.row() / self.geometry.pages
+    }
+
+    fn addressed_page(&self) -> usize {
+        self.row() % self.geometry.pages
+    }
+
+    fn start(&mut self, operation: u64) {
+        let used = self.word(FATES_USED);
+        let fate = self.call.fates.get(used as usize).copied();
+        self.set(FATES_USED, used + fate.is_some() as u64);
+        let fate = fate.unwrap_or(0);
+        self.set(PHASE, BUSY);
+        self.set(OPERATION, operation);
+        self.set(BUSY_LEFT, (fate & 0xFFFF) as u64);
+        self.set(FAILED, if operation == READING { 0 } else { (fate >> 16 & 1) as u64 });
+    }
+
+    fn read_confirm(&mut self) -> bool {
+        if self.word(PHASE) != READ_ADDRESS || self.word(COUNT) != 5 {
+            return false;
+        }
+        let size = self.geometry.page_bytes();
+        let from = self.row() * size;
+        self.chip.register.copy_from_slice(&self.chip.array[from..from + size]);
+        self.start(READING);
+        true
+    }
+
+    fn program_confirm(&mut self) -> bool {
+        let size = self.geometry.page_bytes() as u64;
+        let whole = self.word(FIRST_COLUMN) == 0 && self.word(NEXT_COLUMN) == size;
+        if self.word(PHASE) != PROGRAM_DATA || !whole {
+            return false;
+        }
+        let (block, page) = (self.addressed_block(), self.addressed_page());
+        if page < self.chip.history[block] as usize {
+            return false;
+        }
+        self.note_confirmed(true);
+        self.clear_bits(true);
+        self.chip.history[block] = page as u8 + 1;
+        self.start(PROGRAMMING);
+        true
+    }
+
+    fn erase_confirm(&mut self) -> bool {
+        if self.word(PHASE) != ERASE_ADDRESS || self.word(COUNT) != 5 {
+            return false;
+        }
+        let block = self.addressed_block();
+        self.note_confirmed(false);
+        self.raise_bits(true);
+        self.chip.history[block] = 255;
+        self.start(ERASING);
+        true
+    }
+
+    // Clears the bits that the register has clear: those in the mask, or all of them.
+    fn clear_bits(&mut self, masked: bool) {
+        let size = self.geometry.page_bytes();
+        let from = self.row() * size;
+        for place in 0..size {
+            let taken = if masked { self.call.mask[place] } else { 0xFF };
+            self.chip.array[from + place] &= self.chip.register[place] | !taken;
+        }
+    }
+
+    // Sets bits of the block: those in the mask, or all of them.
+    fn raise_bits(&mut self, masked: bool) {
+        let size = self.geometry.block_bytes();
+        let from = self.addressed_block() * size;
+        let cells = &mut self.chip.array[from..from + size];
+        if !masked {
+            cells.fill(0xFF);
+            return;
+        }
+        for (cell, taken) in cells.iter_mut().zip(&self.call.mask) {
+            *cell |= taken;
+        }
+    }
+
+    fn note_confirmed(&mut self, program: bool) {
+        if !self.watch.on {
+            return;
+        }
+        let (block, page) = (self.addressed_block(), self.addressed_page());
+        let bytes = if program { self.chip.register.clone() } else { Vec::new() };
+        let forbidden = forbidden_block(&self.geometry, &self.chip.array, block)
+            || self.watch.failed.contains(&block);
+        self.watch.confirmed.push(Confirmed { program, block, page, bytes, forbidden });
+    }
+
+    fn data_in(&mut self, byte: u8) -> Result<(), Stop> {
+        self.due()?;
+        let column = self.word(NEXT_COLUMN);
+        if self.word(PHASE) != PROGRAM_DATA || column >= self.geometry.page_bytes() as u64 {
+            return self.illegal();
+        }
+        self.chip.register[column as usize] = byte;
+        self.set(NEXT_COLUMN, column + 1);
+        Ok(())
+    }
+
+    fn data_out(&mut self) -> Result<u8, Stop> {
+        self.due()?;
+        let column = self.word(NEXT_COLUMN);
+        let shown = self.word(PHASE) == DATA_OUTPUT && self.word(LOADED) == 1;
+        if !shown || column >= self.geometry.page_bytes() as u64 {
+            return self.illegal();
+        }
+        self.set(NEXT_COLUMN, column + 1);
+        Ok(self.chip.register[column as usize])
+    }
+
+    fn status(&mut self) -> Result<u8, Stop> {
+        self.due()?;
+        match self.word(PHASE) {
+            STATUS => Ok(self.ready_status()),
+            BUSY_STATUS if self.word(BUSY_LEFT) > 0 => {
+                self.set(BUSY_LEFT, self.word(BUSY_LEFT) - 1);
+                Ok(0x80)
+            }
+            BUSY_STATUS => {
+                self.finish();
+                Ok(self.ready_status())
+            }
+            _ => self.illegal(),
+        }
+    }
+
+    fn ready_status(&self) -> u8 {
+        if self.word(FAILED) != 0 {
+            0xE1
+        } else {
+            0xE0
+        }
+    }
+
+    fn finish(&mut self) {
+        let passed = self.word(FAILED) == 0;
+        match self.word(OPERATION) {
+            READING => self.set(LOADED, 1),
+            PROGRAMMING if passed => self.clear_bits(false),
+            ERASING if passed => {
+                self.raise_bits(false);
+                let block = self.addressed_block();
+                self.chip.history[block] = 0;
+            }
+            _ => {}
+        }
+        self.set(PHASE, STATUS);
+    }
+
+    // ---- operations ----
+
+    fn reset(&mut self) -> Result<(), Stop> {
+        self.command(0xFF)?;
+        self.command(0x70)?;
+        self.status()?;
+        Ok(())
+    }
+
+    fn send_column(&mut self, column: usize) -> Result<(), Stop> {
+        self.address(column as u8)?;
+        self.address((column >> 8) as u8)
+    }
+
+    fn send_row(&mut self, block: usize, page: usize) -> Result<(), Stop> {
+        let row = block * self.geometry.pages + page;
+        self.address(row as u8)?;
+        self.address((row >> 8) as u8)?;
+        self.address((row >> 16) as u8)
+    }
+
+    // Status reads until ready; whether the operation passed.
+    fn wait(&mut self) -> Result<bool, Stop> {
+        self.command(0x70)?;
+        for _ in 0..256 {
+            let status = self.status()?;
+            if status & 0x40 != 0 {
+                return Ok(status & 1 == 0);
+            }
+        }
+        Err(Stop::Silent)
+    }
+
+    fn read(&mut self, block: usize, page: usize, column: usize, count: usize) -> Result<Vec<u8>, Stop> {
+        self.command(0x00)?;
+        self.send_column(column)?;
+        self.send_row(block, page)?;
+        self.command(0x30)?;
+        self.wait()?;
+        self.command(0x00)?;
+        let mut bytes = Vec::with_capacity(count);
+        for _ in 0..count {
+            bytes.push(self.data_out()?);
+        }
+        Ok(bytes)
+    }
+
+    fn program(&mut self, block: usize, page: usize, bytes: &[u8]) -> Result<bool, Stop> {
+        self.command(0x80)?;
+        self.send_column(0)?;
+        self.send_row(block, page)?;
+        for byte in bytes {
+            self.data_in(*byte)?;
+        }
+        self.command(0x10)?;
+        let passed = self.wait()?;
+        self.note_result(block, passed);
+        Ok(passed)
+    }
+
+    fn erase(&mut self, block: usize) -> Result<bool, Stop> {
+        self.command(0x60)?;
+        self.send_row(block, 0)?;
+        self.command(0xD0)?;
+        let passed = self.wait()?;
+        self.note_result(block, passed);
+        Ok(passed)
+    }
+
+    fn note_result(&mut self, block: usize, passed: bool) {
+        if self.watch.on && !passed {
+            self.watch.failed.push(block);
+        }
+    }
+
+    fn read_page(&mut self, block: usize, page: usize) -> Result<Vec<u8>, Stop> {
+        self.read(block, page, 0, self.geometry.page_bytes())
+    }
+}
+
+// ---- pages and blocks ----
+
+fn u16_at(bytes: &[u8], place: usize) -> u16 {
+    u16::from_le_bytes(bytes[place..place + 2].try_into().unwrap())
+}
+
+fn u32_at(bytes: &[u8], place: usize) -> u32 {
+    u32::from_le_bytes(bytes[place..place + 4].try_into().unwrap())
+}
+
+fn u64_at(bytes: &[u8], place: usize) -> u64 {
+    u64::from_le_bytes(bytes[place..place + 8].try_into().unwrap())
+}
+
+#[derive(Clone, Copy, PartialEq, Eq, Debug)]
+pub struct Label {
+    pub kind: u8,
+    pub logical: u16,
+    pub page: u8,
+    pub number: u32,
+}
+
+pub fn data_label(logical: usize, page: usize, number: u32) -> Label {
+    Label { kind: DATA, logical: logical as u16, page: page as u8, number }
+}
+
+pub fn table_label(page: usize, number: u32) -> Label {
+    Label { kind: TABLE, logical: 0, page: page as u8, number }
+}
+
+pub fn zero_bits(bytes: &[u8]) -> u32 {
+    bytes.iter().map(|byte| byte.count_zeros()).sum()
+}
+
+pub fn encode_page(geometry: &Geometry, main: &[u8], label: &Label) -> Vec<u8> {
+    let mut page = main.to_vec();
+    page.push(0xFF);
+    page.push(label.kind);
+    page.extend(label.logical.to_le_bytes());
+    page.push(label.page);
+    page.extend(label.number.to_le_bytes());
+    let check = zero_bits(&page) as u16;
+    page.extend(check.to_le_bytes());
+    page.resize(geometry.page_bytes(), 0xFF);
+    page
+}
+
+pub fn whole_page(geometry: &Geometry, page: &[u8]) -> Option<Label> {
+    let (main, spare) = page.split_at(geometry.main);
+    let check = zero_bits(main) + zero_bits(&spare[..9]);
+    let blank = spare[0] == 0xFF && spare[11..].iter().all(|byte| *byte == 0xFF);
+    let known = spare[1] == DATA || spare[1] == TABLE;
+    if !blank || !known || check != u16_at(spare, 9) as u32 {
+        return None;
+    }
+    Some(Label { kind: spare[1], logical: u16_at(spare, 2), page: spare[4], number: u32_at(spare, 5) })
+}
+
+// What the pages of one block say.
+#[derive(Clone, Copy, PartialEq, Eq, Debug)]
+pub struct Summary {
+    pub marked: bool,
+    pub complete: Option<Label>,
+    pub greatest: Option<u32>,
+}
+
+pub fn summarise(geometry: &Geometry, pages: &[&[u8]]) -> Summary {
+    let marked = pages[..2].iter().any(|page| page[geometry.main] != 0xFF);
+    let labels: Vec<Option<Label>> = pages.iter().map(|page| whole_page(geometry, page)).collect();
+    let greatest = labels.iter().flatten().map(|label| label.number).max();
+    let complete = if marked { None } else { complete_label(&labels) };
+    Summary { marked, complete, greatest }
+}
+
+fn complete_label(labels: &[Option<Label>]) -> Option<Label> {
+    let first = labels[0]?;
+    for (place, label) in labels.iter().enumerate() {
+        if *label != Some(Label { page: place as u8, ..first }) {
+            return None;
+        }
+    }
+    Some(first)
+}
+
+fn block_pages<'a>(geometry: &Geometry, block: &'a [u8]) -> Vec<&'a [u8]> {
+    block.chunks(geometry.page_bytes()).collect()
+}
+
+pub fn summary_of(geometry: &Geometry, array: &[u8], block: usize) -> Summary {
+    let from = geometry.page_start(block, 0);
+    summarise(geometry, &block_pages(geometry, &array[from..from + geometry.block_bytes()]))
+}
+
+// ---- the table ----
+
+fn bit(bitmap: &[u8], place: usize) -> bool {
+    bitmap[place / 8] >> (place % 8) & 1 == 1
+}
+
+fn set_bit(bitmap: &mut [u8], place: usize) {
+    bitmap[place / 8] |= 1 << (place % 8);
+}
+
+pub fn table_main(geometry: &Geometry, invalid: &[u8]) -> Vec<u8> {
+    let set: u32 = invalid.iter().map(|byte| byte.count_ones()).sum();
+    let mut main = Vec::new();
+    for number in [geometry.blocks as u16, geometry.logical as u16, set as u16, 8] {
+        main.extend(number.to_le_bytes());
+    }
+    main.extend(&invalid[..(geometry.blocks + 7) / 8]);
+    main.resize(geometry.main, 0xFF);
+    main
+}
+
+// The bitmap of a table that is rightly laid out for this chip.
+fn table_bitmap(geometry: &Geometry, pages: &[&[u8]], marks: &[u8], block: usize) -> Option<Vec<u8>> {
+    let main = &pages[0][..geometry.main];
+    let mut bitmap = main[8..8 + (geometry.blocks + 7) / 8].to_vec();
+    bitmap.resize(MOST_BLOCKS / 8, 0);
+    let past = (geometry.blocks..MOST_BLOCKS).any(|place| bit(&bitmap, place));
+    let marked = (0..geometry.blocks).any(|place| bit(&bitmap, place) && bit(marks, place));
+    let others = pages[1..].iter().all(|page| page[..geometry.main].iter().all(|byte| *byte == 0xFF));
+    let logical = u16_at(pages[0], geometry.main + 2);
+    let right = main == table_main(geometry, &bitmap) && others && logical == 0;
+    if !right || past || marked || bit(&bitmap, block) {
+        return None;
+    }
+    Some(bitmap)
+}
+
+// Whether the factory marked the block or the current table lists it.
+fn forbidden_block(geometry: &Geometry, array: &[u8], block: usize) -> bool {
+    if summary_of(geometry, array, block).marked {
+        return true;
+    }
+    let mut table: Option<(u32, usize)> = None;
+    for place in 0..geometry.blocks {
+        let label = summary_of(geometry, array, place).complete;
+        if let Some(label) = label.filter(|label| label.kind == TABLE) {
+            if table.map_or(true, |(number, _)| label.number > number) {
+                table = Some((label.number, place));
+            }
+        }
+    }
+    let Some((_, place)) = table else { return false };
+    let from = geometry.page_start(place, 0) + 8;
+    bit(&array[from..from + (geometry.blocks + 7) / 8], block)
+}
+
+// ---- the mounted state ----
+
+#[derive(Clone, PartialEq, Eq)]
+pub struct State {
+    pub status: u64,
+    pub table: u64,
+    pub last: u64,
+    pub next: u64,
+    pub marks: Vec<u8>,
+    pub invalid: Vec<u8>,
+    pub map: Vec<u16>,
+}
+
+const MOUNTED: u64 = 1;
+const STOPPED: u64 = 2;
+
+impl State {
+    // Status and 0 in all other fields.
+    fn blank(status: u64) -> State {
+        let bitmap = vec![0; MOST_BLOCKS / 8];
+        let map = vec![0; MOST_BLOCKS];
+        State { status, table: 0, last: 0, next: 0, marks: bitmap.clone(), invalid: bitmap, map }
+    }
+
+    pub fn from_bytes(bytes: &[u8]) -> State {
+        let mut map = vec![0; MOST_BLOCKS];
+        for (entry, pair) in map.iter_mut().zip(bytes[1056..].chunks_exact(2)) {
+            *entry = u16::from_le_bytes([pair[0], pair[1]]);
+        }
+        State {
+            status: u64_at(bytes, 0),
+            table: u64_at(bytes, 8),
+            last: u64_at(bytes, 16),
+            next: u64_at(bytes, 24),
+            marks: bytes[32..544].to_vec(),
+            invalid: bytes[544..1056].to_vec(),
+            map,
+        }
+    }
+
+    pub fn to_bytes(&self) -> Vec<u8> {
+        let mut bytes = vec![0; STATE_BYTES];
+        for (place, number) in [self.status, self.table, self.last, self.next].into_iter().enumerate() {
+            bytes[8 * place..8 * place + 8].copy_from_slice(&number.to_le_bytes());
+        }
+        bytes[32..544].copy_from_slice(&self.marks);
+        bytes[544..1056].copy_from_slice(&self.invalid);
+        for (place, entry) in bytes[1056..].chunks_exact_mut(2).zip(&self.map) {
+            place.copy_from_slice(&entry.to_le_bytes());
+        }
+        bytes
+    }
+
+    // Blocks with something current, the table's block first.
+    fn current(&self, geometry: &Geometry) -> Vec<u64> {
+        let copies = self.map[..geometry.logical].iter().filter(|entry| **entry != EMPTY);
+        std::iter::once(self.table).chain(copies.map(|entry| *entry as u64)).collect()
+    }
+
+    fn mounted(&self, geometry: &Geometry) -> bool {
+        let blocks = geometry.blocks as u64;
+        let current = self.current(geometry);
+        self.status == MOUNTED
+            && self.last < blocks
+            && current.iter().all(|block| *block < blocks)
+            && self.map[geometry.logical..] == [EMPTY; MOST_BLOCKS][geometry.logical..]
+            && self.bitmaps_right(geometry)
+            && self.current_right(&current)
+    }
+
+    fn bitmaps_right(&self, geometry: &Geometry) -> bool {
+        let mut right = true;
+        for (place, (marked, invalid)) in self.marks.iter().zip(&self.invalid).enumerate() {
+            let on_chip = geometry.blocks.saturating_sub(8 * place).min(8);
+            let past = (0xFF00u16 >> (8 - on_chip)) as u8;
+            right &= marked & invalid == 0 && (marked | invalid) & past == 0;
+        }
+        right
+    }
+
+    fn current_right(&self, current: &[u64]) -> bool {
+        let mut named = vec![false; MOST_BLOCKS];
+        current.iter().all(|block| {
+            let block = *block as usize;
+            let again = std::mem::replace(&mut named[block], true);
+            !again && !bit(&self.marks, block) && !bit(&self.invalid, block)
+        })
+    }
+
+    pub fn usable(&self, block: usize) -> bool {
+        !bit(&self.marks, block) && !bit(&self.invalid, block)
+    }
+
+    fn take_number(&mut self) -> Result<u32, Stop> {
+        if self.next > LAST_NUMBER {
+            return Err(Stop::Spent);
+        }
+        self.next += 1;
+        Ok((self.next - 1) as u32)
+    }
+
+    // Valid unmarked blocks that hold nothing current.
+    pub fn free_blocks(&self, geometry: &Geometry) -> usize {
+        if !self.mounted(geometry) {
+            return 0;
+        }
+        let current = self.current(geometry);
+        (0..geometry.blocks).filter(|block| self.usable(*block) && !current.contains(&(*block as u64))).count()
+    }
+}
+
+// ---- fills ----
+
+enum Filling<'a> {
+    Table,
+    Copy { logical: usize, page: Option<(usize, &'a [u8])> },
+}
+
+struct Store<'a> {
+    bus: Bus<'a>,
+    state: State,
+    held: Vec<u64>,
+    failed: bool,
+}
+
+impl<'a> Store<'a> {
+    fn geometry(&self) -> Geometry {
+        self.bus.geometry
+    }
+
+    fn choose_block(&self) -> Result<usize, Stop> {
+        let blocks = self.geometry().blocks;
+        let last = self.state.last as usize;
+        (1..=blocks)
+            .map(|step| (last + step) % blocks)
+            .find(|block| self.state.usable(*block) && !self.held.contains(&(*block as u64)))
+            .ok_or(Stop::Worn)
+    }
+
+    // Fills block after block until one passes.
+    fn fill(&mut self, what: &Filling) -> Result<(), Stop> {
+        loop {
+            let number = self.state.take_number()?;
+            let block = self.choose_block()?;
+            if self.fill_block(what, block, number)? {
+                self.record(what, block);
+                return Ok(());
+            }
+            set_bit(&mut self.state.invalid, block);
+            self.failed = true;
+        }
+    }
+
+    fn fill_block(&mut self, what: &Filling, block: usize, number: u32) -> Result<bool, Stop> {
+        if !self.bus.erase(block)? {
+            return Ok(false);
+        }
+        for page in 0..self.geometry().pages {
+            let bytes = self.page_to_fill(what, page, number)?;
+            if !self.bus.program(block, page, &bytes)? {
+                return Ok(false);
+            }
+        }
+        Ok(true)
+    }
+
+    fn page_to_fill(&mut self, what: &Filling, page: usize, number: u32) -> Result<Vec<u8>, Stop> {
+        let geometry = self.geometry();
+        let blank = vec![0xFF; geometry.main];
+        let (main, label) = match what {
+            Filling::Table if page == 0 => (table_main(&geometry, &self.state.invalid), table_label(0, number)),
+            Filling::Table => (blank, table_label(page, number)),
+            Filling::Copy { logical, page: new } => {
+                (self.copy_main(*logical, page, *new)?, data_label(*logical, page, number))
+            }
+        };
+        Ok(encode_page(&geometry, &main, &label))
+    }
+
+    // Main bytes of one page of a new copy; without a new page the whole copy is FFh.
+    fn copy_main(&mut self, logical: usize, page: usize, new: Option<(usize, &[u8])>) -> Result<Vec<u8>, Stop> {
+        let blank = vec![0xFF; self.geometry().main];
+        let old = self.state.map[logical];
+        match new {
+            None => Ok(blank),
+            Some((place, bytes)) if place == page => Ok(bytes.to_vec()),
+            Some(_) if old == EMPTY => Ok(blank),
+            Some(_) => self.bus.read(old as usize, page, 0, blank.len()),
+        }
+    }
+
+    fn record(&mut self, what: &Filling, block: usize) {
+        match what {
+            Filling::Table => self.state.table = block as u64,
+            Filling::Copy { logical, .. } => self.state.map[*logical] = block as u16,
+        }
+        self.state.last = block as u64;
+        self.held = self.state.current(&self.geometry());
+    }
+
+    fn replace(&mut self, what: &Filling) -> Result<(), Stop> {
+        self.held = self.state.current(&self.geometry());
+        self.fill(what)?;
+        if self.failed {
+            self.fill(&Filling::Table)?;
+        }
+        Ok(())
+    }
+
+    // ---- formatting ----
+
+    fn format(&mut self) -> Result<(), Stop> {
+        let geometry = self.geometry();
+        self.state = State::blank(MOUNTED);
+        self.state.map.fill(EMPTY);
+        self.bus.reset()?;
+        for block in 0..geometry.blocks {
+            self.read_marks(block)?;
+        }
+        let mut greatest = 0;
+        for block in 0..geometry.blocks {
+            greatest = greatest.max(self.clear_block(block)?);
+        }
+        let usable = (0..geometry.blocks).filter(|block| self.state.usable(*block)).count();
+        if usable < geometry.logical + 2 {
+            return Err(Stop::Worn);
+        }
+        self.state.next = greatest + 1;
+        self.state.last = geometry.blocks as u64 - 1;
+        self.fill(&Filling::Table)
+    }
+
+    fn read_marks(&mut self, block: usize) -> Result<(), Stop> {
+        for page in 0..2 {
+            let byte = self.bus.read(block, page, self.geometry().main, 1)?[0];
+            if byte != 0xFF {
+                set_bit(&mut self.state.marks, block);
+            }
+        }
+        Ok(())
+    }
+
+    // Erases an unmarked block; the greatest number on whole pages if it failed, else 0.
+    fn clear_block(&mut self, block: usize) -> Result<u64, Stop> {
+        if bit(&self.state.marks, block) || self.bus.erase(block)? {
+            return Ok(0);
+        }
+        set_bit(&mut self.state.invalid, block);
+        let geometry = self.geometry();
+        let mut greatest = 0;
+        for page in 0..geometry.pages {
+            let bytes = self.bus.read_page(block, page)?;
+            let number = whole_page(&geometry, &bytes).map_or(0, |label| label.number);
+            greatest = greatest.max(number as u64);
+        }
+        Ok(greatest)
+    }
+
+    // ---- mounting ----
+
+    fn scan(&mut self) -> Result<Scan, Stop> {
+        let geometry = self.geometry();
+        let mut scan = Scan { summaries: Vec::new(), table: None, pages: Vec::new() };
+        self.bus.reset()?;
+        for block in 0..geometry.blocks {
+            let mut bytes = Vec::with_capacity(geometry.block_bytes());
+            for page in 0..geometry.pages {
+                bytes.extend(self.bus.read_page(block, page)?);
+            }
+            scan.add(&geometry, block, bytes);
+        }
+        Ok(scan)
+    }
+}
+
+struct Scan {
+    summaries: Vec<Summary>,
+    table: Option<(u32, usize)>,
+    pages: Vec<u8>,
+}
+
+impl Scan {
+    fn add(&mut self, geometry: &Geometry, block: usize, bytes: Vec<u8>) {
+        let summary = summarise(geometry, &block_pages(geometry, &bytes));
+        self.summaries.push(summary);
+        let Some(label) = summary.complete.filter(|label| label.kind == TABLE) else { return };
+        if self.table.map_or(true, |(number, _)| label.number > number) {
+            self.table = Some((label.number, block));
+            self.pages = bytes;
+        }
+    }
+
+    fn marks(&self) -> Vec<u8> {
+        let mut marks = vec![0; MOST_BLOCKS / 8];
+        for (block, summary) in self.summaries.iter().enumerate() {
+            if summary.marked {
+                set_bit(&mut marks, block);
+            }
+        }
+        marks
+    }
+
+    fn judge(&self, geometry: &Geometry) -> Result<State, usize> {
+        let (_, table) = self.table.ok_or(NO_TABLE)?;
+        let marks = self.marks();
+        let pages = block_pages(geometry, &self.pages);
+        let invalid = table_bitmap(geometry, &pages, &marks, table).ok_or(WRONG_TABLE)?;
+        let copies = self.copies(&invalid);
+        if clash(geometry, &copies) {
+            return Err(CLASH);
+        }
+        let (number, last) = self.greatest();
+        let mut state = State { table: table as u64, marks, invalid, ..State::blank(MOUNTED) };
+        state.last = last as u64;
+        state.next = number as u64 + 1;
+        state.map = current_copies(geometry, &copies);
+        Ok(state)
+    }
+
+    // Complete blocks that the table does not list.
+    fn copies(&self, invalid: &[u8]) -> Vec<(usize, Label)> {
+        let all = self.summaries.iter().enumerate();
+        let complete = all.filter_map(|(block, summary)| Some((block, summary.complete?)));
+        complete.filter(|(block, _)| !bit(invalid, *block)).collect()
+    }
+
+    // The greatest number on a whole page of an unmarked block, and the lowest block that holds it.
+    fn greatest(&self) -> (u32, usize) {
+        let mut found = None;
+        for (block, summary) in self.summaries.iter().enumerate() {
+            let Some(number) = summary.greatest.filter(|_| !summary.marked) else { continue };
+            if found.map_or(true, |(greatest, _)| number > greatest) {
+                found = Some((number, block));
+            }
+        }
+        found.unwrap_or((0, 0))
+    }
+}
+
+fn clash(geometry: &Geometry, copies: &[(usize, Label)]) -> bool {
+    let mut numbers: Vec<u32> = copies.iter().map(|(_, label)| label.number).collect();
+    numbers.sort();
+    let twice = numbers.windows(2).any(|pair| pair[0] == pair[1]);
+    let beyond = |label: &Label| label.kind == DATA && label.logical as usize >= geometry.logical;
+    twice || copies.iter().any(|(_, label)| beyond(label))
+}
+
+fn current_copies(geometry: &Geometry, copies: &[(usize, Label)]) -> Vec<u16> {
+    let mut map = vec![EMPTY; MOST_BLOCKS];
+    let mut numbers = vec![None; geometry.logical];
+    for (block, label) in copies.iter().filter(|(_, label)| label.kind == DATA) {
+        let logical = label.logical as usize;
+        if numbers[logical].map_or(true, |number| label.number > number) {
+            numbers[logical] = Some(label.number);
+            map[logical] = *block as u16;
+        }
+    }
+    map
+}
+
+// ---- requests ----
+
+#[derive(Clone, Debug)]
+pub enum Request {
+    Format,
+    Mount,
+    Read { block: usize, page: usize },
+    Write { block: usize, page: usize },
+    Erase { block: usize },
+}
+
+impl Request {
+    fn needs_mount(&self) -> bool {
+        !matches!(self, Request::Format | Request::Mount)
+    }
+
+    fn address_right(&self, geometry: &Geometry) -> bool {
+        match self {
+            Request::Read { block, page } | Request::Write { block, page } => {
+                *block < geometry.logical && *page < geometry.pages
+            }
+            Request::Erase { block } => *block < geometry.logical,
+            _ => true,
+        }
+    }
+
+    fn length_right(&self, geometry: &Geometry, buffer: &[u8]) -> bool {
+        !matches!(self, Request::Read { .. } | Request::Write { .. }) || buffer.len() == geometry.main
+    }
+}
+
+fn lengths_right(geometry: &Geometry, chip: &Chip, call: &Call) -> bool {
+    chip.array.len() == geometry.chip_bytes()
+        && chip.register.len() == geometry.page_bytes()
+        && chip.history.len() == geometry.blocks
+        && call.mask.len() == geometry.block_bytes()
+}
+
+fn refusal(geometry: &Geometry, request: &Request, chip: &Chip, call: &Call, state: &State, buffer: &[u8]) -> usize {
+    if !geometry.within_limits() || !lengths_right(geometry, chip, call) {
+        GEOMETRY
+    } else if request.needs_mount() && !state.mounted(geometry) {
+        MOUNT_FIRST
+    } else if !request.address_right(geometry) {
+        ADDRESS
+    } else if !request.length_right(geometry, buffer) {
+        LENGTH
+    } else {
+        DONE
+    }
+}
+
+// One call; the answer. `sent` takes the cycles sent, `buffer` is a reader's place or a writer's bytes.
+pub fn call(
+    geometry: &Geometry,
+    request: &Request,
+    state: &mut Vec<u8>,
+    chip: &mut Chip,
+    call: &Call,
+    buffer: &mut Vec<u8>,
+    sent: &mut Vec<u64>,
+    watch: &mut Watch,
+) -> usize {
+    if state.len() != STATE_BYTES || chip.words.len() != WORDS || sent.len() != 1 {
+        return BAD_BUFFER;
+    }
+    sent[0] = 0;
+    let before = State::from_bytes(state);
+    let refused = refusal(geometry, request, chip, call, &before, buffer);
+    if refused != DONE {
+        return refused;
+    }
+    if !reads_blank(request, &before) {
+        chip.words[FATES_USED] = 0;
+        chip.words[ILLEGAL_SEEN] = 0;
+    }
+    let bus = Bus { geometry: *geometry, chip, call, watch, sent: 0 };
+    let mut store = Store { bus, state: before, held: Vec::new(), failed: false };
+    let answer = match carry_out(&mut store, request, buffer) {
+        Ok(answer) => answer,
+        Err(stop) => {
+            store.state = State::blank(STOPPED);
+            stop.answer()
+        }
+    };
+    sent[0] = store.bus.sent;
+    *state = store.state.to_bytes();
+    answer
+}
+
+// A read of a logical block without a copy: it sends no cycle and leaves the words as they are.
+fn reads_blank(request: &Request, state: &State) -> bool {
+    matches!(request, Request::Read { block, .. } if state.map[*block] == EMPTY)
+}
+
+fn carry_out(store: &mut Store, request: &Request, buffer: &mut Vec<u8>) -> Result<usize, Stop> {
+    match request {
+        Request::Format => store.format()?,
+        Request::Mount => return mount(store),
+        Request::Read { block, page } => *buffer = read(store, *block, *page)?,
+        Request::Write { block, page } => {
+            let bytes = buffer.clone();
+            store.replace(&Filling::Copy { logical: *block, page: Some((*page, &bytes)) })?
+        }
+        Request::Erase { block } => store.replace(&Filling::Copy { logical: *block, page: None })?,
+    }
+    Ok(DONE)
+}
+
+fn mount(store: &mut Store) -> Result<usize, Stop> {
+    let geometry = store.geometry();
+    let scan = store.scan()?;
+    match scan.judge(&geometry) {
+        Ok(state) => {
+            store.state = state;
+            Ok(DONE)
+        }
+        Err(answer) => {
+            store.state = State::blank(0);
+            Ok(answer)
+        }
+    }
+}
+
+fn read(store: &mut Store, block: usize, page: usize) -> Result<Vec<u8>, Stop> {
+    let main = store.geometry().main;
+    match store.state.map[block] {
+        EMPTY => Ok(vec![0xFF; main]),
+        copy => store.bus.read(copy as usize, page, 0, main),
+    }
+}
