@@ -207,7 +207,7 @@ fn read_byte() -> Input {
 }
 
 // The next line, which is malformed if it has more than 63 bytes.
-pub fn next_line() -> Line {
+pub(crate) fn next_line() -> Line {
     let mut line = [0u8; 64];
     let mut count = 0;
     while count < 64 {

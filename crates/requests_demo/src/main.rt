@@ -11,7 +11,7 @@ ghost use Prim.Native.Nat.{_≤_};
 // The allowance that cuts nothing.
 pub const UNCUT: u32 = 4294967295;
 
-pub fn small(logical: usize) -> Geometry {
+pub(crate) fn small(logical: usize) -> Geometry {
     Geometry {
         main: 32,
         spare: 16,
@@ -27,7 +27,7 @@ fn print_number(x: usize) {
 }
 
 // Prints how a request ended.
-pub fn show(label: &[u8], logical: usize, returned: Returned)
+pub(crate) fn show(label: &[u8], logical: usize, returned: Returned)
     requires { ⌜ logical ≤ 4096 ⌝ }
 {
     let next = returned.state;

@@ -71,7 +71,7 @@ fn mount(before: Returned, array: &mut [u8], register: &mut [u8], history: &mut 
 }
 
 // The first write on a new chip.
-pub fn show_write(label: &[u8], fates: &[u32], allowed: u32) {
+pub(crate) fn show_write(label: &[u8], fates: &[u32], allowed: u32) {
     let mut array = [0xffu8; 768];
     let mut register = [0xffu8; 48];
     let mut history = [0u8; 4];
@@ -89,7 +89,7 @@ pub fn show_write(label: &[u8], fates: &[u32], allowed: u32) {
 }
 
 // A write from a state whose next number is the last, and one more.
-pub fn show_last_number() {
+pub(crate) fn show_last_number() {
     let mut array = [0xffu8; 768];
     let mut register = [0xffu8; 48];
     let mut history = [0u8; 4];
@@ -121,7 +121,7 @@ pub fn show_last_number() {
 }
 
 // A write whose first erase fails: the table fill takes the block of the old copy.
-pub fn show_failed_erase() {
+pub(crate) fn show_failed_erase() {
     let mut array = [0xffu8; 768];
     let mut register = [0xffu8; 48];
     let mut history = [0u8; 4];
@@ -149,7 +149,7 @@ pub fn show_failed_erase() {
 }
 
 // A write after one that was cut past its first page and a mount: the only free block is the one filled last.
-pub fn show_cut_write() {
+pub(crate) fn show_cut_write() {
     let mut array = [0xffu8; 768];
     let mut register = [0xffu8; 48];
     let mut history = [0u8; 4];

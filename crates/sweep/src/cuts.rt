@@ -286,7 +286,7 @@ fn is(x: usize, y: usize) -> usize
 }
 
 // Cuts the write at every cycle from 0 to its last, and answers how many runs gave neither old nor new.
-pub fn sweep(label: &[u8], name: &[u8], older: usize, block: usize, mask: &[u8]) -> usize {
+pub(crate) fn sweep(label: &[u8], name: &[u8], older: usize, block: usize, mask: &[u8]) -> usize {
     let mut old = 0;
     let mut new = 0;
     let mut other = 0;

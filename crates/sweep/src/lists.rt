@@ -103,7 +103,7 @@ fn wide(x: u8) -> u64 {
 }
 
 // Formats a new chip, performs the calls, and prints the first byte that a read of the page then gives.
-pub fn show(label: &[u8], calls: &[u8]) {
+pub(crate) fn show(label: &[u8], calls: &[u8]) {
     let mut array = [0xffu8; 768];
     let mut register = [0xffu8; 48];
     let mut history = [0u8; 4];

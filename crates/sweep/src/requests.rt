@@ -17,7 +17,7 @@ fn small() -> Geometry {
     }
 }
 
-pub fn format(array: &mut [u8], register: &mut [u8], history: &mut [u8]) -> Returned {
+pub(crate) fn format(array: &mut [u8], register: &mut [u8], history: &mut [u8]) -> Returned {
     let mask = [0u8; 192];
     let fates = [0u32; 0];
     format::format(
@@ -34,7 +34,7 @@ pub fn format(array: &mut [u8], register: &mut [u8], history: &mut [u8]) -> Retu
 }
 
 // Writes a page whose bytes are all the same.
-pub fn write(
+pub(crate) fn write(
     before: Returned,
     array: &mut [u8],
     register: &mut [u8],
@@ -65,7 +65,7 @@ pub fn write(
     )
 }
 
-pub fn mount(
+pub(crate) fn mount(
     before: Returned,
     array: &mut [u8],
     register: &mut [u8],
@@ -88,7 +88,7 @@ pub fn mount(
     )
 }
 
-pub fn read(
+pub(crate) fn read(
     before: Returned,
     array: &mut [u8],
     register: &mut [u8],
