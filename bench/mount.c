@@ -9,7 +9,7 @@
 enum { MAIN = 2048, SPARE = 128, PAGE = MAIN + SPARE, PAGES = 64, BLOCK = PAGE * PAGES, MOST = 4096, REPEATS = 5 };
 
 static uint8_t state[FLASH_STORE_STATE_BYTES], page_register[PAGE], history[MOST], mask[BLOCK];
-static size_t words[FLASH_STORE_WORDS];
+static size_t interface[FLASH_STORE_INTERFACE_WORDS];
 static const uint32_t fates[1]; /* none is lent: every operation passes */
 
 static double now(void) {
@@ -84,9 +84,9 @@ static int measure(const char *name, uint8_t *array, size_t blocks, size_t expec
     double mount = 1e9, bytes_time = 1e9, words_time = 1e9;
     for (int k = 0; k < REPEATS && answer == expected; k++) {
         double t = now();
-        answer = flash_store_mount(MAIN, SPARE, PAGES, blocks, blocks - 2, state, sizeof state, words, FLASH_STORE_WORDS,
-                                   array, size, page_register, PAGE, history, blocks, mask, BLOCK, fates, 0,
-                                   FLASH_STORE_UNCUT, sent, 1);
+        answer = flash_store_mount(MAIN, SPARE, PAGES, blocks, blocks - 2, state, sizeof state, interface,
+                                   FLASH_STORE_INTERFACE_WORDS, array, size, page_register, PAGE, history, blocks, mask,
+                                   BLOCK, fates, 0, FLASH_STORE_UNCUT, sent, 1);
         mount = least(mount, now() - t);
         t = now();
         by_bytes = zero_bits(array, size);

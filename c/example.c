@@ -69,9 +69,9 @@ static size_t write_page(struct flash_store_call *call, uint8_t byte) {
 
 /* A plain call, for a state buffer that is a byte short. */
 static size_t format_short(void) {
-    return flash_store_format(MAIN, SPARE, PAGES, BLOCKS, LOGICAL, store.state, sizeof store.state - 1, store.words,
-                              FLASH_STORE_WORDS, array, sizeof array, page_register, sizeof page_register, history,
-                              sizeof history, mask, sizeof mask, flash_store_fates(&uncut), 0, FLASH_STORE_UNCUT,
+    return flash_store_format(MAIN, SPARE, PAGES, BLOCKS, LOGICAL, store.state, sizeof store.state - 1, store.interface,
+                              FLASH_STORE_INTERFACE_WORDS, array, sizeof array, page_register, sizeof page_register,
+                              history, sizeof history, mask, sizeof mask, flash_store_fates(&uncut), 0, FLASH_STORE_UNCUT,
                               &uncut.sent, 1);
 }
 

@@ -1,9 +1,9 @@
 /*
- * The flash store of the telemetry box, for C on x86-64 Linux. Link target/staticlib/liblibrary.a, which
- * `rt staticlib library` proves and builds.
+ * The flash store of the telemetry box, for C on x86-64 Linux. Link target/staticlib/libflash_store.a, which
+ * `rt staticlib flash_store` proves and builds.
  *
  * The chip is the model that the caller lends: its cells, page register, program history and command interface are
- * buffers in memory. No call touches hardware. Array, page register, history, interface words and state are all handed to
+ * buffers in memory. No call touches hardware. Array, page register, history, interface and state are all handed to
  * the next call as the last call left them.
  *
  * Start with struct flash_store, struct flash_store_call and the functions flash_store_do_..., at the end of this file.
@@ -28,7 +28,7 @@ _Static_assert(sizeof(size_t) == 8, "the library is built for a size_t of 8 byte
 /* The answers, in the order in which they are tested; SILENT and CUT come as they happen, CUT first. */
 enum flash_store_answer {
     FLASH_STORE_DONE = 0,
-    FLASH_STORE_BAD_BUFFER = 100, /* state, words or sent has the wrong length: no cycle, nothing changed */
+    FLASH_STORE_BAD_BUFFER = 100, /* state, interface or sent has the wrong length: no cycle, nothing changed */
     FLASH_STORE_GEOMETRY = 1,     /* a limit broken, or the chip or the mask has the wrong length: no cycle, nothing changed */
     FLASH_STORE_MOUNT_FIRST = 7,  /* state not mounted, or stopped by 8 to 11 or 255: no cycle, nothing changed */
     FLASH_STORE_ADDRESS = 2,      /* no such logical block or page: no cycle, nothing changed */
@@ -40,13 +40,13 @@ enum flash_store_answer {
     FLASH_STORE_WORN = 8,         /* no block left: stopped */
     FLASH_STORE_SILENT = 10,      /* 256 status reads of one operation all busy: stopped */
     FLASH_STORE_CUT = 11,         /* the allowed cycles are used and another is due: stopped */
-    FLASH_STORE_ILLEGAL = 255     /* a read, write or erase was handed the words of a chip that is not ready: stopped
+    FLASH_STORE_ILLEGAL = 255     /* a read, write or erase was handed the interface of a chip that is not ready: stopped
                                      (docs/DECISIONS.md) */
 };
 
 enum {
-    FLASH_STORE_STATE_BYTES = 9248, /* the mounted state, laid out as docs/FORMAT.md says */
-    FLASH_STORE_WORDS = 11          /* the chip's command interface, laid out as docs/FORMAT.md says; all 0 at power on */
+    FLASH_STORE_STATE_BYTES = 9248,  /* the mounted state, laid out as docs/FORMAT.md says */
+    FLASH_STORE_INTERFACE_WORDS = 11 /* the chip's command interface, laid out as docs/FORMAT.md says; all 0 at power on */
 };
 
 /* The largest allowance cuts nothing. */
@@ -64,7 +64,7 @@ enum {
  *   blocks              blocks of the chip: 4 to 4,096, at most 8 x (main - 8)
  *   logical             logical blocks, N: 1 to blocks - 2
  *   state               FLASH_STORE_STATE_BYTES; any bytes before the first mount or formatting, then as the last call left them
- *   words               FLASH_STORE_WORDS; as the last call left them
+ *   interface           FLASH_STORE_INTERFACE_WORDS; as the last call left them
  *   array               (main + spare) x pages x blocks bytes: the cells of the chip; as the last call left them
  *   page_register       main + spare bytes: the chip's page register; as the last call left it
  *   history             one byte a block: the lowest page that may be programmed, 255 after an erase that did not pass; 0 for a
@@ -74,27 +74,27 @@ enum {
  *                       after the last word all pass
  *   allowed             cycles before a cut
  *   sent                1: set to the cycles sent, with every answer but BAD_BUFFER
- * state, words, array, page_register, history and sent are written; mask, fates and the bytes of a write are not. The
+ * state, interface, array, page_register, history and sent are written; mask, fates and the bytes of a write are not. The
  * answer is returned.
  */
 
 /* Formats the chip: erases every unmarked block and fills a table. Mounted with answer 0. */
 size_t flash_store_format(size_t main, size_t spare, size_t pages, size_t blocks, size_t logical, uint8_t *state,
-                          size_t state_len, size_t *words, size_t words_len, uint8_t *array, size_t array_len,
+                          size_t state_len, size_t *interface, size_t interface_len, uint8_t *array, size_t array_len,
                           uint8_t *page_register, size_t page_register_len, uint8_t *history, size_t history_len,
                           const uint8_t *mask, size_t mask_len, const uint32_t *fates, size_t fates_len,
                           uint32_t allowed, size_t *sent, size_t sent_len);
 
 /* Mounts: reads every page and leaves array and history as they are. Mounted with answer 0. */
 size_t flash_store_mount(size_t main, size_t spare, size_t pages, size_t blocks, size_t logical, uint8_t *state,
-                         size_t state_len, size_t *words, size_t words_len, uint8_t *array, size_t array_len,
+                         size_t state_len, size_t *interface, size_t interface_len, uint8_t *array, size_t array_len,
                          uint8_t *page_register, size_t page_register_len, uint8_t *history, size_t history_len,
                          const uint8_t *mask, size_t mask_len, const uint32_t *fates, size_t fates_len,
                          uint32_t allowed, size_t *sent, size_t sent_len);
 
 /* Reads page `page` of logical block `block` into buffer, main bytes long, which changes with answer 0 only. */
 size_t flash_store_read(size_t main, size_t spare, size_t pages, size_t blocks, size_t logical, uint8_t *state,
-                        size_t state_len, size_t *words, size_t words_len, uint8_t *array, size_t array_len,
+                        size_t state_len, size_t *interface, size_t interface_len, uint8_t *array, size_t array_len,
                         uint8_t *page_register, size_t page_register_len, uint8_t *history, size_t history_len,
                         const uint8_t *mask, size_t mask_len, const uint32_t *fates, size_t fates_len,
                         uint32_t allowed, size_t *sent, size_t sent_len, size_t block, size_t page, uint8_t *buffer,
@@ -106,7 +106,7 @@ size_t flash_store_read(size_t main, size_t spare, size_t pages, size_t blocks, 
  * page changes.
  */
 size_t flash_store_write(size_t main, size_t spare, size_t pages, size_t blocks, size_t logical, uint8_t *state,
-                         size_t state_len, size_t *words, size_t words_len, uint8_t *array, size_t array_len,
+                         size_t state_len, size_t *interface, size_t interface_len, uint8_t *array, size_t array_len,
                          uint8_t *page_register, size_t page_register_len, uint8_t *history, size_t history_len,
                          const uint8_t *mask, size_t mask_len, const uint32_t *fates, size_t fates_len,
                          uint32_t allowed, size_t *sent, size_t sent_len, size_t block, size_t page,
@@ -114,7 +114,7 @@ size_t flash_store_write(size_t main, size_t spare, size_t pages, size_t blocks,
 
 /* Erases logical block `block`: all its pages read FFh. Stored with answer 0; answered 8 to 11, as a write. */
 size_t flash_store_erase(size_t main, size_t spare, size_t pages, size_t blocks, size_t logical, uint8_t *state,
-                         size_t state_len, size_t *words, size_t words_len, uint8_t *array, size_t array_len,
+                         size_t state_len, size_t *interface, size_t interface_len, uint8_t *array, size_t array_len,
                          uint8_t *page_register, size_t page_register_len, uint8_t *history, size_t history_len,
                          const uint8_t *mask, size_t mask_len, const uint32_t *fates, size_t fates_len,
                          uint32_t allowed, size_t *sent, size_t sent_len, size_t block);
@@ -123,8 +123,8 @@ size_t flash_store_erase(size_t main, size_t spare, size_t pages, size_t blocks,
 struct flash_store {
     size_t main, spare, pages, blocks, logical; /* the geometry */
     uint8_t state[FLASH_STORE_STATE_BYTES];
-    size_t words[FLASH_STORE_WORDS]; /* all 0 at power on */
-    uint8_t *array;                  /* (main + spare) x pages x blocks */
+    size_t interface[FLASH_STORE_INTERFACE_WORDS]; /* all 0 at power on */
+    uint8_t *array;                                /* (main + spare) x pages x blocks */
     size_t array_len;
     uint8_t *page_register; /* main + spare */
     size_t page_register_len;
@@ -155,9 +155,10 @@ static inline size_t flash_store_fates_len(const struct flash_store_call *call) 
 /* The two structs as the plain calls take them. */
 #define FLASH_STORE_LENT(store, call)                                                                               \
     (store)->main, (store)->spare, (store)->pages, (store)->blocks, (store)->logical, (store)->state,               \
-        FLASH_STORE_STATE_BYTES, (store)->words, FLASH_STORE_WORDS, (store)->array, (store)->array_len,             \
-        (store)->page_register, (store)->page_register_len, (store)->history, (store)->history_len, (call)->mask,   \
-        (call)->mask_len, flash_store_fates(call), flash_store_fates_len(call), (call)->allowed, &(call)->sent, 1
+        FLASH_STORE_STATE_BYTES, (store)->interface, FLASH_STORE_INTERFACE_WORDS, (store)->array,                   \
+        (store)->array_len, (store)->page_register, (store)->page_register_len, (store)->history,                   \
+        (store)->history_len, (call)->mask, (call)->mask_len, flash_store_fates(call), flash_store_fates_len(call), \
+        (call)->allowed, &(call)->sent, 1
 
 /* Formats. */
 static inline enum flash_store_answer flash_store_do_format(struct flash_store *store, struct flash_store_call *call) {

@@ -1,4 +1,4 @@
-// Random chips, states, interface words, masks, fates and lengths.
+// Random chips, states, interfaces, masks, fates and lengths.
 
 use super::*;
 
@@ -269,7 +269,7 @@ fn other_length(random: &mut Random, right: usize) -> usize {
 pub fn random_wrong(random: &mut Random, geometry: &Geometry) -> Wrong {
     match random.below(7) {
         0 => Wrong::State(other_length(random, STATE_BYTES)),
-        1 => Wrong::Words(other_length(random, WORDS)),
+        1 => Wrong::Interface(other_length(random, INTERFACE_WORDS)),
         2 => Wrong::Sent(other_length(random, 1)),
         3 => Wrong::Array(other_length(random, geometry.chip_bytes())),
         4 => Wrong::Register(other_length(random, geometry.page_bytes())),
@@ -315,16 +315,16 @@ pub fn broken_geometry(random: &mut Random, geometry: &Geometry) -> Geometry {
     }
 }
 
-// ---- states and words ----
+// ---- states and interfaces ----
 
-pub fn random_words(random: &mut Random) -> Vec<u64> {
-    let mut words: Vec<u64> = (0..WORDS).map(|_| random_word(random)).collect();
-    words[PHASE] = match random.below(4) {
+pub fn random_interface(random: &mut Random) -> Vec<u64> {
+    let mut interface: Vec<u64> = (0..INTERFACE_WORDS).map(|_| random_word(random)).collect();
+    interface[PHASE] = match random.below(4) {
         0 | 1 => random.below(3) as u64,
         2 => random.below(10) as u64,
         _ => random_word(random),
     };
-    words
+    interface
 }
 
 fn random_word(random: &mut Random) -> u64 {

@@ -22,7 +22,7 @@ macro_rules! library_call {
     ($name:ident $(, $extra:ident : $kind:ty)*) => {
         fn $name(
             main: usize, spare: usize, pages: usize, blocks: usize, logical: usize,
-            state: Lent<u8>, state_len: usize, words: Lent<u64>, words_len: usize,
+            state: Lent<u8>, state_len: usize, interface: Lent<u64>, interface_len: usize,
             array: Lent<u8>, array_len: usize, page_register: Lent<u8>, page_register_len: usize,
             history: Lent<u8>, history_len: usize, mask: *const u8, mask_len: usize,
             fates: *const u32, fates_len: usize, allowed: u32, sent: Lent<u64>, sent_len: usize
@@ -58,16 +58,16 @@ impl Side {
     // A copy, without an array that is too long to be shown.
     fn shown_part(&self) -> Side {
         let array = if self.chip.array.len() <= LARGEST_SHOWN { self.chip.array.clone() } else { Vec::new() };
-        let words = self.chip.words.clone();
+        let interface = self.chip.interface.clone();
         let (register, history) = (self.chip.register.clone(), self.chip.history.clone());
-        let chip = Chip { words, array, register, history };
+        let chip = Chip { interface, array, register, history };
         Side { state: self.state.clone(), chip, buffer: self.buffer.clone(), sent: self.sent.clone() }
     }
 
     fn restore_lengths(&mut self, kept: &Side) {
         restore(&mut self.state, &kept.state);
         restore(&mut self.sent, &kept.sent);
-        restore(&mut self.chip.words, &kept.chip.words);
+        restore(&mut self.chip.interface, &kept.chip.interface);
         restore(&mut self.chip.array, &kept.chip.array);
         restore(&mut self.chip.register, &kept.chip.register);
         restore(&mut self.chip.history, &kept.chip.history);
@@ -78,7 +78,7 @@ macro_rules! lend {
     ($function:ident, $g:expr, $s:expr, $c:expr $(, $extra:expr)*) => {
         $function(
             $g.main, $g.spare, $g.pages, $g.blocks, $g.logical,
-            $s.state.as_mut_ptr(), $s.state.len(), $s.chip.words.as_mut_ptr(), $s.chip.words.len(),
+            $s.state.as_mut_ptr(), $s.state.len(), $s.chip.interface.as_mut_ptr(), $s.chip.interface.len(),
             $s.chip.array.as_mut_ptr(), $s.chip.array.len(), $s.chip.register.as_mut_ptr(), $s.chip.register.len(),
             $s.chip.history.as_mut_ptr(), $s.chip.history.len(), $c.mask.as_ptr(), $c.mask.len(),
             $c.fates.as_ptr(), $c.fates.len(), $c.allowed, $s.sent.as_mut_ptr(), $s.sent.len()
@@ -246,7 +246,7 @@ fn first_word(name: &str, own: &[u64], library: &[u64]) -> Option<String> {
 
 fn difference(own: &Side, library: &Side) -> Option<String> {
     first_word("sent", &own.sent, &library.sent)
-        .or_else(|| first_word("interface", &own.chip.words, &library.chip.words))
+        .or_else(|| first_word("interface", &own.chip.interface, &library.chip.interface))
         .or_else(|| first_difference("state", &own.state, &library.state))
         .or_else(|| first_difference("history", &own.chip.history, &library.chip.history))
         .or_else(|| first_difference("register", &own.chip.register, &library.chip.register))
@@ -256,7 +256,7 @@ fn difference(own: &Side, library: &Side) -> Option<String> {
 
 fn print_arguments(geometry: &Geometry, request: &Request, call: &Call, before: &Side) {
     println!("{geometry:?} {request:?} allowed {} fates {:X?}", call.allowed, call.fates);
-    println!("words {:?} sent {:?}", before.chip.words, before.sent);
+    println!("interface {:?} sent {:?}", before.chip.interface, before.sent);
     for (name, bytes) in [
         ("mask", &call.mask),
         ("buffer", &before.buffer),
@@ -284,7 +284,7 @@ struct World {
 #[derive(Clone, Copy, PartialEq, Eq, Debug)]
 enum Wrong {
     State(usize),
-    Words(usize),
+    Interface(usize),
     Sent(usize),
     Array(usize),
     Register(usize),
@@ -295,7 +295,7 @@ enum Wrong {
 impl World {
     fn new(geometry: Geometry, array: Vec<u8>) -> World {
         let chip = Chip {
-            words: vec![0; WORDS],
+            interface: vec![0; INTERFACE_WORDS],
             array,
             register: vec![0; geometry.page_bytes()],
             history: vec![0; geometry.blocks],
@@ -388,7 +388,7 @@ impl World {
         let mut call = call.clone();
         match wrong {
             Wrong::State(length) => self.both(|side| side.state.resize(length, 0x11)),
-            Wrong::Words(length) => self.both(|side| side.chip.words.resize(length, 1)),
+            Wrong::Interface(length) => self.both(|side| side.chip.interface.resize(length, 1)),
             Wrong::Sent(length) => self.both(|side| side.sent.resize(length, 7)),
             Wrong::Array(length) => self.both(|side| side.chip.array.resize(length, 0xFF)),
             Wrong::Register(length) => self.both(|side| side.chip.register.resize(length, 0x22)),

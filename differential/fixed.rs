@@ -1,5 +1,5 @@
 // The fixed selection: the paper's bench figures, then every cut, failure and silence of requests on small chips,
-// forged states and words, wrong lengths, a chip with rows past sixteen bits, and random lists.
+// forged states and interfaces, wrong lengths, a chip with rows past sixteen bits, and random lists.
 
 use super::*;
 
@@ -10,7 +10,7 @@ pub fn fixed_selection(run: &mut Run) {
     every_cut(run);
     every_failure(run);
     every_silence(run);
-    words_of_any_phase(run);
+    interface_in_any_phase(run);
     changed_states(run);
     wrong_lengths(run);
     limits(run);
@@ -176,7 +176,7 @@ fn bench_column(run: &mut Run) {
     let call = Call { allowed: 9, ..world.plain() };
     let answer = world.right(run, &Request::Format, &call, &[]);
     expect(run, "a formatting cut at the first address", answer, CUT);
-    expect(run, "column 2,048", world.own.chip.words[ADDRESS_REGISTER], 0x0800);
+    expect(run, "column 2,048", world.own.chip.interface[ADDRESS_REGISTER], 0x0800);
 }
 
 // ---- every place of a request ----
@@ -233,7 +233,7 @@ fn usual(base: &World, request: &Request, fates: &[u32]) -> (u64, usize) {
     let call = Call { fates: fates.to_vec(), ..world.plain() };
     let buffer = buffer_for(&world, request);
     world.right(&mut Run::of_setting(), request, &call, &buffer);
-    (world.own.sent[0], world.own.chip.words[FATES_USED] as usize)
+    (world.own.sent[0], world.own.chip.interface[FATES_USED] as usize)
 }
 
 fn operations(base: &World, request: &Request) -> usize {
@@ -317,19 +317,19 @@ fn every_silence(run: &mut Run) {
     }
 }
 
-// ---- forged words, states and lengths ----
+// ---- forged interfaces, states and lengths ----
 
-fn words_of_any_phase(run: &mut Run) {
+fn interface_in_any_phase(run: &mut Run) {
     let (base, _) = written();
     for phase in (0..10).chain([255, 256, 1 << 32, u64::MAX]) {
         for loaded in [0, 1, 2, u64::MAX] {
             for others in [0, 1, 5, 47, 48, 49, 1 << 40, u64::MAX] {
-                run.origin = format!("interface words in phase {phase}, loaded {loaded}, others {others}");
-                let mut words = vec![others; WORDS];
-                words[PHASE] = phase;
-                words[LOADED] = loaded;
+                run.origin = format!("interface in phase {phase}, loaded {loaded}, others {others}");
+                let mut interface = vec![others; INTERFACE_WORDS];
+                interface[PHASE] = phase;
+                interface[LOADED] = loaded;
                 let mut forged = base.duplicate();
-                forged.both(|side| side.chip.words = words.clone());
+                forged.both(|side| side.chip.interface = interface.clone());
                 calls_in_phase(run, &forged);
             }
         }
@@ -410,7 +410,7 @@ fn wrong_length(geometry: &Geometry, kind: usize, place: usize) -> Wrong {
     let length = |right: usize| [0, right - 1, right + 1, 2 * right, right][place];
     match kind {
         0 => Wrong::State(length(STATE_BYTES)),
-        1 => Wrong::Words(length(WORDS)),
+        1 => Wrong::Interface(length(INTERFACE_WORDS)),
         2 => Wrong::Sent(length(1)),
         3 => Wrong::Array(length(geometry.chip_bytes())),
         4 => Wrong::Register(length(geometry.page_bytes())),
@@ -575,7 +575,7 @@ fn start_after(world: &mut World, last: u64) {
 fn large_rows(run: &mut Run, world: &mut World) {
     for (block, page, row) in [(5, 63, 65_535), (6, 0, 65_536), (7, 1, 1026 * 64 + 1), (3999, 63, 262_143)] {
         world.read(run, block, page);
-        expect(run, "a row", world.own.chip.words[ADDRESS_REGISTER] >> 16, row);
+        expect(run, "a row", world.own.chip.interface[ADDRESS_REGISTER] >> 16, row);
     }
 }
 

@@ -33,7 +33,7 @@ fn random_buffer(random: &mut Random, geometry: &Geometry, request: &Request) ->
     }
 }
 
-// Any call on any chip, state and words.
+// Any call on any chip, state and interface.
 fn wild_list(run: &mut Run, random: &mut Random) {
     let geometry = random_geometry(random);
     let mut world = World::new(geometry, random_array(random, &geometry));
@@ -56,8 +56,8 @@ fn forge(random: &mut Random, world: &mut World) {
         world.both(|side| side.state = state.clone());
     }
     if random.one_in(4) {
-        let words = random_words(random);
-        world.both(|side| side.chip.words = words.clone());
+        let interface = random_interface(random);
+        world.both(|side| side.chip.interface = interface.clone());
     }
 }
 
@@ -150,7 +150,7 @@ fn book_call(run: &mut Run, random: &mut Random, world: &mut World, book: &mut B
 // The interface as it is after power came on, and any bytes in the page register.
 fn power_on(random: &mut Random, world: &mut World) {
     let register = random.bytes(world.geometry.page_bytes());
-    world.both(|side| side.chip.words = vec![0; WORDS]);
+    world.both(|side| side.chip.interface = vec![0; INTERFACE_WORDS]);
     world.both(|side| side.chip.register = register.clone());
 }
 

@@ -1,7 +1,7 @@
 // A second implementation of the flash store: chip model, page layout, mounted state and the five requests.
 
 pub const STATE_BYTES: usize = 9248;
-pub const WORDS: usize = 11;
+pub const INTERFACE_WORDS: usize = 11;
 pub const LAST_NUMBER: u64 = 4_294_967_295;
 
 const MOST_BLOCKS: usize = 4096;
@@ -95,7 +95,7 @@ const ERASING: u64 = 3;
 
 #[derive(Clone, PartialEq, Eq)]
 pub struct Chip {
-    pub words: Vec<u64>,
+    pub interface: Vec<u64>,
     pub array: Vec<u8>,
     pub register: Vec<u8>,
     pub history: Vec<u8>,
@@ -157,11 +157,11 @@ struct Bus<'a> {
 
 impl<'a> Bus<'a> {
     fn word(&self, place: usize) -> u64 {
-        self.chip.words[place]
+        self.chip.interface[place]
     }
 
     fn set(&mut self, place: usize, value: u64) {
-        self.chip.words[place] = value;
+        self.chip.interface[place] = value;
     }
 
     fn due(&mut self) -> Result<(), Stop> {
@@ -1088,7 +1088,7 @@ pub fn call(
     sent: &mut Vec<u64>,
     watch: &mut Watch,
 ) -> usize {
-    if state.len() != STATE_BYTES || chip.words.len() != WORDS || sent.len() != 1 {
+    if state.len() != STATE_BYTES || chip.interface.len() != INTERFACE_WORDS || sent.len() != 1 {
         return BAD_BUFFER;
     }
     sent[0] = 0;
@@ -1098,8 +1098,8 @@ pub fn call(
         return refused;
     }
     if !reads_blank(request, &before) {
-        chip.words[FATES_USED] = 0;
-        chip.words[ILLEGAL_SEEN] = 0;
+        chip.interface[FATES_USED] = 0;
+        chip.interface[ILLEGAL_SEEN] = 0;
     }
     let bus = Bus { geometry: *geometry, chip, call, watch, sent: 0 };
     let mut store = Store { bus, state: before, held: Vec::new(), failed: false };
@@ -1115,7 +1115,7 @@ pub fn call(
     answer
 }
 
-// A read of a logical block without a copy: it sends no cycle and leaves the words as they are.
+// A read of a logical block without a copy: it sends no cycle and leaves the interface as it is.
 fn reads_blank(request: &Request, state: &State) -> bool {
     matches!(request, Request::Read { block, .. } if state.map[*block] == EMPTY)
 }

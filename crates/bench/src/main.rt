@@ -1,13 +1,13 @@
 // The bench: requests from standard input on the small chip, a line printed for each.
 mod lines;
 
-use calls::Returned;
+use chip_interface::Interface;
 use geometry::Geometry;
-use interface::Interface;
 use libc::STDERR_FILENO;
 use libc::STDOUT_FILENO;
 use lines::Line;
 use lines::Request;
+use request::Returned;
 use state::State;
 
 // The allowance that cuts nothing.
@@ -56,7 +56,7 @@ fn write(
     let bytes = [byte; 32];
     let state = before.state;
     let interface = before.interface;
-    writing::write(
+    write::write(
         state,
         small(),
         interface,
@@ -85,7 +85,7 @@ fn read(
     let mut buffer = [0u8; 32];
     let state = before.state;
     let interface = before.interface;
-    reading::read(
+    read::read(
         state,
         small(),
         interface,
@@ -112,7 +112,7 @@ fn erase(
     let fates = [0u32; 0];
     let state = before.state;
     let interface = before.interface;
-    writing::erase(
+    write::erase(
         state,
         small(),
         interface,

@@ -9,9 +9,9 @@ use lib.Dec.{eqb, ltb}
 use lib.ListN.{take}
 use Rattle.geometry.specs.Sizes.{rowCount}
 use Rattle.geometry.specs.declared.Geometry.{Geometry}
-use Rattle.interface.specs.declared.Interface.{Interface}
-use Rattle.interface.specs.Interface.{refused, begun, statusMode, readMode, plainCommand, latched, addressed, started}
-use Rattle.array.specs.Device.{Device, Setting, withPort, illegalCycle, readStarted, programStarted, eraseStarted, lengthsFit, rowAt, completed}
+use Rattle.chip_interface.specs.declared.Interface.{Interface}
+use Rattle.chip_interface.specs.Interface.{refused, begun, statusMode, readMode, plainCommand, latched, addressed, started}
+use Rattle.chip_array.specs.Device.{Device, Setting, withInterface, illegalCycle, readStarted, programStarted, eraseStarted, lengthsFit, rowAt, completed}
 use Rattle.chip.specs.Chip.{Cycle, isConfirm, confirmable, confirmed, commanded, dataTaken, dataGiven, finished, statusRead, exec}
 use Rattle.chip.specs.Chip.Cycle.{command, address, dataIn, dataOut, status}
 use Rattle.bus.specs.Line.{Legal, run}
@@ -21,7 +21,7 @@ record Answered (i j : Interface) : Type 0 where
   answered : (j .illegal ≡ i .illegal) ⊎ (j ≡ refused i)
 
 record AnsweredOf (d e : Device) : Type 0 where
-  answered : (e .port .illegal ≡ d .port .illegal) ⊎ (e ≡ illegalCycle d)
+  answered : (e .interface .illegal ≡ d .interface .illegal) ⊎ (e ≡ illegalCycle d)
 
 same : {i j : Interface} → j .illegal ≡ i .illegal → Answered i j
 same h = record { answered = inl h }
@@ -29,14 +29,14 @@ same h = record { answered = inl h }
 flagged : {i j : Interface} → j ≡ refused i → Answered i j
 flagged h = record { answered = inr h }
 
-same-of : {d e : Device} → e .port .illegal ≡ d .port .illegal → AnsweredOf d e
+same-of : {d e : Device} → e .interface .illegal ≡ d .interface .illegal → AnsweredOf d e
 same-of h = record { answered = inl h }
 
 flagged-of : {d e : Device} → e ≡ illegalCycle d → AnsweredOf d e
 flagged-of h = record { answered = inr h }
 
-port-of : (d : Device) {i : Interface} → Answered (d .port) i → AnsweredOf d (withPort i d)
-port-of d p = record { answered = ⊎-elim inl (λ e. inr (ap (λ (j : Interface). withPort j d) e)) (p .answered) }
+interface-of : (d : Device) {i : Interface} → Answered (d .interface) i → AnsweredOf d (withInterface i d)
+interface-of d p = record { answered = ⊎-elim inl (λ e. inr (ap (λ (j : Interface). withInterface j d) e)) (p .answered) }
 
 -- it holds of both arms of a test
 arms : (i : Interface) (b : Bool) (x y : Interface) → Answered i x → Answered i y → Answered i (cond b x y)
@@ -85,7 +85,7 @@ commanded-answered : (code : ℕ) (s : Setting) (d : Device) → AnsweredOf d (c
 unfolding commanded
 commanded-answered code s d =
     arms-of _ (isConfirm code) _ _ (arms-of _ (confirmable s d) _ _ (confirmed-answered code s d) (flagged-of refl))
-    (port-of d (plain-answered code (d .port)))
+    (interface-of d (plain-answered code (d .interface)))
 
 completed-answered : (g : Geometry) (d : Device) → AnsweredOf d (completed g d)
 unfolding completed
@@ -94,11 +94,11 @@ completed-answered g d = search (arms-of, same-of, flagged-of) depth 9
 status-answered : (g : Geometry) (d : Device) → AnsweredOf d (statusRead g d)
 unfolding statusRead finished
 status-answered g d =
-    arms-of _ (eqb (d .port .phase) 1) _ _ (same-of refl)
-    (arms-of _ (eqb (d .port .phase) 8) _ _
-    (arms-of _ (eqb (d .port .busy) 0) _ _
+    arms-of _ (eqb (d .interface .phase) 1) _ _ (same-of refl)
+    (arms-of _ (eqb (d .interface .phase) 8) _ _
+    (arms-of _ (eqb (d .interface .busy) 0) _ _
     (arms-of _ (lengthsFit g d) _ _
-    (arms-of _ (ltb (rowAt (d .port)) (rowCount g)) _ _ (completed-answered g d) (flagged-of refl))
+    (arms-of _ (ltb (rowAt (d .interface)) (rowCount g)) _ _ (completed-answered g d) (flagged-of refl))
     (flagged-of refl))
     (same-of refl))
     (flagged-of refl))
@@ -106,32 +106,32 @@ status-answered g d =
 exec-answered : (s : Setting) (d : Device) (c : Cycle) → AnsweredOf d (exec s d c)
 unfolding exec dataTaken dataGiven
 exec-answered s d (command code) = commanded-answered code s d
-exec-answered s d (address byte) = port-of d (addressed-answered (s .geometry) byte (d .port))
+exec-answered s d (address byte) = interface-of d (addressed-answered (s .geometry) byte (d .interface))
 exec-answered s d (dataIn byte) = search (arms-of, same-of, flagged-of)
 exec-answered s d dataOut = search (arms-of, same-of, flagged-of)
 exec-answered s d status = status-answered (s .geometry) d
 
 module _ (s : Setting) where
   -- every cycle on every chip leaves the flag as it was, or changes nothing but the flag
-  pub illegal-changes-nothing : (d : Device) (c : Cycle) → (exec s d c .port .illegal ≡ d .port .illegal) ⊎ (exec s d c ≡ illegalCycle d)
+  pub illegal-changes-nothing : (d : Device) (c : Cycle) → (exec s d c .interface .illegal ≡ d .interface .illegal) ⊎ (exec s d c ≡ illegalCycle d)
   illegal-changes-nothing d c = exec-answered s d c .answered
 
-  pub illegal-keeps : (d : Device) (c : Cycle) → d .port .illegal ≡ 0 → (exec s d c .port .illegal ≡ 0 → ⊥) → exec s d c ≡ illegalCycle d
+  pub illegal-keeps : (d : Device) (c : Cycle) → d .interface .illegal ≡ 0 → (exec s d c .interface .illegal ≡ 0 → ⊥) → exec s d c ≡ illegalCycle d
   illegal-keeps d c e n = ⊎-elim (λ f. absurd (n (f ∙ e))) (λ f. f) (illegal-changes-nothing d c)
 
-  legal-before : (d : Device) (c : Cycle) → exec s d c .port .illegal ≡ 0 → d .port .illegal ≡ 0
+  legal-before : (d : Device) (c : Cycle) → exec s d c .interface .illegal ≡ 0 → d .interface .illegal ≡ 0
   legal-before d c h =
       ⊎-elim (λ e. sym e ∙ h)
-      (λ e. let one : exec s d c .port .illegal ≡ 1 = ap (λ (x : Device). x .port .illegal) e in absurd (omega arith))
+      (λ e. let one : exec s d c .interface .illegal ≡ 1 = ap (λ (x : Device). x .interface .illegal) e in absurd (omega arith))
       (illegal-changes-nothing d c)
 
-  pub legal-start : (d : Device) (cs : List Cycle) → run s d cs .port .illegal ≡ 0 → d .port .illegal ≡ 0
+  pub legal-start : (d : Device) (cs : List Cycle) → run s d cs .interface .illegal ≡ 0 → d .interface .illegal ≡ 0
   unfolding run
   legal-start d [] h = h
   legal-start d (c ∷ cs) h = legal-before d c (legal-start (exec s d c) cs h)
 
   -- a run that ends with no illegal answer had none
-  pub legal-run : (d : Device) (cs : List Cycle) → run s d cs .port .illegal ≡ 0 → Legal s d cs
+  pub legal-run : (d : Device) (cs : List Cycle) → run s d cs .interface .illegal ≡ 0 → Legal s d cs
   unfolding run
   legal-run d [] h = tt
   legal-run d (c ∷ cs) h = (legal-start (exec s d c) cs h, legal-run (exec s d c) cs h)
@@ -141,7 +141,7 @@ module _ (s : Setting) where
   legal-first d [] ys g = tt
   legal-first d (x ∷ xs) ys g = (g .0, legal-first (exec s d x) xs ys (g .1))
 
-  pub legal-take : (d : Device) (n : ℕ) (cs : List Cycle) → d .port .illegal ≡ 0 → Legal s d cs → run s d (take n cs) .port .illegal ≡ 0
+  pub legal-take : (d : Device) (n : ℕ) (cs : List Cycle) → d .interface .illegal ≡ 0 → Legal s d cs → run s d (take n cs) .interface .illegal ≡ 0
   unfolding run
   legal-take d zero cs e g = e
   legal-take d (suc n) [] e g = e

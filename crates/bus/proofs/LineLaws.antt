@@ -10,8 +10,8 @@ use borrow.Table.Steps.{cases}
 use lib.Dec.{eqb}
 use lib.ListN.{length, take}
 use Rattle.bools.proofs.BoolLaws.{both}
-use Rattle.interface.specs.declared.Interface.{Interface}
-use Rattle.array.specs.Device.{Device, Setting, device}
+use Rattle.chip_interface.specs.declared.Interface.{Interface}
+use Rattle.chip_array.specs.Device.{Device, Setting, device}
 use Rattle.chip.specs.Chip.{Cycle, exec}
 use Rattle.bus.specs.declared.Bus.{Bus}
 use Rattle.bus.specs.Line.{Line, line, mayGo, admits, cutAfter, blocked, spent, blockedBus, spentBus, send, sendAll, sent, run, goesOn, Going, Legal, uncutLine, cutLine}
@@ -20,12 +20,12 @@ use Rattle.bus.specs.Line.{Line, line, mayGo, admits, cutAfter, blocked,
 pub left-of-admits : (l : Line) → admits l ≡ true → 0 < l .left
 unfolding mayGo
 left-of-admits l h =
-    ltb-true 0 (l .left) (both (eqb (l .chip .port .illegal) 0) _ (both (eqb (l .cut) 0) _ h .1) .1)
+    ltb-true 0 (l .left) (both (eqb (l .chip .interface .illegal) 0) _ (both (eqb (l .cut) 0) _ h .1) .1)
 
 pub going : (l : Line) → goesOn l ≡ true → Going l
 unfolding goesOn
 going l h =
-    let b = both (eqb (l .cut) 0) (eqb (l .chip .port .illegal) 0) h in
+    let b = both (eqb (l .cut) 0) (eqb (l .chip .interface .illegal) 0) h in
     record { uncut = eqb-true _ _ (b .0); legal = eqb-true _ _ (b .1) }
 
 pub goes : (l : Line) → Going l → goesOn l ≡ true
@@ -45,7 +45,7 @@ pub admits-stopped : (l : Line) → goesOn l ≡ false → admits l ≡ false
 unfolding goesOn mayGo
 admits-stopped l h =
     cases (eqb (l .cut) 0)
-    (λ a. cases (eqb (l .chip .port .illegal) 0) (λ b. absurd (true≢false (sym (rw (a, b)) ∙ h))) (λ b. rw (a, b)))
+    (λ a. cases (eqb (l .chip .interface .illegal) 0) (λ b. absurd (true≢false (sym (rw (a, b)) ∙ h))) (λ b. rw (a, b)))
     (λ a. rw a)
 
 pub blocked-stopped : (l : Line) → goesOn l ≡ false → blocked l ≡ l
@@ -53,7 +53,7 @@ unfolding goesOn cutAfter
 blocked-stopped l h =
     ap (λ (k : ℕ). record { chip = l .chip; left = l .left; cut = k })
     (cases (eqb (l .cut) 0)
-    (λ a. cases (eqb (l .chip .port .illegal) 0) (λ b. absurd (true≢false (sym (rw (a, b)) ∙ h))) (λ b. rw (a, b) (sym (eqb-true _ _ a))))
+    (λ a. cases (eqb (l .chip .interface .illegal) 0) (λ b. absurd (true≢false (sym (rw (a, b)) ∙ h))) (λ b. rw (a, b) (sym (eqb-true _ _ a))))
     (λ a. rw a))
 
 -- after a cycle that was not sent no other is
@@ -61,7 +61,7 @@ pub blocked-stops : (l : Line) → goesOn (blocked l) ≡ false
 unfolding goesOn cutAfter
 blocked-stops l =
     cases (eqb (l .cut) 0)
-    (λ a. cases (eqb (l .chip .port .illegal) 0) (λ b. rw (a, b)) (λ b. rw (a, b)))
+    (λ a. cases (eqb (l .chip .interface .illegal) 0) (λ b. rw (a, b)) (λ b. rw (a, b)))
     (λ a. rw (a, a))
 
 module _ (s : Setting) where
@@ -111,23 +111,23 @@ module _ (s : Setting) where
       (λ h. rw h (omega (arith, ap (λ (x : Line). x .left) (ap (λ (x : Line). sendAll s x cs) (send-off l c h) ∙ sendAll-stopped (blocked l) cs (blocked-stops l)))))
 
   -- one legal cycle, and one that is cut off
-  pub send-one : (d : Device) (n : ℕ) (c : Cycle) → d .port .illegal ≡ 0 → send s (uncutLine d (suc n)) c ≡ uncutLine (exec s d c) n
+  pub send-one : (d : Device) (n : ℕ) (c : Cycle) → d .interface .illegal ≡ 0 → send s (uncutLine d (suc n)) c ≡ uncutLine (exec s d c) n
   send-one d n c e =
       send-on (uncutLine d (suc n)) c (admits-more (uncutLine d (suc n)) (record { uncut = refl; legal = e }) (omega arith))
       ∙ ap (uncutLine (exec s d c)) (omega arith)
 
-  pub send-none : (d : Device) (c : Cycle) → d .port .illegal ≡ 0 → send s (uncutLine d 0) c ≡ cutLine d
+  pub send-none : (d : Device) (c : Cycle) → d .interface .illegal ≡ 0 → send s (uncutLine d 0) c ≡ cutLine d
   unfolding cutAfter
   send-none d c e =
       send-off (uncutLine d 0) c (admits-none (uncutLine d 0) (record { uncut = refl; legal = e }) refl)
-      ∙ rw (eq-eqb (d .port .illegal) 0 e)
+      ∙ rw (eq-eqb (d .interface .illegal) 0 e)
 
   pub cut-stays : (d : Device) (cs : List Cycle) → sendAll s (cutLine d) cs ≡ cutLine d
   unfolding goesOn
   cut-stays d cs = sendAll-stopped (cutLine d) cs refl
 
   -- a run of legal cycles that the allowance covers
-  pub run-uncut : (d : Device) (n : ℕ) (cs : List Cycle) → d .port .illegal ≡ 0 → Legal s d cs → length cs ≤ n → sendAll s (uncutLine d n) cs ≡ uncutLine (run s d cs) (n - length cs)
+  pub run-uncut : (d : Device) (n : ℕ) (cs : List Cycle) → d .interface .illegal ≡ 0 → Legal s d cs → length cs ≤ n → sendAll s (uncutLine d n) cs ≡ uncutLine (run s d cs) (n - length cs)
   unfolding sendAll run
   run-uncut d n [] e g h = rw sub-zero
   run-uncut d zero (c ∷ cs) e g h = absurd (omega arith)
@@ -136,14 +136,14 @@ module _ (s : Setting) where
       (run-uncut (exec s d c) n cs (g .0) (g .1) (omega arith) ∙ ap (uncutLine (run s (exec s d c) cs)) (omega arith))
 
   -- one that the allowance does not cover is the run of as many cycles as it does, and then the cut
-  pub run-cut : (d : Device) (n : ℕ) (cs : List Cycle) → d .port .illegal ≡ 0 → Legal s d cs → n < length cs → sendAll s (uncutLine d n) cs ≡ cutLine (run s d (take n cs))
+  pub run-cut : (d : Device) (n : ℕ) (cs : List Cycle) → d .interface .illegal ≡ 0 → Legal s d cs → n < length cs → sendAll s (uncutLine d n) cs ≡ cutLine (run s d (take n cs))
   unfolding sendAll run
   run-cut d n [] e g h = absurd (omega arith)
   run-cut d zero (c ∷ cs) e g h = rw (send-none d c e) (cut-stays d cs)
   run-cut d (suc n) (c ∷ cs) e g h = rw (send-one d n c e) (run-cut (exec s d c) n cs (g .0) (g .1) (omega arith))
 
   -- the cycles sent are the first of the list, as many as the allowance covers
-  pub sent-first : (d : Device) (n : ℕ) (cs : List Cycle) → d .port .illegal ≡ 0 → Legal s d cs → sent s (uncutLine d n) cs ≡ take n cs
+  pub sent-first : (d : Device) (n : ℕ) (cs : List Cycle) → d .interface .illegal ≡ 0 → Legal s d cs → sent s (uncutLine d n) cs ≡ take n cs
   unfolding sent
   sent-first d zero [] e g = refl
   sent-first d (suc n) [] e g = refl

@@ -7,9 +7,9 @@ use borrow.Author.Tests.{not-true}
 use lib.Dec.{eqb}
 use lib.ListN.{take, replicate}
 use Rattle.geometry.specs.declared.Geometry.{Geometry}
-use Rattle.interface.specs.declared.Interface.{Interface}
-use Rattle.interface.specs.Interface.{beginning, begun, statusMode, readMode, plainCommand, latched, addressed}
-use Rattle.array.specs.Device.{Device, Setting}
+use Rattle.chip_interface.specs.declared.Interface.{Interface}
+use Rattle.chip_interface.specs.Interface.{beginning, begun, statusMode, readMode, plainCommand, latched, addressed}
+use Rattle.chip_array.specs.Device.{Device, Setting}
 use Rattle.chip.specs.Chip.{Cycle, isConfirm, commanded, dataTaken, dataGiven, exec}
 use Rattle.chip.specs.Chip.Cycle.{command, address, dataIn, dataOut, status}
 use Rattle.bus.specs.Line.{run, still, AllStill, Quiet}
@@ -59,14 +59,14 @@ addressed-fate g b i =
     (arms _ (eqb (i .first) (i .column)) _ _ (latched-fate g b (beginning 3 0 i)) (kept refl))
     (kept refl))))
 
-same : {d e : Device} → e .array ≡ d .array → e .history ≡ d .history → e .port .fate ≡ d .port .fate → Quiet d e
+same : {d e : Device} → e .array ≡ d .array → e .history ≡ d .history → e .interface .fate ≡ d .interface .fate → Quiet d e
 same a h f = record { array = a; history = h; fate = f }
 
 pub still-quiet : (s : Setting) (d : Device) (c : Cycle) → still c ≡ true → Quiet d (exec s d c)
 unfolding still exec commanded dataTaken dataGiven
 still-quiet s d (command code) h =
-    rw (not-true (isConfirm code) h) (same refl refl (plain-fate code (d .port) .fate))
-still-quiet s d (address byte) h = same refl refl (addressed-fate (s .geometry) byte (d .port) .fate)
+    rw (not-true (isConfirm code) h) (same refl refl (plain-fate code (d .interface) .fate))
+still-quiet s d (address byte) h = same refl refl (addressed-fate (s .geometry) byte (d .interface) .fate)
 still-quiet s d (dataIn byte) h = search (arms-quiet, same)
 still-quiet s d dataOut h = search (arms-quiet, same)
 still-quiet s d status h = absurd (false≢true h)

@@ -14,9 +14,9 @@ use lib.Seq.{sets}
 use Rattle.geometry.specs.declared.Geometry.{Geometry}
 use Rattle.geometry.specs.Sizes.{pageSize, blockSize, rowCount, columnBytes, rowBytes}
 use Rattle.cells.specs.Cells.{programmed, weakened, raised}
-use Rattle.interface.specs.declared.Interface.{Interface}
-use Rattle.interface.specs.Interface.{beginning, begun, inPhase, readMode, statusMode, outputResumed, plainCommand, shifted, moreAddress, fullAddress, addressFits, latched, addressed, afterReset, started}
-use Rattle.array.specs.Device.{Device, Setting, device, withPort, lengthsFit, rowAt, blockAt, pageAt, addressedPage, withPage, blockOf, withBlock, completed, readStarted, programStarted, eraseStarted}
+use Rattle.chip_interface.specs.declared.Interface.{Interface}
+use Rattle.chip_interface.specs.Interface.{beginning, begun, inPhase, readMode, statusMode, outputResumed, plainCommand, shifted, moreAddress, fullAddress, addressFits, latched, addressed, afterReset, started}
+use Rattle.chip_array.specs.Device.{Device, Setting, device, withInterface, lengthsFit, rowAt, blockAt, pageAt, addressedPage, withPage, blockOf, withBlock, completed, readStarted, programStarted, eraseStarted}
 use Rattle.chip.specs.Chip.{exec, commanded, isConfirm, nextColumn, dataTaken, dataGiven, lessBusy, finished, statusRead, confirmable, confirmed}
 use Rattle.chip.specs.Chip.Cycle.{command, address, dataIn, dataOut, status}
 use Rattle.bus.specs.Line.{run}
@@ -52,33 +52,33 @@ address-number c r hc hr = rw (column-number c hc) (row-number c r hr)
 
 module _ (s : Setting) (d : Device) where
   -- 80h and 60h
-  pub begin-program : d .port .phase ≤ 2 → exec s d (command 128) ≡ withPort (beginning 4 0 (d .port)) d
+  pub begin-program : d .interface .phase ≤ 2 → exec s d (command 128) ≡ withInterface (beginning 4 0 (d .interface)) d
   unfolding exec commanded isConfirm plainCommand begun
   begin-program h = rw (le-leb _ _ h)
 
-  pub begin-erase : d .port .phase ≤ 2 → exec s d (command 96) ≡ withPort (beginning 5 2 (d .port)) d
+  pub begin-erase : d .interface .phase ≤ 2 → exec s d (command 96) ≡ withInterface (beginning 5 2 (d .interface)) d
   unfolding exec commanded isConfirm plainCommand begun
   begin-erase h = rw (le-leb _ _ h)
 
   -- 00h where no page is loaded, and where one is
-  pub begin-read : d .port .phase ≤ 2 → eqb (d .port .loaded) 1 ≡ false → exec s d (command 0) ≡ withPort (beginning 3 0 (d .port)) d
+  pub begin-read : d .interface .phase ≤ 2 → eqb (d .interface .loaded) 1 ≡ false → exec s d (command 0) ≡ withInterface (beginning 3 0 (d .interface)) d
   unfolding exec commanded isConfirm plainCommand readMode
   begin-read h e = rw (le-leb _ _ h, e)
 
-  pub resume-output : d .port .phase ≤ 2 → eqb (d .port .loaded) 1 ≡ true → exec s d (command 0) ≡ withPort (outputResumed (d .port)) d
+  pub resume-output : d .interface .phase ≤ 2 → eqb (d .interface .loaded) 1 ≡ true → exec s d (command 0) ≡ withInterface (outputResumed (d .interface)) d
   unfolding exec commanded isConfirm plainCommand readMode
   resume-output h e = rw (le-leb _ _ h, e)
 
-  pub one-address : (b : ℕ) (i : Interface) → taking (i .phase) ≡ true → i .count < 4 → exec s (withPort i d) (address b) ≡ withPort (moreAddress (shifted b (i .address)) i) d
+  pub one-address : (b : ℕ) (i : Interface) → taking (i .phase) ≡ true → i .count < 4 → exec s (withInterface i d) (address b) ≡ withInterface (moreAddress (shifted b (i .address)) i) d
   unfolding exec latched
   one-address b i t h = rw (addressed-latched (s .geometry) b i t, lt-leb 5 (i .count) (omega arith), lt-ltb (i .count) 4 h)
 
-  pub last-address : (b : ℕ) (i : Interface) → taking (i .phase) ≡ true → i .count ≡ 4 → addressFits (s .geometry) (shifted b (i .address)) ≡ true → exec s (withPort i d) (address b) ≡ withPort (fullAddress (shifted b (i .address)) i) d
+  pub last-address : (b : ℕ) (i : Interface) → taking (i .phase) ≡ true → i .count ≡ 4 → addressFits (s .geometry) (shifted b (i .address)) ≡ true → exec s (withInterface i d) (address b) ≡ withInterface (fullAddress (shifted b (i .address)) i) d
   unfolding exec latched
   last-address b i t h f = rw (addressed-latched (s .geometry) b i t, lt-leb 5 (i .count) (omega arith), le-ltb (i .count) 4 (omega arith), f)
 
   -- two column bytes and three row bytes
-  pub five-bytes : (p c r : ℕ) (i : Interface) → taking p ≡ true → c < 65536 → r < 16777216 → addressFits (s .geometry) (c + r * 65536) ≡ true → run s (withPort (beginning p 0 i) d) (map address (columnBytes c ++ rowBytes r)) ≡ withPort (fullAddress (c + r * 65536) (beginning p 0 i)) d
+  pub five-bytes : (p c r : ℕ) (i : Interface) → taking p ≡ true → c < 65536 → r < 16777216 → addressFits (s .geometry) (c + r * 65536) ≡ true → run s (withInterface (beginning p 0 i) d) (map address (columnBytes c ++ rowBytes r)) ≡ withInterface (fullAddress (c + r * 65536) (beginning p 0 i)) d
   unfolding run
   five-bytes p c r i t hc hr f =
       let i₀ = beginning p 0 i in
@@ -94,9 +94,9 @@ module _ (s : Setting) (d : Device) where
         one-address (r / 256 % 256) i₃ t (omega arith),
         last-address (r / 256 / 256 % 256) i₄ t refl (rw n f),
       )
-      (ap (λ (a : ℕ). withPort (fullAddress a i₀) d) n)
+      (ap (λ (a : ℕ). withInterface (fullAddress a i₀) d) n)
 
-  pub three-bytes : (r : ℕ) (i : Interface) → r < 16777216 → addressFits (s .geometry) (r * 65536) ≡ true → run s (withPort (beginning 5 2 i) d) (map address (rowBytes r)) ≡ withPort (fullAddress (r * 65536) (beginning 5 2 i)) d
+  pub three-bytes : (r : ℕ) (i : Interface) → r < 16777216 → addressFits (s .geometry) (r * 65536) ≡ true → run s (withInterface (beginning 5 2 i) d) (map address (rowBytes r)) ≡ withInterface (fullAddress (r * 65536) (beginning 5 2 i)) d
   unfolding run
   three-bytes r i hr f =
       let i₀ = beginning 5 2 i in
@@ -108,7 +108,7 @@ module _ (s : Setting) (d : Device) where
         one-address (r / 256 % 256) i₁ refl (omega arith),
         last-address (r / 256 / 256 % 256) i₂ refl refl (rw n f),
       )
-      (ap (λ (a : ℕ). withPort (fullAddress a i₀) d) n)
+      (ap (λ (a : ℕ). withInterface (fullAddress a i₀) d) n)
 
 module _ (s : Setting) where
   one-in : (x : ℕ) (i : Interface) (a r h : List ℕ) → i .phase ≡ 6 → i .column < length r → exec s (device i a r h) (dataIn x) ≡ device (nextColumn i) a (set r (i .column) x) h
@@ -150,45 +150,45 @@ module _ (s : Setting) where
       ∙ (busy-reads n (lessBusy i) a r h p (omega arith) ∙ ap (λ (k : ℕ). device (busyWith k i) a r h) (omega arith))
 
   -- the status read that reports ready
-  pub ready-read : (d : Device) → d .port .phase ≡ 8 → d .port .busy ≡ 0 → lengthsFit (s .geometry) d ≡ true → rowAt (d .port) < rowCount (s .geometry) → exec s d status ≡ completed (s .geometry) d
+  pub ready-read : (d : Device) → d .interface .phase ≡ 8 → d .interface .busy ≡ 0 → lengthsFit (s .geometry) d ≡ true → rowAt (d .interface) < rowCount (s .geometry) → exec s d status ≡ completed (s .geometry) d
   unfolding exec statusRead finished
   ready-read d p q f r =
       rw (
-        ne-eqb (d .port .phase) 1 (λ e. omega (arith, e)),
-        eq-eqb (d .port .phase) 8 p,
-        eq-eqb (d .port .busy) 0 q,
+        ne-eqb (d .interface .phase) 1 (λ e. omega (arith, e)),
+        eq-eqb (d .interface .phase) 8 p,
+        eq-eqb (d .interface .busy) 0 q,
         f,
         lt-ltb _ _ r,
       )
 
   -- FFh, in every phase
-  pub reset-command : (d : Device) → exec s d (command 255) ≡ withPort (afterReset (d .port)) d
+  pub reset-command : (d : Device) → exec s d (command 255) ≡ withInterface (afterReset (d .interface)) d
   unfolding exec commanded isConfirm plainCommand
   reset-command d = refl
 
   -- 70h when ready, and after a confirm cycle
-  pub status-ready : (d : Device) → d .port .phase ≤ 2 → exec s d (command 112) ≡ withPort (inPhase 1 (d .port)) d
+  pub status-ready : (d : Device) → d .interface .phase ≤ 2 → exec s d (command 112) ≡ withInterface (inPhase 1 (d .interface)) d
   unfolding exec commanded isConfirm plainCommand statusMode
   status-ready d h = rw (le-leb _ _ h)
 
-  pub status-busy : (d : Device) → d .port .phase ≡ 7 → exec s d (command 112) ≡ withPort (inPhase 8 (d .port)) d
+  pub status-busy : (d : Device) → d .interface .phase ≡ 7 → exec s d (command 112) ≡ withInterface (inPhase 8 (d .interface)) d
   unfolding exec commanded isConfirm plainCommand statusMode
-  status-busy d h = rw (lt-leb (d .port .phase) 2 (omega arith), eq-eqb (d .port .phase) 7 h)
+  status-busy d h = rw (lt-leb (d .interface .phase) 2 (omega arith), eq-eqb (d .interface .phase) 7 h)
 
   -- the lengths and the row that every confirm cycle wants
-  confirm-allowed : (d : Device) → lengthsFit (s .geometry) d ≡ true → length (s .mask) ≡ blockSize (s .geometry) → rowAt (d .port) < rowCount (s .geometry) → confirmable s d ≡ true
+  confirm-allowed : (d : Device) → lengthsFit (s .geometry) d ≡ true → length (s .mask) ≡ blockSize (s .geometry) → rowAt (d .interface) < rowCount (s .geometry) → confirmable s d ≡ true
   unfolding confirmable
   confirm-allowed d f m r = rw (f, eq-eqb _ _ m, lt-ltb _ _ r)
 
-  pub confirm-read : (d : Device) → lengthsFit (s .geometry) d ≡ true → length (s .mask) ≡ blockSize (s .geometry) → rowAt (d .port) < rowCount (s .geometry) → d .port .phase ≡ 3 → d .port .count ≡ 5 → exec s d (command 48) ≡ device (started 1 (s .fates) (d .port)) (d .array) (addressedPage (s .geometry) d) (d .history)
+  pub confirm-read : (d : Device) → lengthsFit (s .geometry) d ≡ true → length (s .mask) ≡ blockSize (s .geometry) → rowAt (d .interface) < rowCount (s .geometry) → d .interface .phase ≡ 3 → d .interface .count ≡ 5 → exec s d (command 48) ≡ device (started 1 (s .fates) (d .interface)) (d .array) (addressedPage (s .geometry) d) (d .history)
   unfolding exec commanded isConfirm confirmed readStarted
   confirm-read d f m r p n = rw (confirm-allowed d f m r, eq-eqb _ _ p, eq-eqb _ _ n)
 
-  pub confirm-program : (d : Device) → lengthsFit (s .geometry) d ≡ true → length (s .mask) ≡ blockSize (s .geometry) → rowAt (d .port) < rowCount (s .geometry) → d .port .phase ≡ 6 → d .port .first ≡ 0 → d .port .column ≡ pageSize (s .geometry) → getD (d .history) (blockAt (s .geometry) (d .port)) 0 ≤ pageAt (s .geometry) (d .port) → exec s d (command 16) ≡ device (started 2 (s .fates) (d .port)) (withPage (s .geometry) d (programmed (addressedPage (s .geometry) d) (weakened (d .register) (s .mask)))) (d .register) (set (d .history) (blockAt (s .geometry) (d .port)) (pageAt (s .geometry) (d .port) + 1))
+  pub confirm-program : (d : Device) → lengthsFit (s .geometry) d ≡ true → length (s .mask) ≡ blockSize (s .geometry) → rowAt (d .interface) < rowCount (s .geometry) → d .interface .phase ≡ 6 → d .interface .first ≡ 0 → d .interface .column ≡ pageSize (s .geometry) → getD (d .history) (blockAt (s .geometry) (d .interface)) 0 ≤ pageAt (s .geometry) (d .interface) → exec s d (command 16) ≡ device (started 2 (s .fates) (d .interface)) (withPage (s .geometry) d (programmed (addressedPage (s .geometry) d) (weakened (d .register) (s .mask)))) (d .register) (set (d .history) (blockAt (s .geometry) (d .interface)) (pageAt (s .geometry) (d .interface) + 1))
   unfolding exec commanded isConfirm confirmed programStarted
   confirm-program d f m r p n c h =
       rw (confirm-allowed d f m r, eq-eqb _ _ p, eq-eqb _ _ n, eq-eqb _ _ c, le-leb _ _ h)
 
-  pub confirm-erase : (d : Device) → lengthsFit (s .geometry) d ≡ true → length (s .mask) ≡ blockSize (s .geometry) → rowAt (d .port) < rowCount (s .geometry) → d .port .phase ≡ 5 → d .port .count ≡ 5 → exec s d (command 208) ≡ device (started 3 (s .fates) (d .port)) (withBlock (s .geometry) d (raised (blockOf (s .geometry) d) (s .mask))) (d .register) (set (d .history) (blockAt (s .geometry) (d .port)) 255)
+  pub confirm-erase : (d : Device) → lengthsFit (s .geometry) d ≡ true → length (s .mask) ≡ blockSize (s .geometry) → rowAt (d .interface) < rowCount (s .geometry) → d .interface .phase ≡ 5 → d .interface .count ≡ 5 → exec s d (command 208) ≡ device (started 3 (s .fates) (d .interface)) (withBlock (s .geometry) d (raised (blockOf (s .geometry) d) (s .mask))) (d .register) (set (d .history) (blockAt (s .geometry) (d .interface)) 255)
   unfolding exec commanded isConfirm confirmed eraseStarted
   confirm-erase d f m r p n = rw (confirm-allowed d f m r, eq-eqb _ _ p, eq-eqb _ _ n)

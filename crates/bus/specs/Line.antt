@@ -4,9 +4,9 @@ use mathlib.Core.Bool.{Bool, true, false, cond, not}
 use mathlib.Core.List.{List, [], _∷_}
 use mathlib.Core.Path.{_≡_}
 use lib.Dec.{eqb, ltb}
-use Rattle.interface.specs.declared.Interface.{Interface}
+use Rattle.chip_interface.specs.declared.Interface.{Interface}
 use Rattle.bus.specs.declared.Bus.{Bus}
-use Rattle.array.specs.Device.{Device, Setting, device}
+use Rattle.chip_array.specs.Device.{Device, Setting, device}
 use Rattle.chip.specs.Chip.{Cycle, exec, isConfirm, dataByte, statusShown}
 use Rattle.chip.specs.Chip.Cycle.{command, address, dataIn, dataOut, status}
 
@@ -24,14 +24,14 @@ unfoldable pub mayGo : ℕ → ℕ → ℕ → Bool
 mayGo cut illegal left = cond (eqb cut 0) (cond (eqb illegal 0) (ltb 0 left) false) false
 
 abbrev pub admits : Line → Bool
-admits l = mayGo (l .cut) (l .chip .port .illegal) (l .left)
+admits l = mayGo (l .cut) (l .chip .interface .illegal) (l .left)
 
 -- otherwise nothing is sent, and where the allowance was the reason the run is cut
 unfoldable pub cutAfter : ℕ → ℕ → ℕ
 cutAfter cut illegal = cond (eqb cut 0) (cond (eqb illegal 0) 1 0) cut
 
 abbrev pub blocked : Line → Line
-blocked l = record { chip = l .chip; left = l .left; cut = cutAfter (l .cut) (l .chip .port .illegal) }
+blocked l = record { chip = l .chip; left = l .left; cut = cutAfter (l .cut) (l .chip .interface .illegal) }
 
 abbrev pub spent : Line → Device → Line
 spent l d = record { chip = d; left = l .left - 1; cut = l .cut }
@@ -57,7 +57,7 @@ unfoldable pub byteOut : Line → ℕ
 byteOut l = cond (admits l) (dataByte (l .chip)) 0
 
 unfoldable pub statusOut : Line → ℕ
-statusOut l = cond (admits l) (statusShown (l .chip .port)) 0
+statusOut l = cond (admits l) (statusShown (l .chip .interface)) 0
 
 -- a list of cycles
 unfoldable pub sendAll : Setting → Line → List Cycle → Line
@@ -76,16 +76,16 @@ run s d (c ∷ cs) = run s (exec s d c) cs
 
 -- no cycle was cut off or answered illegal
 unfoldable pub goesOn : Line → Bool
-goesOn l = cond (eqb (l .cut) 0) (eqb (l .chip .port .illegal) 0) false
+goesOn l = cond (eqb (l .cut) 0) (eqb (l .chip .interface .illegal) 0) false
 
 pub record Going (l : Line) : Type 0 where
   pub uncut : l .cut ≡ 0
-  pub legal : l .chip .port .illegal ≡ 0
+  pub legal : l .chip .interface .illegal ≡ 0
 
 -- no cycle of the list is answered illegal
 abbrev pub Legal : Setting → Device → List Cycle → Type 0
 Legal s d [] = Unit {0}
-Legal s d (c ∷ cs) = (exec s d c .port .illegal ≡ 0) × Legal s (exec s d c) cs
+Legal s d (c ∷ cs) = (exec s d c .interface .illegal ≡ 0) × Legal s (exec s d c) cs
 
 -- a run that is not cut, and one that is
 abbrev pub uncutLine : Device → ℕ → Line
@@ -109,4 +109,4 @@ AllStill (c ∷ cs) = (still c ≡ true) × AllStill cs
 pub record Quiet (d e : Device) : Type 0 where
   pub array : e .array ≡ d .array
   pub history : e .history ≡ d .history
-  pub fate : e .port .fate ≡ d .port .fate
+  pub fate : e .interface .fate ≡ d .interface .fate

@@ -1,10 +1,10 @@
 // The bus of one call: the chip's interface, and how many cycles are left before the call is cut.
+use chip_interface::Interface;
 use geometry::Geometry;
-use interface::Interface;
 ghost use mathlib.Core.Path.{_≡_};
 ghost use mathlib.Core.List.{List};
 ghost use Prim.Native.Nat.{ℕ, _<_};
-ghost use Rattle.array.specs.Device.{Setting, setting};
+ghost use Rattle.chip_array.specs.Device.{Setting, setting};
 ghost use Rattle.chip.specs.Chip.{Cycle};
 ghost use Rattle.bus.specs.Line.{line, goesOn, mayGo, spentBus, blockedBus, send, byteOut, statusOut, newBus};
 

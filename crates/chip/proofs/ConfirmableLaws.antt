@@ -6,14 +6,14 @@ use borrow.Author.Tests.{eqb-true, ltb-true}
 use lib.ListN.{length}
 use Rattle.geometry.specs.Sizes.{blockSize, rowCount}
 use Rattle.bools.proofs.BoolLaws.{both}
-use Rattle.array.specs.Device.{Device, Setting, Fitting, rowAt}
+use Rattle.chip_array.specs.Device.{Device, Setting, Fitting, rowAt}
 use Rattle.chip.specs.Chip.{confirmable}
-use Rattle.array.proofs.DeviceLaws.{fits}
+use Rattle.chip_array.proofs.DeviceLaws.{fits}
 
 -- the test of a confirm cycle and the facts it stands for
 pub confirms : (s : Setting) (d : Device) → confirmable s d ≡ true
     → Fitting (s .geometry) (length (d .array)) (length (d .register)) (length (d .history))
-    × ((length (s .mask) ≡ blockSize (s .geometry)) × (rowAt (d .port) < rowCount (s .geometry)))
+    × ((length (s .mask) ≡ blockSize (s .geometry)) × (rowAt (d .interface) < rowCount (s .geometry)))
 unfolding confirmable
 confirms s d t₀ =
     let t₁ = both _ _ t₀ in

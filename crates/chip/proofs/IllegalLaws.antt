@@ -7,37 +7,37 @@ use borrow.Table.Steps.{cases}
 use lib.Dec.{eqb}
 use lib.ListN.{length}
 use Rattle.geometry.specs.Sizes.{blockSize, rowCount}
-use Rattle.array.specs.Device.{Device, Setting, Fitting, illegalCycle, rowAt}
+use Rattle.chip_array.specs.Device.{Device, Setting, Fitting, illegalCycle, rowAt}
 use Rattle.chip.specs.Chip.{isConfirm, confirmable, commanded, dataTaken, dataGiven, statusRead}
 use Rattle.chip.proofs.ConfirmableLaws.{confirms}
 
 -- 30h, 10h and D0h where array, register, history or mask has another length than the geometry asks, or the row is none of the chip
 pub confirm-unfit : (code : ℕ) (s : Setting) (d : Device) → isConfirm code ≡ true
-    → (Fitting (s .geometry) (length (d .array)) (length (d .register)) (length (d .history)) × ((length (s .mask) ≡ blockSize (s .geometry)) × (rowAt (d .port) < rowCount (s .geometry))) → ⊥)
+    → (Fitting (s .geometry) (length (d .array)) (length (d .register)) (length (d .history)) × ((length (s .mask) ≡ blockSize (s .geometry)) × (rowAt (d .interface) < rowCount (s .geometry))) → ⊥)
     → commanded code s d ≡ illegalCycle d
 unfolding commanded
 confirm-unfit code s d c n = cases (confirmable s d) (λ t. absurd (n (confirms s d t))) (λ t. rw (c, t))
 
 module _ (d : Device) where
   -- data in anywhere but after 80h and its address, and past the last column
-  pub data-in-elsewhere : (byte : ℕ) → (d .port .phase ≡ 6 → ⊥) → dataTaken byte d ≡ illegalCycle d
+  pub data-in-elsewhere : (byte : ℕ) → (d .interface .phase ≡ 6 → ⊥) → dataTaken byte d ≡ illegalCycle d
   unfolding dataTaken
   data-in-elsewhere byte n = rw (ne-eqb _ _ n)
 
-  pub data-in-past : (byte : ℕ) → length (d .register) ≤ d .port .column → dataTaken byte d ≡ illegalCycle d
+  pub data-in-past : (byte : ℕ) → length (d .register) ≤ d .interface .column → dataTaken byte d ≡ illegalCycle d
   unfolding dataTaken
-  data-in-past byte h = rw (le-ltb _ _ h) (cases (eqb (d .port .phase) 6) (λ a. rw a) (λ a. rw a))
+  data-in-past byte h = rw (le-ltb _ _ h) (cases (eqb (d .interface .phase) 6) (λ a. rw a) (λ a. rw a))
 
   -- data out anywhere but after 00h with a page in the register, and past the last column
-  pub data-out-elsewhere : (d .port .phase ≡ 2 → ⊥) → dataGiven d ≡ illegalCycle d
+  pub data-out-elsewhere : (d .interface .phase ≡ 2 → ⊥) → dataGiven d ≡ illegalCycle d
   unfolding dataGiven
   data-out-elsewhere n = rw (ne-eqb _ _ n)
 
-  pub data-out-past : length (d .register) ≤ d .port .column → dataGiven d ≡ illegalCycle d
+  pub data-out-past : length (d .register) ≤ d .interface .column → dataGiven d ≡ illegalCycle d
   unfolding dataGiven
-  data-out-past h = rw (le-ltb _ _ h) (cases (eqb (d .port .phase) 2) (λ a. rw a) (λ a. rw a))
+  data-out-past h = rw (le-ltb _ _ h) (cases (eqb (d .interface .phase) 2) (λ a. rw a) (λ a. rw a))
 
 -- a status read without 70h
-pub status-elsewhere : (s : Setting) (d : Device) → (d .port .phase ≡ 1 → ⊥) → (d .port .phase ≡ 8 → ⊥) → statusRead (s .geometry) d ≡ illegalCycle d
+pub status-elsewhere : (s : Setting) (d : Device) → (d .interface .phase ≡ 1 → ⊥) → (d .interface .phase ≡ 8 → ⊥) → statusRead (s .geometry) d ≡ illegalCycle d
 unfolding statusRead
 status-elsewhere s d a b = rw (ne-eqb _ _ a, ne-eqb _ _ b)

@@ -1,9 +1,9 @@
 -- The table of cycles that the chip refuses by itself, computed: each sets the flag. Assumes nothing.
 use mathlib.Core.List.{map}
 use mathlib.Core.Path.{_≡_, refl}
-use Rattle.interface.specs.Interface.{begun, statusMode, readMode, plainCommand, addressFits, latched, addressed, fateWord, nextFate, started}
-use Rattle.interface.specs.Refused.{latching}
-use Rattle.array.specs.Device.{fitting, readStarted, programStarted, eraseStarted, completed}
+use Rattle.chip_interface.specs.Interface.{begun, statusMode, readMode, plainCommand, addressFits, latched, addressed, fateWord, nextFate, started}
+use Rattle.chip_interface.specs.Refused.{latching}
+use Rattle.chip_array.specs.Device.{fitting, readStarted, programStarted, eraseStarted, completed}
 use Rattle.chip.specs.Chip.{isConfirm, confirmed, confirmable, commanded, dataTaken, dataGiven, finished, statusRead, exec}
 use Rattle.chip.specs.Refused.{flagsAfter, flagsOf, allRefused, chipRows}
 

@@ -5,9 +5,9 @@ use lib.Dec.{eqb, ltb}
 use lib.ListN.{length, getD, set}
 use Rattle.geometry.specs.declared.Geometry.{Geometry}
 use Rattle.geometry.specs.Sizes.{blockSize, rowCount}
-use Rattle.interface.specs.declared.Interface.{Interface}
-use Rattle.interface.specs.Interface.{plainCommand, addressed, statusByte, readConfirm, programConfirm, eraseConfirm, programDataPhase, outputPhase, statusPhase, busyStatusPhase}
-use Rattle.array.specs.Device.{Device, Setting, device, withPort, illegalCycle, rowAt, lengthsFit, readStarted, programStarted, eraseStarted, completed}
+use Rattle.chip_interface.specs.declared.Interface.{Interface}
+use Rattle.chip_interface.specs.Interface.{plainCommand, addressed, statusByte, readConfirm, programConfirm, eraseConfirm, programDataPhase, outputPhase, statusPhase, busyStatusPhase}
+use Rattle.chip_array.specs.Device.{Device, Setting, device, withInterface, illegalCycle, rowAt, lengthsFit, readStarted, programStarted, eraseStarted, completed}
 
 -- one bus cycle
 pub data Cycle : Type 0 where
@@ -28,7 +28,7 @@ confirmed code s d =
 unfoldable pub confirmable : Setting → Device → Bool
 confirmable s d =
     cond (lengthsFit (s .geometry) d)
-    (cond (eqb (length (s .mask)) (blockSize (s .geometry))) (ltb (rowAt (d .port)) (rowCount (s .geometry))) false)
+    (cond (eqb (length (s .mask)) (blockSize (s .geometry))) (ltb (rowAt (d .interface)) (rowCount (s .geometry))) false)
     false
 
 -- a command cycle
@@ -36,7 +36,7 @@ unfoldable pub commanded : ℕ → Setting → Device → Device
 commanded code s d =
     cond (isConfirm code)
     (cond (confirmable s d) (confirmed code s d) (illegalCycle d))
-    (withPort (plainCommand code (d .port)) d)
+    (withInterface (plainCommand code (d .interface)) d)
 
 abbrev pub nextColumn : Interface → Interface
 nextColumn i =
@@ -45,21 +45,21 @@ nextColumn i =
 -- a data input cycle: after 80h and its address, up to the last column
 unfoldable pub dataTaken : ℕ → Device → Device
 dataTaken byte d =
-    cond (eqb (d .port .phase) programDataPhase)
-    (cond (ltb (d .port .column) (length (d .register)))
-    (device (nextColumn (d .port)) (d .array) (set (d .register) (d .port .column) byte) (d .history))
+    cond (eqb (d .interface .phase) programDataPhase)
+    (cond (ltb (d .interface .column) (length (d .register)))
+    (device (nextColumn (d .interface)) (d .array) (set (d .register) (d .interface .column) byte) (d .history))
     (illegalCycle d))
     (illegalCycle d)
 
 -- a data output cycle: after 00h with a page in the register, up to the last column
 unfoldable pub dataGiven : Device → Device
 dataGiven d =
-    cond (eqb (d .port .phase) outputPhase)
-    (cond (ltb (d .port .column) (length (d .register))) (withPort (nextColumn (d .port)) d) (illegalCycle d))
+    cond (eqb (d .interface .phase) outputPhase)
+    (cond (ltb (d .interface .column) (length (d .register))) (withInterface (nextColumn (d .interface)) d) (illegalCycle d))
     (illegalCycle d)
 
 unfoldable pub dataByte : Device → ℕ
-dataByte d = cond (eqb (d .port .phase) outputPhase) (getD (d .register) (d .port .column) 0) 0
+dataByte d = cond (eqb (d .interface .phase) outputPhase) (getD (d .register) (d .interface .column) 0) 0
 
 abbrev pub lessBusy : Interface → Interface
 lessBusy i =
@@ -67,14 +67,14 @@ lessBusy i =
 
 unfoldable pub finished : Geometry → Device → Device
 finished g d =
-    cond (lengthsFit g d) (cond (ltb (rowAt (d .port)) (rowCount g)) (completed g d) (illegalCycle d)) (illegalCycle d)
+    cond (lengthsFit g d) (cond (ltb (rowAt (d .interface)) (rowCount g)) (completed g d) (illegalCycle d)) (illegalCycle d)
 
 -- a status read: after 70h
 unfoldable pub statusRead : Geometry → Device → Device
 statusRead g d =
-    cond (eqb (d .port .phase) statusPhase) d
-    (cond (eqb (d .port .phase) busyStatusPhase)
-    (cond (eqb (d .port .busy) 0) (finished g d) (withPort (lessBusy (d .port)) d))
+    cond (eqb (d .interface .phase) statusPhase) d
+    (cond (eqb (d .interface .phase) busyStatusPhase)
+    (cond (eqb (d .interface .busy) 0) (finished g d) (withInterface (lessBusy (d .interface)) d))
     (illegalCycle d))
 
 unfoldable pub statusShown : Interface → ℕ
@@ -85,7 +85,7 @@ statusShown i =
 -- the chip after one more cycle
 unfoldable pub exec : Setting → Device → Cycle → Device
 exec s d (command code) = commanded code s d
-exec s d (address byte) = withPort (addressed (s .geometry) byte (d .port)) d
+exec s d (address byte) = withInterface (addressed (s .geometry) byte (d .interface)) d
 exec s d (dataIn byte) = dataTaken byte d
 exec s d dataOut = dataGiven d
 exec s d status = statusRead (s .geometry) d

@@ -3,11 +3,11 @@
 use Prim.Native.Nat.{ℕ}
 use mathlib.Core.List.{List, [], _∷_, _++_, map}
 use lib.ListN.{replicate}
-use Rattle.interface.specs.declared.Interface.{Interface}
-use Rattle.interface.specs.Interface.{poweredOn, readConfirm, programConfirm, eraseConfirm}
-use Rattle.interface.specs.Refused.{small, readAddressed, programAddressed, eraseAddressed, statusIsShown, readBusy, programBusy, eraseBusy, busyShown, outputAt}
-use Rattle.array.specs.Device.{Device, Setting, device, setting, pageLoaded}
-use Rattle.array.specs.Refused.{call, erasedChip, dataAt}
+use Rattle.chip_interface.specs.declared.Interface.{Interface}
+use Rattle.chip_interface.specs.Interface.{poweredOn, readConfirm, programConfirm, eraseConfirm}
+use Rattle.chip_interface.specs.Refused.{small, readAddressed, programAddressed, eraseAddressed, statusIsShown, readBusy, programBusy, eraseBusy, busyShown, outputAt}
+use Rattle.chip_array.specs.Device.{Device, Setting, device, setting, pageLoaded}
+use Rattle.chip_array.specs.Refused.{call, erasedChip, dataAt}
 use Rattle.chip.specs.Chip.{Cycle, exec}
 use Rattle.chip.specs.Chip.Cycle.{command, dataIn, dataOut, status}
 
@@ -26,7 +26,7 @@ chipAt i cs = chipRow (call []) (erasedChip i) cs
 -- the flag of illegal answers after each of these cycles, and the flags where all are refused
 unfoldable pub flagsAfter : Setting → Device → List Cycle → List ℕ
 flagsAfter s d [] = []
-flagsAfter s d (c ∷ cs) = exec s d c .port .illegal ∷ flagsAfter s d cs
+flagsAfter s d (c ∷ cs) = exec s d c .interface .illegal ∷ flagsAfter s d cs
 
 abbrev pub flagsOf : ChipRow → List ℕ
 flagsOf r = flagsAfter (r .setting) (r .chip) (r .cycles)

@@ -1,13 +1,13 @@
 // The chip's bus cycles: command, address, data in, data out and status. A cycle that the data sheet does not allow in the
 // present state is answered illegal and changes nothing else.
+use chip_interface::Interface;
 use geometry::Geometry;
-use interface::Interface;
 ghost use mathlib.Core.Path.{_≡_};
 ghost use mathlib.Core.List.{List};
 ghost use Prim.Native.Nat.{ℕ, _<_};
 ghost use lib.ListN.{length};
 ghost use Rattle.geometry.specs.Sizes.{blockSize, rowCount};
-ghost use Rattle.array.specs.Device.{device, setting, fitting, Fitting, rowAt};
+ghost use Rattle.chip_array.specs.Device.{device, setting, fitting, Fitting, rowAt};
 ghost use Rattle.chip.specs.Chip.{isConfirm, confirmable, confirmed, commanded, dataTaken, dataGiven, dataByte, lessBusy, finished, statusRead, statusShown};
 
 // The interface after an output cycle, and the byte put out.
@@ -62,7 +62,7 @@ fn is_confirmable(
         }
         let address = i.address;
         let rows = geometry::row_count(g);
-        return interface::row_of_address(address) < rows;
+        return chip_interface::row_of_address(address) < rows;
     }
     false
 }
@@ -84,12 +84,12 @@ fn confirm(
     ensures { λ r. ⌜ device r (now (array .exit)) (now (register .exit)) (now (history .exit)) ≡ confirmed code (setting g (now (mask .entry)) (now (fates .entry))) (device i (now (array .entry)) (now (register .entry)) (now (history .entry))) ⌝ }
 {
     if code == 0x30 {
-        return array::confirm_read(i, g, array, register, fates);
+        return chip_array::confirm_read(i, g, array, register, fates);
     }
     if code == 0x10 {
-        return array::confirm_program(i, g, array, register, history, mask, fates);
+        return chip_array::confirm_program(i, g, array, register, history, mask, fates);
     }
-    array::confirm_erase(i, g, array, history, mask, fates)
+    chip_array::confirm_erase(i, g, array, history, mask, fates)
 }
 
 // A command cycle.
@@ -123,7 +123,7 @@ pub fn data_in(mut i: Interface, register: &mut [u8], byte: u8) -> Interface
     let column = i.column;
     let mut next = column;
     let mut illegal: usize = 1;
-    if phase == interface::PROGRAM_DATA {
+    if phase == chip_interface::PROGRAM_DATA {
         if column < register.len() {
             register[column] = byte;
             next = column + 1;
@@ -141,7 +141,7 @@ pub fn data_out(i: Interface, register: &[u8]) -> Shown
     ensures { λ r. ⌜ ((a h : List ℕ) → r .byte ≡ dataByte (device i a (now (register .entry)) h)) ⌝ }
 {
     let phase = i.phase;
-    if phase != interface::DATA_OUT {
+    if phase != chip_interface::DATA_OUT {
         return Shown {
             interface: i.refuse(),
             byte: 0,
@@ -183,8 +183,8 @@ fn finish(
     if is_fitting(g, array.len(), register.len(), history.len()) {
         let address = i.address;
         let rows = geometry::row_count(g);
-        if interface::row_of_address(address) < rows {
-            return array::complete(i, g, array, register, history);
+        if chip_interface::row_of_address(address) < rows {
+            return chip_array::complete(i, g, array, register, history);
         }
         return i.refuse();
     }
@@ -204,13 +204,13 @@ pub fn status(
 {
     let phase = i.phase;
     let failed = i.failed;
-    if phase == interface::STATUS {
+    if phase == chip_interface::STATUS {
         return Shown {
             interface: i,
-            byte: interface::status_byte(1, failed),
+            byte: chip_interface::status_byte(1, failed),
         };
     }
-    if phase != interface::BUSY_STATUS {
+    if phase != chip_interface::BUSY_STATUS {
         return Shown {
             interface: i.refuse(),
             byte: 0,
@@ -220,11 +220,11 @@ pub fn status(
     if busy != 0 {
         return Shown {
             interface: less_busy(i),
-            byte: interface::status_byte(0, 0),
+            byte: chip_interface::status_byte(0, 0),
         };
     }
     Shown {
         interface: finish(i, g, array, register, history),
-        byte: interface::status_byte(1, failed),
+        byte: chip_interface::status_byte(1, failed),
     }
 }

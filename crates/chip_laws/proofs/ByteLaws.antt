@@ -14,7 +14,7 @@ use Rattle.cells.specs.Cells.{programmed, weakened, raised}
 use Rattle.cells.specs.Part.{put}
 use Rattle.cells.proofs.CellLaws.{getD-programmed, bytes-raised, bytes-replicate, bytes-append, bytes-take, bytes-drop}
 use Rattle.cells.proofs.PartLaws.{bytes-part}
-use Rattle.array.specs.Device.{Device, Setting, lengthsFit, rowAt, blockAt, addressedPage, blockOf, withPage, withBlock, readStarted, programStarted, eraseStarted, completed}
+use Rattle.chip_array.specs.Device.{Device, Setting, lengthsFit, rowAt, blockAt, addressedPage, blockOf, withPage, withBlock, readStarted, programStarted, eraseStarted, completed}
 use Rattle.chip.specs.Chip.{Cycle, isConfirm, confirmable, confirmed, commanded, dataTaken, dataGiven, finished, statusRead, exec}
 use Rattle.chip.specs.Chip.Cycle.{command, address, dataIn, dataOut, status}
 use Rattle.bus.specs.Line.{run}
@@ -36,19 +36,19 @@ arms false x y p q = q
 module _ (g : Geometry) (d : Device) (h : Bytes (d .array)) where
   page-bytes : (ds : List ℕ) → Bytes (withPage g d (programmed (addressedPage g d) ds))
   page-bytes ds =
-      bytes-put (rowAt (d .port) * pageSize g) (programmed (addressedPage g d) ds) (d .array)
-      (bytes-programmed (addressedPage g d) ds (bytes-part (rowAt (d .port) * pageSize g) (pageSize g) (d .array) h)) h
+      bytes-put (rowAt (d .interface) * pageSize g) (programmed (addressedPage g d) ds) (d .array)
+      (bytes-programmed (addressedPage g d) ds (bytes-part (rowAt (d .interface) * pageSize g) (pageSize g) (d .array) h)) h
 
   block-bytes : (ys : List ℕ) → Bytes ys → Bytes (withBlock g d ys)
-  block-bytes ys b = bytes-put (blockAt g (d .port) * blockSize g) ys (d .array) b h
+  block-bytes ys b = bytes-put (blockAt g (d .interface) * blockSize g) ys (d .array) b h
 
   completed-bytes : Bytes (completed g d .array)
   unfolding completed
   completed-bytes =
-      arms (eqb (d .port .operation) 1) _ _ h
-      (arms (eqb (d .port .failed) 0) _ _
-      (arms (eqb (d .port .operation) 2) _ _ (page-bytes (d .register))
-      (arms (eqb (d .port .operation) 3) _ _ (block-bytes (replicate (blockSize g) 255) (bytes-replicate (blockSize g))) h))
+      arms (eqb (d .interface .operation) 1) _ _ h
+      (arms (eqb (d .interface .failed) 0) _ _
+      (arms (eqb (d .interface .operation) 2) _ _ (page-bytes (d .register))
+      (arms (eqb (d .interface .operation) 3) _ _ (block-bytes (replicate (blockSize g) 255) (bytes-replicate (blockSize g))) h))
       h)
 
 module _ (s : Setting) (mask-bytes : Bytes (s .mask)) where
@@ -58,7 +58,7 @@ module _ (s : Setting) (mask-bytes : Bytes (s .mask)) where
     confirmed-bytes code =
         let g = s .geometry in
         let page = page-bytes g d h (weakened (d .register) (s .mask)) in
-        let block = block-bytes g d h (raised (blockOf g d) (s .mask)) (bytes-raised (blockOf g d) (s .mask) (bytes-part (blockAt g (d .port) * blockSize g) (blockSize g) (d .array) h) mask-bytes) in
+        let block = block-bytes g d h (raised (blockOf g d) (s .mask)) (bytes-raised (blockOf g d) (s .mask) (bytes-part (blockAt g (d .interface) * blockSize g) (blockSize g) (d .array) h) mask-bytes) in
         search (arms, h, page, block) depth 12
 
     commanded-bytes : (code : ℕ) → Bytes (commanded code s d .array)
@@ -69,10 +69,10 @@ module _ (s : Setting) (mask-bytes : Bytes (s .mask)) where
     status-bytes : Bytes (statusRead (s .geometry) d .array)
     unfolding statusRead finished
     status-bytes =
-        arms (eqb (d .port .phase) 1) _ _ h
-        (arms (eqb (d .port .phase) 8) _ _
-        (arms (eqb (d .port .busy) 0) _ _
-        (arms (lengthsFit (s .geometry) d) _ _ (arms (ltb (rowAt (d .port)) (rowCount (s .geometry))) _ _ (completed-bytes (s .geometry) d h) h) h)
+        arms (eqb (d .interface .phase) 1) _ _ h
+        (arms (eqb (d .interface .phase) 8) _ _
+        (arms (eqb (d .interface .busy) 0) _ _
+        (arms (lengthsFit (s .geometry) d) _ _ (arms (ltb (rowAt (d .interface)) (rowCount (s .geometry))) _ _ (completed-bytes (s .geometry) d h) h) h)
         h)
         h)
 
@@ -81,7 +81,7 @@ module _ (s : Setting) (mask-bytes : Bytes (s .mask)) where
     exec-bytes (command code) = commanded-bytes code
     exec-bytes (address byte) = h
     exec-bytes (dataIn byte) =
-        arms (eqb (d .port .phase) 6) _ _ (arms (ltb (d .port .column) (length (d .register))) _ _ h h) h
+        arms (eqb (d .interface .phase) 6) _ _ (arms (ltb (d .interface .column) (length (d .register))) _ _ h h) h
     exec-bytes dataOut = search (arms, h)
     exec-bytes status = status-bytes
 

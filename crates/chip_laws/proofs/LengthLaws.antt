@@ -12,8 +12,8 @@ use Rattle.geometry.proofs.SizeLaws.{row-within, block-within, row-block-below}
 use Rattle.cells.specs.Cells.{programmed, weakened, raised}
 use Rattle.cells.proofs.CellLaws.{length-programmed, length-raised}
 use Rattle.cells.proofs.PartLaws.{length-part, length-put}
-use Rattle.array.specs.Device.{Device, Setting, Fitting, lengthsFit, rowAt, blockAt, addressedPage, blockOf, withPage, withBlock, readStarted, programStarted, eraseStarted, completed}
-use Rattle.array.proofs.DeviceLaws.{fits}
+use Rattle.chip_array.specs.Device.{Device, Setting, Fitting, lengthsFit, rowAt, blockAt, addressedPage, blockOf, withPage, withBlock, readStarted, programStarted, eraseStarted, completed}
+use Rattle.chip_array.proofs.DeviceLaws.{fits}
 use Rattle.chip.specs.Chip.{Cycle, isConfirm, confirmable, confirmed, commanded, dataTaken, dataGiven, finished, statusRead, exec}
 use Rattle.chip.specs.Chip.Cycle.{command, address, dataIn, dataOut, status}
 use Rattle.chip.proofs.ConfirmableLaws.{confirms}
@@ -33,39 +33,39 @@ arms-where d true x y p q = p refl
 arms-where d false x y p q = q
 
 -- the page and the block that the address register names, on a chip whose lengths fit
-module _ (g : Geometry) (d : Device) (f : Fitting g (length (d .array)) (length (d .register)) (length (d .history))) (on : rowAt (d .port) < rowCount g) where
-  page-in : rowAt (d .port) * pageSize g + pageSize g ≤ length (d .array)
-  page-in = rw (f .array-long) (row-within g (f .is-valid) (rowAt (d .port)) on)
+module _ (g : Geometry) (d : Device) (f : Fitting g (length (d .array)) (length (d .register)) (length (d .history))) (on : rowAt (d .interface) < rowCount g) where
+  page-in : rowAt (d .interface) * pageSize g + pageSize g ≤ length (d .array)
+  page-in = rw (f .array-long) (row-within g (f .is-valid) (rowAt (d .interface)) on)
 
-  block-in : blockAt g (d .port) * blockSize g + blockSize g ≤ length (d .array)
+  block-in : blockAt g (d .interface) * blockSize g + blockSize g ≤ length (d .array)
   block-in =
       rw (f .array-long)
-      (block-within g (f .is-valid) (blockAt g (d .port)) (row-block-below g (f .is-valid) (rowAt (d .port)) on))
+      (block-within g (f .is-valid) (blockAt g (d .interface)) (row-block-below g (f .is-valid) (rowAt (d .interface)) on))
 
   length-page : length (addressedPage g d) ≡ length (d .register)
-  length-page = length-part (rowAt (d .port) * pageSize g) (pageSize g) (d .array) page-in ∙ sym (f .register-long)
+  length-page = length-part (rowAt (d .interface) * pageSize g) (pageSize g) (d .array) page-in ∙ sym (f .register-long)
 
   length-with-page : (ys : List ℕ) → length ys ≡ length (addressedPage g d) → length (withPage g d ys) ≡ length (d .array)
   length-with-page ys e =
-      length-put (rowAt (d .port) * pageSize g) ys (d .array)
-      (rw (e, length-part (rowAt (d .port) * pageSize g) (pageSize g) (d .array) page-in) page-in)
+      length-put (rowAt (d .interface) * pageSize g) ys (d .array)
+      (rw (e, length-part (rowAt (d .interface) * pageSize g) (pageSize g) (d .array) page-in) page-in)
 
   length-with-block : (ys : List ℕ) → length ys ≡ blockSize g → length (withBlock g d ys) ≡ length (d .array)
   length-with-block ys e =
-      length-put (blockAt g (d .port) * blockSize g) ys (d .array) (rw e block-in)
+      length-put (blockAt g (d .interface) * blockSize g) ys (d .array) (rw e block-in)
 
   length-block : length (blockOf g d) ≡ blockSize g
-  length-block = length-part (blockAt g (d .port) * blockSize g) (blockSize g) (d .array) block-in
+  length-block = length-part (blockAt g (d .interface) * blockSize g) (blockSize g) (d .array) block-in
 
   completed-lengths : SameLengths d (completed g d)
   unfolding completed
   completed-lengths =
-      arms d (eqb (d .port .operation) 1) _ _ (same refl refl refl)
-      (arms d (eqb (d .port .failed) 0) _ _
-      (arms d (eqb (d .port .operation) 2) _ _
+      arms d (eqb (d .interface .operation) 1) _ _ (same refl refl refl)
+      (arms d (eqb (d .interface .failed) 0) _ _
+      (arms d (eqb (d .interface .operation) 2) _ _
       (same (length-with-page (programmed (addressedPage g d) (d .register)) (length-programmed (addressedPage g d) (d .register))) refl refl)
-      (arms d (eqb (d .port .operation) 3) _ _
-      (same (length-with-block (replicate (blockSize g) 255) (length-replicate (blockSize g) 255)) refl (length-set (d .history) (blockAt g (d .port)) 0))
+      (arms d (eqb (d .interface .operation) 3) _ _
+      (same (length-with-block (replicate (blockSize g) 255) (length-replicate (blockSize g) 255)) refl (length-set (d .history) (blockAt g (d .interface)) 0))
       (same refl refl refl)))
       (same refl refl refl))
 
@@ -89,11 +89,11 @@ module _ (s : Setting) (d : Device) where
   status-lengths : SameLengths d (statusRead (s .geometry) d)
   unfolding statusRead finished
   status-lengths =
-      arms d (eqb (d .port .phase) 1) _ _ (same refl refl refl)
-      (arms d (eqb (d .port .phase) 8) _ _
-      (arms d (eqb (d .port .busy) 0) _ _
+      arms d (eqb (d .interface .phase) 1) _ _ (same refl refl refl)
+      (arms d (eqb (d .interface .phase) 8) _ _
+      (arms d (eqb (d .interface .busy) 0) _ _
       (arms-where d (lengthsFit (s .geometry) d) _ _
-      (λ f. arms-where d (ltb (rowAt (d .port)) (rowCount (s .geometry))) _ _ (λ on. completed-lengths (s .geometry) d (fits _ _ _ _ f) (ltb-true _ _ on)) (same refl refl refl))
+      (λ f. arms-where d (ltb (rowAt (d .interface)) (rowCount (s .geometry))) _ _ (λ on. completed-lengths (s .geometry) d (fits _ _ _ _ f) (ltb-true _ _ on)) (same refl refl refl))
       (same refl refl refl))
       (same refl refl refl))
       (same refl refl refl))
@@ -103,7 +103,7 @@ module _ (s : Setting) (d : Device) where
   exec-lengths (command code) = commanded-lengths code
   exec-lengths (address byte) = same refl refl refl
   exec-lengths (dataIn byte) =
-      arms d (eqb (d .port .phase) 6) _ _ (arms d (ltb (d .port .column) (length (d .register))) _ _ (same refl (length-set (d .register) (d .port .column) byte) refl) (same refl refl refl)) (same refl refl refl)
+      arms d (eqb (d .interface .phase) 6) _ _ (arms d (ltb (d .interface .column) (length (d .register))) _ _ (same refl (length-set (d .register) (d .interface .column) byte) refl) (same refl refl refl)) (same refl refl refl)
   exec-lengths dataOut = search (arms, same)
   exec-lengths status = status-lengths
 

@@ -3,9 +3,9 @@
 use mathlib.Core.List.{List, [], _∷_, map}
 use mathlib.Core.Path.{_≡_, refl}
 use native.Mathlib.Omega.{arith}
-use Rattle.interface.specs.Interface.{begun, statusMode, readMode, plainCommand, addressFits, latched, addressed, fateWord, nextFate, started}
-use Rattle.interface.specs.Refused.{latching}
-use Rattle.array.specs.Device.{Device, Setting, fitting, readStarted, programStarted, eraseStarted, completed}
+use Rattle.chip_interface.specs.Interface.{begun, statusMode, readMode, plainCommand, addressFits, latched, addressed, fateWord, nextFate, started}
+use Rattle.chip_interface.specs.Refused.{latching}
+use Rattle.chip_array.specs.Device.{Device, Setting, fitting, readStarted, programStarted, eraseStarted, completed}
 use Rattle.chip.specs.Chip.{Cycle, isConfirm, confirmed, confirmable, commanded, dataTaken, dataGiven, finished, statusRead, exec}
 use Rattle.chip.specs.Refused.{flagsAfter}
 use Rattle.cells.specs.Cells.{programmed, weakened, raised}
@@ -23,11 +23,11 @@ unfolding flags flagsAfter allAs latching begun statusMode readMode plainCommand
 flags-accepted = refl
 
 module _ (s : Setting) (d : Device) where
-  refused-by-flags : (cs : List Cycle) → d .port .illegal ≡ 0 → flagsAfter s d cs ≡ map (λ (c : Cycle). 1) cs → RefusedAt s d cs
+  refused-by-flags : (cs : List Cycle) → d .interface .illegal ≡ 0 → flagsAfter s d cs ≡ map (λ (c : Cycle). 1) cs → RefusedAt s d cs
   unfolding flagsAfter
   refused-by-flags [] e f = tt
   refused-by-flags (c ∷ cs) e f =
-      let one : exec s d c .port .illegal ≡ 1 = cc in
+      let one : exec s d c .interface .illegal ≡ 1 = cc in
       let rest : flagsAfter s d cs ≡ map (λ (c : Cycle). 1) cs = cc in
       (illegal-keeps s d c e (λ z. omega (arith, z)), refused-by-flags cs e rest)
 
@@ -35,7 +35,7 @@ module _ (s : Setting) (d : Device) where
   unfolding flagsAfter
   taken-by-flags [] f = tt
   taken-by-flags (c ∷ cs) f =
-      let none : exec s d c .port .illegal ≡ 0 = cc in
+      let none : exec s d c .interface .illegal ≡ 0 = cc in
       let rest : flagsAfter s d cs ≡ map (λ (c : Cycle). 0) cs = cc in
       (none, taken-by-flags cs rest)
 
@@ -44,7 +44,7 @@ unfolding flags allAs
 all-refused [] f = tt
 all-refused (p ∷ ps) f =
     let there = run (p .setting) (p .chip) (p .before) in
-    let legal : there .port .illegal ≡ 0 = cc in
+    let legal : there .interface .illegal ≡ 0 = cc in
     let here : flagsAfter (p .setting) there (p .cycles) ≡ map (λ (c : Cycle). 1) (p .cycles) = cc in
     let rest : flags ps ≡ allAs 1 ps = cc in
     ((legal-run (p .setting) (p .chip) (p .before) legal, refused-by-flags (p .setting) there (p .cycles) legal here), all-refused ps rest)
@@ -54,7 +54,7 @@ unfolding flags allAs
 all-taken [] f = tt
 all-taken (p ∷ ps) f =
     let there = run (p .setting) (p .chip) (p .before) in
-    let legal : there .port .illegal ≡ 0 = cc in
+    let legal : there .interface .illegal ≡ 0 = cc in
     let here : flagsAfter (p .setting) there (p .cycles) ≡ map (λ (c : Cycle). 0) (p .cycles) = cc in
     let rest : flags ps ≡ allAs 0 ps = cc in
     ((legal-run (p .setting) (p .chip) (p .before) legal, taken-by-flags (p .setting) there (p .cycles) here), all-taken ps rest)

@@ -7,7 +7,7 @@ use borrow.Table.Steps.{cases}
 use lib.Dec.{eqb}
 use Rattle.bools.proofs.BoolLaws.{both}
 use Rattle.geometry.specs.declared.Geometry.{Geometry}
-use Rattle.array.specs.Device.{Device, Setting, lengthsFit}
+use Rattle.chip_array.specs.Device.{Device, Setting, lengthsFit}
 use Rattle.chip.specs.Chip.{Cycle, exec}
 use Rattle.bus.specs.Line.{Line, mayGo, admits, blocked, send, sendAll, sent, run, goesOn, Legal}
 use Rattle.bus.proofs.LineLaws.{send-on, send-off, sendAll-stopped, blocked-stops, admits-stopped}
@@ -16,10 +16,10 @@ use Rattle.chip_laws.specs.Lengths.{SameLengths}
 use Rattle.chip_laws.proofs.LengthLaws.{run-lengths, lengths-fit}
 
 -- where a cycle is sent none before it was answered illegal
-legal-of-admits : (l : Line) → admits l ≡ true → l .chip .port .illegal ≡ 0
+legal-of-admits : (l : Line) → admits l ≡ true → l .chip .interface .illegal ≡ 0
 unfolding mayGo
 legal-of-admits l h =
-    eqb-true _ _ (both (eqb (l .chip .port .illegal) 0) _ (both (eqb (l .cut) 0) _ h .1) .0)
+    eqb-true _ _ (both (eqb (l .chip .interface .illegal) 0) _ (both (eqb (l .cut) 0) _ h .1) .0)
 
 module _ (s : Setting) where
   -- a line that sends nothing leaves the chip
@@ -36,11 +36,11 @@ module _ (s : Setting) where
       (λ h. rw h (ap (λ (x : Line). x .chip) (off-keeps l c cs h)))
 
   -- a line that leaves no illegal answer sent legal cycles only
-  pub sent-legal : (l : Line) (cs : List Cycle) → sendAll s l cs .chip .port .illegal ≡ 0 → Legal s (l .chip) (sent s l cs)
-  sent-legal l cs e = legal-run s (l .chip) (sent s l cs) (ap (λ (x : Device). x .port .illegal) (sym (sent-runs l cs)) ∙ e)
+  pub sent-legal : (l : Line) (cs : List Cycle) → sendAll s l cs .chip .interface .illegal ≡ 0 → Legal s (l .chip) (sent s l cs)
+  sent-legal l cs e = legal-run s (l .chip) (sent s l cs) (ap (λ (x : Device). x .interface .illegal) (sym (sent-runs l cs)) ∙ e)
 
   -- where a cycle was sent, none before it was answered illegal
-  pub sent-after-legal : (l : Line) (cs xs : List Cycle) (c : Cycle) (ys : List Cycle) → sent s l cs ≡ xs ++ (c ∷ ys) → run s (l .chip) xs .port .illegal ≡ 0
+  pub sent-after-legal : (l : Line) (cs xs : List Cycle) (c : Cycle) (ys : List Cycle) → sent s l cs ≡ xs ++ (c ∷ ys) → run s (l .chip) xs .interface .illegal ≡ 0
   unfolding sent run
   sent-after-legal l [] [] c ys e = cc
   sent-after-legal l [] (x ∷ xs) c ys e = cc
@@ -54,7 +54,7 @@ module _ (s : Setting) where
       let head : k ≡ x = cc in
       let rest : sent s (send s l k) cs ≡ xs ++ (c ∷ ys) = cc in
       let chip : send s l k .chip ≡ exec s (l .chip) x = ap (λ (z : Line). z .chip) (send-on s l k h) ∙ ap (exec s (l .chip)) head in
-      ap (λ (z : Device). run s z xs .port .illegal) (sym chip) ∙ sent-after-legal (send s l k) cs xs c ys rest)
+      ap (λ (z : Device). run s z xs .interface .illegal) (sym chip) ∙ sent-after-legal (send s l k) cs xs c ys rest)
       (λ h. let n : [] ≡ x ∷ (xs ++ (c ∷ ys)) = rw h at e in cc)
 
   sent-stopped : (l : Line) (cs : List Cycle) → goesOn l ≡ false → sent s l cs ≡ []

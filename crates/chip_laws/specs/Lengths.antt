@@ -1,7 +1,7 @@
 -- Two chips whose array, page register and history are as long.
 use mathlib.Core.Path.{_≡_}
 use lib.ListN.{length}
-use Rattle.array.specs.Device.{Device}
+use Rattle.chip_array.specs.Device.{Device}
 
 pub record SameLengths (d e : Device) : Type 0 where
   pub array : length (e .array) ≡ length (d .array)

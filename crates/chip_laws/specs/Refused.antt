@@ -5,10 +5,10 @@ use mathlib.Core.List.{List, [], _∷_, _++_, map}
 use mathlib.Core.Path.{_≡_}
 use lib.ListN.{replicate}
 use Rattle.geometry.specs.Sizes.{columnBytes, rowBytes}
-use Rattle.interface.specs.Interface.{poweredOn}
-use Rattle.interface.specs.Refused.{InterfaceRow, interfaceRows, startingCodes}
-use Rattle.array.specs.Device.{Device, Setting, device, setting, illegalCycle}
-use Rattle.array.specs.Refused.{call, erasedChip, refusedReads, refusedPrograms, refusedErases}
+use Rattle.chip_interface.specs.Interface.{poweredOn}
+use Rattle.chip_interface.specs.Refused.{InterfaceRow, interfaceRows, startingCodes}
+use Rattle.chip_array.specs.Device.{Device, Setting, device, setting, illegalCycle}
+use Rattle.chip_array.specs.Refused.{call, erasedChip, refusedReads, refusedPrograms, refusedErases}
 use Rattle.chip.specs.Chip.{Cycle, exec}
 use Rattle.chip.specs.Chip.Cycle.{command, address, dataIn, dataOut, status}
 use Rattle.chip.specs.Refused.{ChipRow, flagsAfter, finishedWith, chipRows}
@@ -35,7 +35,7 @@ unfoldable pub flags : List Place → List (List ℕ)
 flags [] = []
 flags (p ∷ ps) =
     let there = run (p .setting) (p .chip) (p .before) in
-    (there .port .illegal ∷ flagsAfter (p .setting) there (p .cycles)) ∷ flags ps
+    (there .interface .illegal ∷ flagsAfter (p .setting) there (p .cycles)) ∷ flags ps
 
 -- no flag at each place, and the flag k after each of its cycles
 unfoldable pub allAs : ℕ → List Place → List (List ℕ)
@@ -58,7 +58,7 @@ Refused (p ∷ ps) =
 -- each cycle is taken
 abbrev pub TakenAt : Setting → Device → List Cycle → Type 0
 TakenAt s d [] = Unit {0}
-TakenAt s d (c ∷ cs) = (exec s d c .port .illegal ≡ 0) × TakenAt s d cs
+TakenAt s d (c ∷ cs) = (exec s d c .interface .illegal ≡ 0) × TakenAt s d cs
 
 abbrev pub Taken : List Place → Type 0
 Taken [] = Unit {0}
@@ -105,7 +105,7 @@ unlessBusy = starting ++ (confirming ++ (address 0 ∷ dataIn 0 ∷ dataOut ∷ 
 -- the rows of the interface, the array and the chip
 abbrev pub ofInterface : InterfaceRow → Place
 ofInterface r =
-    place (setting (r .geometry) (replicate 192 0) []) (erasedChip (r .port)) [] (map command (r .commands) ++ map address (r .addresses))
+    place (setting (r .geometry) (replicate 192 0) []) (erasedChip (r .interface)) [] (map command (r .commands) ++ map address (r .addresses))
 
 abbrev pub ofArray : ℕ → Device → Place
 ofArray code d = place (call []) d [] (command code ∷ [])

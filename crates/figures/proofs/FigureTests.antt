@@ -3,32 +3,32 @@ use mathlib.Core.List.{[], _∷_}
 use mathlib.Core.Path.{_≡_, refl}
 use lib.Count.{ones}
 use lib.ListN.{length, replicate, set}
-use Rattle.interface.specs.Interface.{begun, statusMode, readMode, plainCommand, addressFits, latched, addressed, fateWord, nextFate, started, statusByte}
-use Rattle.array.specs.Device.{setting, fitting, readStarted, programStarted, eraseStarted, completed}
+use Rattle.chip_interface.specs.Interface.{begun, statusMode, readMode, plainCommand, addressFits, latched, addressed, fateWord, nextFate, started, statusByte}
+use Rattle.chip_array.specs.Device.{setting, fitting, readStarted, programStarted, eraseStarted, completed}
 use Rattle.chip.specs.Chip.{isConfirm, confirmed, confirmable, commanded, dataTaken, dataGiven, dataByte, finished, statusRead, exec}
 use Rattle.cells.specs.Cells.{programmed, weakened, raised}
 use Rattle.cells.specs.Part.{put}
 use Rattle.bus.specs.Line.{mayGo, cutAfter, send, byteOut, sendAll, sent, goesOn}
-use Rattle.polling.specs.Polling.{waiting, polls, outcomeOf, endedAs}
-use Rattle.polling.specs.Outcomes.{isPassed, isFailed, isSilent, isCut}
-use Rattle.sequences.specs.Cycles.{readCycles, readOutcome, outputs, readOutputs}
+use Rattle.bus_polling.specs.Polling.{waiting, polls, outcomeOf, endedAs}
+use Rattle.bus_polling.specs.Outcomes.{isPassed, isFailed, isSilent, isCut}
+use Rattle.bus_sequences.specs.Cycles.{readCycles, readOutcome, outputs, readOutputs}
 use Rattle.operations.specs.Trace.{startedBy}
 use Rattle.progress.specs.Progress.{readOn, resetOn}
-use Rattle.block_scan.specs.Pages.{pagesRead}
+use Rattle.scan_block.specs.Pages.{pagesRead}
 use Rattle.scan.specs.Scan.{blocksRead}
-use Rattle.calls.specs.Call.{callLine, sized, stopAnswer}
+use Rattle.request.specs.Call.{callLine, sized, stopAnswer}
 use Rattle.bitmaps.specs.Bitmap.{bitAt, withBit, countBits, clearFrom, neverBoth}
 use Rattle.pages.specs.Check.{zeroBits}
 use Rattle.pages.specs.Layout.{numberWidth, isDataKind, isTableKind, bytesOf, numberOf, labelBytes, encoded, kindOf, labelOf, allOnes, storedCheck, countedCheck, whole}
 use Rattle.copies.specs.Blocks.{isMarked, anyTo, greatestTo, agrees, completeTo, isComplete, isTable, isData, isCopyOf, hasNumber, greatest}
-use Rattle.found.specs.Found.{marksTo}
-use Rattle.marks.specs.Marks.{marksRead}
-use Rattle.erasing.specs.Round.{afterErase, blockErased, failedAt, joined, numbersAt, erasedTo}
+use Rattle.scan_found.specs.Found.{marksTo}
+use Rattle.format_marks.specs.Marks.{marksRead}
+use Rattle.format_erase.specs.Round.{afterErase, blockErased, failedAt, joined, numbersAt, erasedTo}
 use Rattle.progress.specs.Steps.{eraseOn, programOn}
 use Rattle.fill.specs.Fill.{mainOf, mainRead, pageFilled, pagesFilled, tableMain}
-use Rattle.choose.specs.Choose.{permitted, searchAfter, countPermitted}
+use Rattle.state_choose.specs.Choose.{permitted, searchAfter, countPermitted}
 use Rattle.state.specs.State.{blank, copyBits, emptyFrom, soundFrom, soundEntries, mounted, freeBlocks}
-use Rattle.tables.specs.Tables.{afterFill, tryBlock, tryTable, tablesFilled}
+use Rattle.fill_tables.specs.Tables.{afterFill, tryBlock, tryTable, tablesFilled}
 use Rattle.format.specs.Format.{firstState, tooFew, tablesRun, roundRun, marksRun, formatting}
 use Rattle.copies.specs.Current.{currentTable, currentCopy, greatestBelow, nextNumber, filledLast, sharesNumber, clashesAt, clashes, judgeTable, mountAnswer}
 use Rattle.copies.specs.Pick.{better, pick, someBelow}

@@ -6,14 +6,14 @@ use lib.ListN.{replicate, set}
 use Rattle.geometry.specs.declared.Geometry.{Geometry}
 use Rattle.geometry.specs.Sizes.{rowOf, rowBytes, columnBytes}
 use Rattle.cells.specs.Part.{put}
-use Rattle.interface.specs.Interface.{poweredOn}
-use Rattle.array.specs.Device.{Device, Setting, device, setting}
+use Rattle.chip_interface.specs.Interface.{poweredOn}
+use Rattle.chip_array.specs.Device.{Device, Setting, device, setting}
 use Rattle.pages.specs.Layout.{label, encoded, storedCheck, whole, dataKind, tableKind}
 use Rattle.copies.specs.Blocks.{blockIn, pageIn}
 use Rattle.copies.specs.Current.{mountAnswer}
 use Rattle.state.specs.State.{blank}
 use Rattle.state.specs.declared.State.{State}
-use Rattle.calls.specs.Call.{Result}
+use Rattle.request.specs.Call.{Result}
 use Rattle.fill.specs.Fill.{tableMain}
 use Rattle.format.specs.Format.{formatting}
 

@@ -4,8 +4,8 @@ use mathlib.Core.Bool.{false}
 use mathlib.Core.Path.{_≡_, ap, _∙_}
 use native.Mathlib.Nat.{zero-add}
 use native.Mathlib.Omega.{arith}
-use Rattle.array.specs.Device.{Setting}
-use Rattle.polling.specs.Outcomes.{isPassed}
+use Rattle.chip_array.specs.Device.{Setting}
+use Rattle.bus_polling.specs.Outcomes.{isPassed}
 use Rattle.progress.specs.Progress.{Progress}
 use Rattle.fill.specs.Fill.{Copy, Source, mainRead, pageFilled, pagesFilled, filled}
 use Rattle.fill.proofs.MainLaws.{main-stopped}

@@ -1,7 +1,7 @@
 -- What every operation keeps, a fill keeps, as a whole and step by step. Assumes nothing.
 use Prim.Native.Nat.{ℕ, zero, suc}
 use Rattle.geometry.specs.Sizes.{rowOf}
-use Rattle.array.specs.Device.{Setting}
+use Rattle.chip_array.specs.Device.{Setting}
 use Rattle.progress.specs.Progress.{Progress}
 use Rattle.progress.specs.Steps.{eraseOn}
 use Rattle.progress.specs.Kept.{Kept}

@@ -20,13 +20,13 @@ use Rattle.bools.proofs.BoolLaws.{both}
 use Rattle.geometry.proofs.SizeLaws.{row-below}
 use Rattle.cells.specs.Part.{part}
 use Rattle.cells.specs.Cells.{over}
-use Rattle.interface.specs.Interface.{busyOf}
-use Rattle.array.specs.Device.{Setting}
+use Rattle.chip_interface.specs.Interface.{busyOf}
+use Rattle.chip_array.specs.Device.{Setting}
 use Rattle.bus.specs.Line.{Line, sendAll}
-use Rattle.polling.specs.Outcomes.{isPassed, answered}
-use Rattle.polling.specs.declared.Outcome.{Outcome}
-use Rattle.polling.specs.declared.Outcome.the-variants.{Passed}
-use Rattle.sequences.specs.Cycles.{readCycles, readOutcome, readOutputs}
+use Rattle.bus_polling.specs.Outcomes.{isPassed, answered}
+use Rattle.bus_polling.specs.declared.Outcome.{Outcome}
+use Rattle.bus_polling.specs.declared.Outcome.the-variants.{Passed}
+use Rattle.bus_sequences.specs.Cycles.{readCycles, readOutcome, readOutputs}
 use Rattle.operations.specs.Ends.{Called, CanRead, End, endOfRead, readEnd, readTotal, wordFor}
 use Rattle.operations.proofs.ReadLaws.{read-ends, read-next}
 use Rattle.copies.specs.Table.{tablePage}

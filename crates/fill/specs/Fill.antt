@@ -9,7 +9,7 @@ use Rattle.geometry.specs.declared.Geometry.{Geometry}
 use Rattle.geometry.specs.Limits.{Valid}
 use Rattle.geometry.specs.Sizes.{pageSize, rowOf}
 use Rattle.cells.specs.Part.{part}
-use Rattle.array.specs.Device.{Setting}
+use Rattle.chip_array.specs.Device.{Setting}
 use Rattle.pages.specs.Layout.{label, encoded, numberWidth, tableKind}
 use Rattle.copies.specs.Blocks.{blockIn, mainIn}
 use Rattle.copies.specs.Table.{tablePage}

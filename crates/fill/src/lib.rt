@@ -1,19 +1,19 @@
 // What a page of a fill is made of: its main bytes, and its program with label and check.
 use bus::Bus;
+use bus_polling::Done;
+use bus_polling::Outcome;
 use geometry::Geometry;
-use polling::Done;
-use polling::Outcome;
 ghost use mathlib.Core.Bool.{true};
 ghost use mathlib.Core.Path.{_≡_};
 ghost use Prim.Native.Nat.{_*_, _<_};
 ghost use lib.ListN.{length, take};
 ghost use Rattle.geometry.specs.Limits.{Valid};
 ghost use Rattle.geometry.specs.Sizes.{pageSize, rowOf};
-ghost use Rattle.array.specs.Device.{setting};
+ghost use Rattle.chip_array.specs.Device.{setting};
 ghost use Rattle.bus.specs.Line.{line, sendAll};
-ghost use Rattle.polling.specs.Outcomes.{isPassed};
-ghost use Rattle.polling.specs.Polling.{outcomeOf};
-ghost use Rattle.sequences.specs.Cycles.{programCycles};
+ghost use Rattle.bus_polling.specs.Outcomes.{isPassed};
+ghost use Rattle.bus_polling.specs.Polling.{outcomeOf};
+ghost use Rattle.bus_sequences.specs.Cycles.{programCycles};
 ghost use Rattle.operations.specs.Ends.{Called};
 ghost use Rattle.progress.specs.Steps.{ComesTo};
 ghost use Rattle.fill.specs.Fill.{copy, copyPage, Fillable, mainOf, mainRead, dataSource, isGiven, givenMain};

@@ -7,22 +7,22 @@ use borrow.Author.Tests.{lt-ltb, le-ltb}
 use lib.ListN.{getD, replicate, getD-replicate}
 use Rattle.geometry.specs.declared.Geometry.{Geometry}
 use Rattle.geometry.specs.Limits.{Valid}
-use Rattle.array.specs.Device.{Setting}
+use Rattle.chip_array.specs.Device.{Setting}
 use Rattle.chip.specs.Chip.{Cycle}
 use Rattle.bus.specs.Line.{Line}
-use Rattle.polling.specs.declared.Outcome.the-variants.{Passed}
+use Rattle.bus_polling.specs.declared.Outcome.the-variants.{Passed}
 use Rattle.operations.specs.Trace.{ArrayOperation}
-use Rattle.choose.specs.Choose.{countPermitted}
+use Rattle.state_choose.specs.Choose.{countPermitted}
 use Rattle.state.specs.State.{blank, none, numbersLeft, copyBits, heldBits}
 use Rattle.state.specs.declared.State.{State}
-use Rattle.calls.specs.Call.{endAt}
+use Rattle.request.specs.Call.{endAt}
 use Rattle.progress.specs.Progress.{progress}
-use Rattle.tables.specs.Tables.{tablesFilled}
-use Rattle.cursor.specs.Cursor.{running, firstCursor}
-use Rattle.cursor.specs.declared.Cursor.{Cursor}
-use Rattle.cursor.specs.declared.Running.{Running}
-use Rattle.driver.specs.Driver.{Ran, RanAs}
-use Rattle.driven.proofs.TableLaws.{tables-ran}
+use Rattle.fill_tables.specs.Tables.{tablesFilled}
+use Rattle.fill_cursor.specs.Cursor.{running, firstCursor}
+use Rattle.fill_cursor.specs.declared.Cursor.{Cursor}
+use Rattle.fill_cursor.specs.declared.Running.{Running}
+use Rattle.fill_driver.specs.Driver.{Ran, RanAs}
+use Rattle.fill_laws.proofs.TableLaws.{tables-ran}
 use Rattle.format.specs.Format.{firstState, tooFew, tablesOf, endOfRun, tablesRun}
 
 -- before the first table no block holds anything current

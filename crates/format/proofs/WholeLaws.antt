@@ -5,27 +5,27 @@ use mathlib.Core.List.{List, []}
 use mathlib.Core.Path.{_≡_, refl, sym, ap, _∙_}
 use native.Mathlib.Nat.{add-zero}
 use native.Mathlib.Omega.{arith}
-use Rattle.array.specs.Device.{Setting}
+use Rattle.chip_array.specs.Device.{Setting}
 use Rattle.chip.specs.Chip.{Cycle}
 use Rattle.bus.specs.Line.{Line}
-use Rattle.polling.specs.Outcomes.{isPassed}
-use Rattle.polling.specs.declared.Outcome.{Outcome}
-use Rattle.polling.specs.declared.Outcome.the-variants.{Passed}
+use Rattle.bus_polling.specs.Outcomes.{isPassed}
+use Rattle.bus_polling.specs.declared.Outcome.{Outcome}
+use Rattle.bus_polling.specs.declared.Outcome.the-variants.{Passed}
 use Rattle.operations.specs.Trace.{ArrayOperation}
 use Rattle.state.specs.State.{blank}
 use Rattle.state.specs.declared.State.{State}
-use Rattle.calls.specs.Call.{Result, endAt, stopAnswer}
+use Rattle.request.specs.Call.{Result, endAt, stopAnswer}
 use Rattle.progress.specs.Progress.{Progress, progress}
 use Rattle.progress.proofs.CountLaws.{allowance-kept}
-use Rattle.polling.proofs.OutcomeLaws.{is-passed}
-use Rattle.found.specs.Found.{marksTo}
-use Rattle.calls.proofs.StartLaws.{Stops}
-use Rattle.marks.proofs.MarkLaws.{marks-stopped}
-use Rattle.marks.proofs.KeepLaws.{marks-keep}
-use Rattle.erasing.proofs.KeepLaws.{round-keeps}
-use Rattle.marks.specs.Marks.{marksRead, MarksFound}
-use Rattle.erasing.specs.declared.Numbers.{Numbers}
-use Rattle.erasing.specs.Round.{erasedTo, RoundDone}
+use Rattle.bus_polling.proofs.OutcomeLaws.{is-passed}
+use Rattle.scan_found.specs.Found.{marksTo}
+use Rattle.request.proofs.StartLaws.{Stops}
+use Rattle.format_marks.proofs.MarkLaws.{marks-stopped}
+use Rattle.format_marks.proofs.KeepLaws.{marks-keep}
+use Rattle.format_erase.proofs.KeepLaws.{round-keeps}
+use Rattle.format_marks.specs.Marks.{marksRead, MarksFound}
+use Rattle.format_erase.specs.declared.Numbers.{Numbers}
+use Rattle.format_erase.specs.Round.{erasedTo, RoundDone}
 use Rattle.format.specs.Format.{endOfRun, stopped, tablesRun, roundRun, marksRun}
 
 pub marks-left : (s : Setting) (l m : Line) (o : Outcome) (marked : List ℕ) → MarksFound s l m o marked → m .left ≤ l .left

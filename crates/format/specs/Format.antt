@@ -5,18 +5,18 @@ use mathlib.Core.List.{List, []}
 use lib.Dec.{ltb}
 use lib.ListN.{replicate}
 use Rattle.geometry.specs.declared.Geometry.{Geometry}
-use Rattle.array.specs.Device.{Device, Setting}
-use Rattle.polling.specs.Outcomes.{isPassed}
-use Rattle.polling.specs.declared.Outcome.the-variants.{Passed}
+use Rattle.chip_array.specs.Device.{Device, Setting}
+use Rattle.bus_polling.specs.Outcomes.{isPassed}
+use Rattle.bus_polling.specs.declared.Outcome.the-variants.{Passed}
 use Rattle.progress.specs.Progress.{Progress, progress, resetOn}
-use Rattle.found.specs.Found.{marksTo}
-use Rattle.choose.specs.Choose.{countPermitted}
+use Rattle.scan_found.specs.Found.{marksTo}
+use Rattle.state_choose.specs.Choose.{countPermitted}
 use Rattle.state.specs.State.{blank, none, mountedWith, numbersLeft}
 use Rattle.state.specs.declared.State.{State}
-use Rattle.calls.specs.Call.{Result, result, sizedFor, callLine, stopAnswer, endAt}
-use Rattle.tables.specs.Tables.{Tabled, tabled, tablesFilled}
-use Rattle.marks.specs.Marks.{marksRead}
-use Rattle.erasing.specs.Round.{erasedTo}
+use Rattle.request.specs.Call.{Result, result, sizedFor, callLine, stopAnswer, endAt}
+use Rattle.fill_tables.specs.Tables.{Tabled, tabled, tablesFilled}
+use Rattle.format_marks.specs.Marks.{marksRead}
+use Rattle.format_erase.specs.Round.{erasedTo}
 
 -- the state before the first table: numbers start one above the greatest on a whole page read, at 1 if none, and the search
 -- at block 0; there is no table, and no logical block has a copy

@@ -1,11 +1,11 @@
 // Formatting: marks are read, every unmarked block is erased, and a table is filled.
 use bus::Bus;
-use calls::Returned;
-use cursor::Cursor;
-use cursor::Running;
+use bus_polling::Outcome;
+use chip_interface::Interface;
+use fill_cursor::Cursor;
+use fill_cursor::Running;
 use geometry::Geometry;
-use interface::Interface;
-use polling::Outcome;
+use request::Returned;
 use state::State;
 ghost use mathlib.Core.List.{List};
 ghost use mathlib.Core.Path.{_≡_};
@@ -13,15 +13,15 @@ ghost use Prim.Native.Nat.{_<_, _≤_};
 ghost use lib.ListN.{length};
 ghost use Rattle.geometry.specs.Sizes.{pageSize};
 ghost use Rattle.geometry.specs.Limits.{Valid};
-ghost use Rattle.array.specs.Device.{device, setting};
+ghost use Rattle.chip_array.specs.Device.{device, setting};
 ghost use Rattle.chip.specs.Chip.{Cycle};
 ghost use Rattle.bus.specs.Line.{line};
-ghost use Rattle.polling.specs.declared.Outcome.the-variants.{Passed};
+ghost use Rattle.bus_polling.specs.declared.Outcome.the-variants.{Passed};
 ghost use Rattle.operations.specs.Ends.{Called};
 ghost use Rattle.operations.specs.Trace.{ArrayOperation};
 ghost use Rattle.progress.specs.Progress.{progress};
 ghost use Rattle.state.specs.State.{numberEnd};
-ghost use Rattle.calls.specs.Call.{result};
+ghost use Rattle.request.specs.Call.{result};
 ghost use Rattle.format.specs.Format.{endOfRun, firstState, tablesRun, roundRun, marksRun, formatting};
 
 // The state before the first table: the search starts at block 0, and no block holds anything current.
@@ -56,8 +56,8 @@ fn fill_first(
     ensures { λ r. ⌜ ((cs : List Cycle) (os : List ArrayOperation) → result (r .answer) (r .state) (device (r .interface) (now (array .exit)) (now (register .exit)) (now (history .exit))) (r .sent) ≡ endOfRun allowed (tablesRun (setting g (now (mask .entry)) (now (fates .entry))) marked invalid greatest (progress (line from (now (array .entry)) (now (register .entry)) (now (history .entry))) Passed cs os))) ⌝ }
 {
     let held = [0u8; 512];
-    if choose::count_permitted(&marked, &invalid, &held, g.blocks) < g.logical + 2 {
-        return calls::end(8, State::blank(2), from, allowed);
+    if state_choose::count_permitted(&marked, &invalid, &held, g.blocks) < g.logical + 2 {
+        return request::end(8, State::blank(2), from, allowed);
     }
     let first = first_state(g, marked, invalid, greatest);
     let none = [0u8; 0];
@@ -66,7 +66,7 @@ fn fill_first(
         cursor,
         state: first,
     };
-    let ran = driver::run(
+    let ran = fill_driver::run(
         from,
         g,
         array,
@@ -77,12 +77,12 @@ fn fill_first(
         start,
         &none,
         page,
-        driver::PROGRAMS,
+        fill_driver::PROGRAMS,
     );
     let c = ran.cursor;
     let bus = ran.bus;
     let next = ran.state;
-    calls::end(c.answer, next, bus, allowed)
+    request::end(c.answer, next, bus, allowed)
 }
 
 // The first round of erases and the table fills.
@@ -103,7 +103,7 @@ fn erase_and_fill(
 {
     let mut page = [0u8; 4352];
     let size = geometry::page_size(g);
-    let erased = erasing::erase_all(
+    let erased = format_erase::erase_all(
         from,
         g,
         array,
@@ -117,7 +117,7 @@ fn erase_and_fill(
     let b = erased.bus;
     let outcome = erased.outcome;
     let Outcome::Passed = outcome else {
-        return calls::end(calls::stop_answer(outcome), State::blank(2), b, allowed);
+        return request::end(request::stop_answer(outcome), State::blank(2), b, allowed);
     };
     let invalid = erased.invalid;
     let numbers = erased.numbers;
@@ -154,11 +154,11 @@ fn mark_and_erase(
     requires { ⌜ from .left ≤ allowed ⌝ }
     ensures { λ r. ⌜ ((cs : List Cycle) (os : List ArrayOperation) → result (r .answer) (r .state) (device (r .interface) (now (array .exit)) (now (register .exit)) (now (history .exit))) (r .sent) ≡ endOfRun allowed (marksRun (setting g (now (mask .entry)) (now (fates .entry))) (progress (line from (now (array .entry)) (now (register .entry)) (now (history .entry))) Passed cs os))) ⌝ }
 {
-    let found = marks::read_marks(from, g, array, register, history, mask, fates);
+    let found = format_marks::read_marks(from, g, array, register, history, mask, fates);
     let b = found.bus;
     let outcome = found.outcome;
     let Outcome::Passed = outcome else {
-        return calls::end(calls::stop_answer(outcome), State::blank(2), b, allowed);
+        return request::end(request::stop_answer(outcome), State::blank(2), b, allowed);
     };
     let marked = found.marked;
     erase_and_fill(b, g, array, register, history, mask, fates, marked, allowed)
@@ -178,7 +178,7 @@ pub fn format(
 ) -> Returned
     ensures { λ r. ⌜ result (r .answer) (r .state) (device (r .interface) (now (array .exit)) (now (register .exit)) (now (history .exit))) (r .sent) ≡ formatting (setting g (now (mask .entry)) (now (fates .entry))) (device interface (now (array .entry)) (now (register .entry)) (now (history .entry))) allowed state ⌝ }
 {
-    let begun = calls::start(g, interface, array, register, history, mask, fates, allowed);
+    let begun = request::start(g, interface, array, register, history, mask, fates, allowed);
     let answer = begun.answer;
     let bus = begun.bus;
     if answer == 1 {
@@ -190,7 +190,7 @@ pub fn format(
         };
     }
     if answer != 0 {
-        return calls::end(answer, State::blank(2), bus, allowed);
+        return request::end(answer, State::blank(2), bus, allowed);
     }
     mark_and_erase(bus, g, array, register, history, mask, fates, allowed)
 }

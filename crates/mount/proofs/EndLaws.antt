@@ -10,25 +10,25 @@ use lib.ListN.{length, replicate, length-replicate}
 use Rattle.geometry.specs.declared.Geometry.{Geometry}
 use Rattle.geometry.specs.Limits.{Valid}
 use Rattle.geometry.specs.Sizes.{chipSize}
-use Rattle.array.specs.Device.{Setting}
+use Rattle.chip_array.specs.Device.{Setting}
 use Rattle.bus.specs.Line.{Line}
-use Rattle.polling.specs.Outcomes.{isPassed}
-use Rattle.polling.specs.declared.Outcome.{Outcome}
-use Rattle.polling.specs.declared.Outcome.the-variants.{Passed}
+use Rattle.bus_polling.specs.Outcomes.{isPassed}
+use Rattle.bus_polling.specs.declared.Outcome.{Outcome}
+use Rattle.bus_polling.specs.declared.Outcome.the-variants.{Passed}
 use Rattle.copies.specs.Current.{mountAnswer}
 use Rattle.state.specs.State.{blank}
 use Rattle.state.specs.declared.State.{State}
-use Rattle.found.specs.Contents.{Contents, contents, contentsTo}
-use Rattle.found.specs.Found.{foundTo}
-use Rattle.found.specs.declared.Found.{Found}
+use Rattle.scan_found.specs.Contents.{Contents, contents, contentsTo}
+use Rattle.scan_found.specs.Found.{foundTo}
+use Rattle.scan_found.specs.declared.Found.{Found}
 use Rattle.progress.specs.Progress.{Progress, progress}
 use Rattle.scan.specs.Scan.{blocksRead}
 use Rattle.scan.proofs.ChipLaws.{blocks-stopped}
-use Rattle.calls.proofs.StartLaws.{Stops}
+use Rattle.request.proofs.StartLaws.{Stops}
 use Rattle.scan.proofs.KeepLaws.{blocks-keep}
 use Rattle.progress.proofs.CountLaws.{allowance-kept}
-use Rattle.calls.specs.Call.{endAt, stopAnswer}
-use Rattle.judging.specs.Judging.{judgedBy, stateOf}
+use Rattle.request.specs.Call.{endAt, stopAnswer}
+use Rattle.mount_judge.specs.Judging.{judgedBy, stateOf}
 use Rattle.mount.specs.Mount.{mountEnd, stateAfter, mountedState}
 use Rattle.mount.proofs.MountLaws.{judge-is, state-is}
 

@@ -20,12 +20,12 @@ use Rattle.copies.specs.Pick.{Pick, nothing, at, pick, Picked, someBelow}
 use Rattle.copies.specs.Table.{bitmapOf, clearWhere, rightTo, rightTable}
 use Rattle.copies.proofs.PickLaws.{pick-is, up-to}
 use Rattle.state.specs.State.{mountedWith}
-use Rattle.found.specs.Contents.{Contents, contents, contentsTo, clashing, mapTo, mapOf}
-use Rattle.found.specs.Found.{foundTo, bitsAt, rightAt, marksTo}
-use Rattle.found.proofs.FoundLaws.{found-marked, found-greatest, most-found, Kept, kept, Chosen, Missing, table-found}
-use Rattle.found.proofs.ToldLaws.{Told, told, bit-is, clash-same}
-use Rattle.found.proofs.MapLaws.{map-is}
-use Rattle.judging.specs.Judging.{judgedBy, stateOf}
+use Rattle.scan_found.specs.Contents.{Contents, contents, contentsTo, clashing, mapTo, mapOf}
+use Rattle.scan_found.specs.Found.{foundTo, bitsAt, rightAt, marksTo}
+use Rattle.scan_found.proofs.FoundLaws.{found-marked, found-greatest, most-found, Kept, kept, Chosen, Missing, table-found}
+use Rattle.scan_found.proofs.ToldLaws.{Told, told, bit-is, clash-same}
+use Rattle.scan_found.proofs.MapLaws.{map-is}
+use Rattle.mount_judge.specs.Judging.{judgedBy, stateOf}
 use Rattle.mount.specs.Mount.{blockOf, mountedState}
 use Rattle.bitmaps.proofs.BitmapLaws.{blank-bit}
 

@@ -4,19 +4,19 @@ use mathlib.Core.Bool.{cond}
 use mathlib.Core.List.{List, []}
 use lib.Dec.{eqb}
 use Rattle.geometry.specs.declared.Geometry.{Geometry}
-use Rattle.array.specs.Device.{Device, Setting}
+use Rattle.chip_array.specs.Device.{Device, Setting}
 use Rattle.bus.specs.Line.{Line}
-use Rattle.polling.specs.Outcomes.{isPassed}
-use Rattle.polling.specs.declared.Outcome.the-variants.{Passed}
+use Rattle.bus_polling.specs.Outcomes.{isPassed}
+use Rattle.bus_polling.specs.declared.Outcome.the-variants.{Passed}
 use Rattle.copies.specs.Current.{currentTable, filledLast, nextNumber, mountAnswer}
 use Rattle.copies.specs.Pick.{Pick, nothing, at}
 use Rattle.state.specs.State.{blank, mountedWith}
 use Rattle.state.specs.declared.State.{State}
-use Rattle.found.specs.Contents.{mapOf}
-use Rattle.found.specs.Found.{bitsAt, marksTo}
+use Rattle.scan_found.specs.Contents.{mapOf}
+use Rattle.scan_found.specs.Found.{bitsAt, marksTo}
 use Rattle.progress.specs.Progress.{Progress, progress, resetOn}
 use Rattle.scan.specs.Scan.{blocksRead}
-use Rattle.calls.specs.Call.{Result, result, sizedFor, callLine, stopAnswer, endAt}
+use Rattle.request.specs.Call.{Result, result, sizedFor, callLine, stopAnswer, endAt}
 
 -- the block picked, 0 for none
 unfoldable pub blockOf : Pick → ℕ

@@ -1,22 +1,22 @@
 // Mounting: a reset, a scan of the whole chip, and the state that it gives. Nothing on the chip changes.
 use bus::Bus;
-use calls::Returned;
+use bus_polling::Outcome;
+use chip_interface::Interface;
 use geometry::Geometry;
-use interface::Interface;
-use polling::Outcome;
+use request::Returned;
 use state::State;
 ghost use mathlib.Core.List.{List};
 ghost use mathlib.Core.Path.{_≡_};
 ghost use Prim.Native.Nat.{_≤_};
-ghost use Rattle.array.specs.Device.{device, setting};
+ghost use Rattle.chip_array.specs.Device.{device, setting};
 ghost use Rattle.chip.specs.Chip.{Cycle};
 ghost use Rattle.bus.specs.Line.{line};
-ghost use Rattle.polling.specs.declared.Outcome.the-variants.{Passed};
+ghost use Rattle.bus_polling.specs.declared.Outcome.the-variants.{Passed};
 ghost use Rattle.operations.specs.Ends.{Called};
 ghost use Rattle.operations.specs.Trace.{ArrayOperation};
 ghost use Rattle.progress.specs.Progress.{progress};
 ghost use Rattle.scan.specs.Scan.{blocksRead};
-ghost use Rattle.calls.specs.Call.{result};
+ghost use Rattle.request.specs.Call.{result};
 ghost use Rattle.mount.specs.Mount.{mountEnd, mounting};
 
 // The scan, once the chip is reset, and its end.
@@ -55,15 +55,15 @@ fn scan_and_judge(
     let b = scanned.bus;
     let outcome = scanned.outcome;
     let Outcome::Passed = outcome else {
-        return calls::end(calls::stop_answer(outcome), State::blank(2), b, allowed);
+        return request::end(request::stop_answer(outcome), State::blank(2), b, allowed);
     };
     let found = scanned.found;
-    let answer = judging::judge(found, g, &kinds, &logicals, &numbers);
+    let answer = mount_judge::judge(found, g, &kinds, &logicals, &numbers);
     if answer != 0 {
-        return calls::end(answer, State::blank(0), b, allowed);
+        return request::end(answer, State::blank(0), b, allowed);
     }
-    let state = judging::mounted_state(found, g, &kinds, &logicals, &numbers);
-    calls::end(0, state, b, allowed)
+    let state = mount_judge::mounted_state(found, g, &kinds, &logicals, &numbers);
+    request::end(0, state, b, allowed)
 }
 
 // The request, on any state, chip, mask, fate words and allowance.
@@ -80,7 +80,7 @@ pub fn mount(
 ) -> Returned
     ensures { λ r. ⌜ result (r .answer) (r .state) (device (r .interface) (now (array .exit)) (now (register .exit)) (now (history .exit))) (r .sent) ≡ mounting (setting g (now (mask .entry)) (now (fates .entry))) (device interface (now (array .entry)) (now (register .entry)) (now (history .entry))) allowed state ⌝ }
 {
-    let begun = calls::start(g, interface, array, register, history, mask, fates, allowed);
+    let begun = request::start(g, interface, array, register, history, mask, fates, allowed);
     let answer = begun.answer;
     let bus = begun.bus;
     if answer == 1 {
@@ -92,7 +92,7 @@ pub fn mount(
         };
     }
     if answer != 0 {
-        return calls::end(answer, State::blank(2), bus, allowed);
+        return request::end(answer, State::blank(2), bus, allowed);
     }
     scan_and_judge(bus, g, array, register, history, mask, fates, allowed)
 }

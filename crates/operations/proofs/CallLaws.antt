@@ -11,10 +11,10 @@ use Rattle.geometry.specs.Limits.{Valid}
 use Rattle.geometry.specs.Sizes.{pageSize, chipSize, rowCount}
 use Rattle.geometry.proofs.LimitLaws.{holds}
 use Rattle.geometry.proofs.SizeLaws.{page-size-most}
-use Rattle.interface.specs.Interface.{addressFits, rowOfAddress, columnOfAddress}
+use Rattle.chip_interface.specs.Interface.{addressFits, rowOfAddress, columnOfAddress}
 use Rattle.cells.specs.Part.{put}
 use Rattle.cells.proofs.PartLaws.{length-put}
-use Rattle.array.specs.Device.{Device, Setting, fitting}
+use Rattle.chip_array.specs.Device.{Device, Setting, fitting}
 use Rattle.operations.specs.Ends.{Called}
 use Rattle.bus.specs.Line.{Line, uncutLine}
 

@@ -11,17 +11,17 @@ use lib.Dec.{eqb, leb, ltb}
 use lib.ListN.{length, take, replicate, length-append, length-replicate, replicate-append-replicate}
 use lib.Seq.{take-append-le, take-append-add}
 use Rattle.geometry.specs.Sizes.{rowCount}
-use Rattle.interface.specs.declared.Interface.{Interface}
-use Rattle.interface.specs.Interface.{inPhase}
-use Rattle.array.specs.Device.{Device, Setting, device, withPort, lengthsFit, rowAt, completed}
+use Rattle.chip_interface.specs.declared.Interface.{Interface}
+use Rattle.chip_interface.specs.Interface.{inPhase}
+use Rattle.chip_array.specs.Device.{Device, Setting, device, withInterface, lengthsFit, rowAt, completed}
 use Rattle.chip.specs.Chip.{Cycle, exec, lessBusy}
 use Rattle.chip.specs.Chip.Cycle.{command, status}
 use Rattle.bus.specs.Line.{Line, sendAll, run, Legal, uncutLine, cutLine}
 use Rattle.bus.proofs.LineLaws.{sendAll-append, run-append, run-uncut, run-cut, cut-stays}
 use Rattle.bus.proofs.LegalLaws.{legal-run, legal-start, legal-take, legal-first}
 use Rattle.bus.proofs.StepLaws.{busyWith, one-busy, busy-reads, ready-read, status-busy}
-use Rattle.polling.specs.Polling.{waiting, polls, statusReads}
-use Rattle.sequences.specs.Cycles.{confirmCycles, confirmedCycles}
+use Rattle.bus_polling.specs.Polling.{waiting, polls, statusReads}
+use Rattle.bus_sequences.specs.Cycles.{confirmCycles, confirmedCycles}
 use Rattle.operations.specs.Ends.{pollsFor}
 
 eqb-at : {p : ℕ} → p ≡ 1 → eqb p 8 ≡ false
@@ -49,7 +49,7 @@ count-one b n p =
     (λ h. rw (h, lt-ltb (b - 1) n (omega (arith, ltb-true b (suc n) h))) (omega arith))
     (λ h. rw (h, le-ltb (b - 1) n (omega (arith, ltb-false b (suc n) h))))
 
-waiting-on : (d : Device) → d .port .phase ≡ 8 → d .port .illegal ≡ 0 → waiting d ≡ true
+waiting-on : (d : Device) → d .interface .phase ≡ 8 → d .interface .illegal ≡ 0 → waiting d ≡ true
 unfolding waiting
 waiting-on d p e = rw (eq-eqb _ _ p, eq-eqb _ _ e)
 
@@ -86,18 +86,18 @@ module _ (s : Setting) where
 -- what an operation's first cycles and its confirm cycle leave: d₂ after the confirm cycle, d₄ once ready is reported
 pub record Confirmed (s : Setting) (d : Device) (first : List Cycle) (code : ℕ) (d₂ d₄ : Device) : Type 0 where
   pub confirm : exec s (run s d first) (command code) ≡ d₂
-  pub busy : d₂ .port .phase ≡ 7
-  pub legal : d₂ .port .illegal ≡ 0
+  pub busy : d₂ .interface .phase ≡ 7
+  pub legal : d₂ .interface .illegal ≡ 0
   pub fits : lengthsFit (s .geometry) d₂ ≡ true
-  pub row : rowAt (d₂ .port) < rowCount (s .geometry)
-  pub settle : completed (s .geometry) (withPort (busyWith 0 (inPhase 8 (d₂ .port))) d₂) ≡ d₄
-  pub settled : d₄ .port .phase ≡ 1
-  pub still-legal : d₄ .port .illegal ≡ 0
+  pub row : rowAt (d₂ .interface) < rowCount (s .geometry)
+  pub settle : completed (s .geometry) (withInterface (busyWith 0 (inPhase 8 (d₂ .interface))) d₂) ≡ d₄
+  pub settled : d₄ .interface .phase ≡ 1
+  pub still-legal : d₄ .interface .illegal ≡ 0
 
 module _ (s : Setting) (d : Device) (first : List Cycle) (code : ℕ) (d₂ d₄ : Device) (c : Confirmed s d first code d₂ d₄) where
   -- the chip while it is asked for its status
   asked : Device
-  asked = withPort (inPhase 8 (d₂ .port)) d₂
+  asked = withInterface (inPhase 8 (d₂ .interface)) d₂
 
   prefix : List Cycle
   prefix = first ++ confirmCycles code
@@ -121,14 +121,14 @@ module _ (s : Setting) (d : Device) (first : List Cycle) (code : ℕ) (d₂ d₄
   unfolding asked prefix
   prefix-legal = legal-run s d prefix (rw run-prefix (c .legal))
 
-  start-legal : d .port .illegal ≡ 0
+  start-legal : d .interface .illegal ≡ 0
   unfolding asked
   start-legal = legal-start s d prefix (rw run-prefix (c .legal))
 
-  polls-asked : polls s 256 asked ≡ pollsFor (d₂ .port .busy)
+  polls-asked : polls s 256 asked ≡ pollsFor (d₂ .interface .busy)
   unfolding asked waiting
   polls-asked =
-      polls-are s 256 (inPhase 8 (d₂ .port)) (d₂ .array) (d₂ .register) (d₂ .history) refl (c .legal) (c .fits) (c .row)
+      polls-are s 256 (inPhase 8 (d₂ .interface)) (d₂ .array) (d₂ .register) (d₂ .history) refl (c .legal) (c .fits) (c .row)
       (rw (c .settle, eqb-at (c .settled)))
 
   -- where it does not cover the prefix, nothing follows
@@ -141,7 +141,7 @@ module _ (s : Setting) (d : Device) (first : List Cycle) (code : ℕ) (d₂ d₄
       ∙ cut-stays s (run s d (take n prefix)) (statusReads s (run s d (take n prefix)))
 
   -- where the allowance covers the prefix, the status reads follow on it
-  late : (n : ℕ) → length first + 2 ≤ n → sendAll s (uncutLine d n) (confirmedCycles s (uncutLine d n) first code) ≡ sendAll s (uncutLine asked (n - (length first + 2))) (replicate (pollsFor (d₂ .port .busy)) status)
+  late : (n : ℕ) → length first + 2 ≤ n → sendAll s (uncutLine d n) (confirmedCycles s (uncutLine d n) first code) ≡ sendAll s (uncutLine asked (n - (length first + 2))) (replicate (pollsFor (d₂ .interface .busy)) status)
   unfolding prefix
   late n h =
       let e = run-uncut s d n prefix start-legal prefix-legal (rw length-prefix h)
@@ -151,50 +151,50 @@ module _ (s : Setting) (d : Device) (first : List Cycle) (code : ℕ) (d₂ d₄
       ∙ ap (λ (k : ℕ). sendAll s (uncutLine asked (n - (length first + 2))) (replicate k status)) polls-asked
 
   -- the status reads, with nothing cut
-  ready-asked : run s asked (replicate (d₂ .port .busy + 1) status) ≡ d₄
+  ready-asked : run s asked (replicate (d₂ .interface .busy + 1) status) ≡ d₄
   unfolding asked
   ready-asked =
-      reads-ready s (inPhase 8 (d₂ .port)) (d₂ .array) (d₂ .register) (d₂ .history) refl (c .fits) (c .row) ∙ c .settle
+      reads-ready s (inPhase 8 (d₂ .interface)) (d₂ .array) (d₂ .register) (d₂ .history) refl (c .fits) (c .row) ∙ c .settle
 
-  busy-asked : (n : ℕ) → n ≤ d₂ .port .busy → run s asked (replicate n status) ≡ withPort (busyWith (d₂ .port .busy - n) (inPhase 8 (d₂ .port))) d₂
+  busy-asked : (n : ℕ) → n ≤ d₂ .interface .busy → run s asked (replicate n status) ≡ withInterface (busyWith (d₂ .interface .busy - n) (inPhase 8 (d₂ .interface))) d₂
   unfolding asked
-  busy-asked n h = busy-reads s n (inPhase 8 (d₂ .port)) (d₂ .array) (d₂ .register) (d₂ .history) refl h
+  busy-asked n h = busy-reads s n (inPhase 8 (d₂ .interface)) (d₂ .array) (d₂ .register) (d₂ .history) refl h
 
-  asked-legal : asked .port .illegal ≡ 0
+  asked-legal : asked .interface .illegal ≡ 0
   unfolding asked
   asked-legal = c .legal
 
-  reads-legal : Legal s asked (replicate (d₂ .port .busy + 1) status)
-  reads-legal = legal-run s asked (replicate (d₂ .port .busy + 1) status) (rw ready-asked (c .still-legal))
+  reads-legal : Legal s asked (replicate (d₂ .interface .busy + 1) status)
+  reads-legal = legal-run s asked (replicate (d₂ .interface .busy + 1) status) (rw ready-asked (c .still-legal))
 
-  busy-legal : (n : ℕ) → n ≤ d₂ .port .busy → Legal s asked (replicate n status)
+  busy-legal : (n : ℕ) → n ≤ d₂ .interface .busy → Legal s asked (replicate n status)
   busy-legal n h = legal-run s asked (replicate n status) (rw (busy-asked n h) (c .legal))
 
-  polls-legal : Legal s asked (replicate (pollsFor (d₂ .port .busy)) status)
+  polls-legal : Legal s asked (replicate (pollsFor (d₂ .interface .busy)) status)
   polls-legal =
-      cases (ltb (d₂ .port .busy) 256)
-      (λ t. rw (polls-ready (d₂ .port .busy) (ltb-true (d₂ .port .busy) 256 t)) reads-legal)
+      cases (ltb (d₂ .interface .busy) 256)
+      (λ t. rw (polls-ready (d₂ .interface .busy) (ltb-true (d₂ .interface .busy) 256 t)) reads-legal)
       (λ t.
-      let k = ltb-false (d₂ .port .busy) 256 t in
-      rw (polls-silent (d₂ .port .busy) k) (busy-legal 256 k))
+      let k = ltb-false (d₂ .interface .busy) 256 t in
+      rw (polls-silent (d₂ .interface .busy) k) (busy-legal 256 k))
 
   -- it is reported ready in time
-  pub through : (n : ℕ) → d₂ .port .busy < 256 → length first + 2 + (d₂ .port .busy + 1) ≤ n → sendAll s (uncutLine d n) (confirmedCycles s (uncutLine d n) first code) ≡ uncutLine d₄ (n - (length first + 2 + (d₂ .port .busy + 1)))
+  pub through : (n : ℕ) → d₂ .interface .busy < 256 → length first + 2 + (d₂ .interface .busy + 1) ≤ n → sendAll s (uncutLine d n) (confirmedCycles s (uncutLine d n) first code) ≡ uncutLine d₄ (n - (length first + 2 + (d₂ .interface .busy + 1)))
   through n k h =
       late n (omega arith)
-      ∙ ap (λ (j : ℕ). sendAll s (uncutLine asked (n - (length first + 2))) (replicate j status)) (polls-ready (d₂ .port .busy) k)
-      ∙ run-uncut s asked (n - (length first + 2)) (replicate (d₂ .port .busy + 1) status) asked-legal reads-legal (rw length-replicate (omega arith))
-      ∙ ap₂ (λ (x : Device) (j : ℕ). uncutLine x (n - (length first + 2) - j)) ready-asked (length-replicate (d₂ .port .busy + 1) status)
+      ∙ ap (λ (j : ℕ). sendAll s (uncutLine asked (n - (length first + 2))) (replicate j status)) (polls-ready (d₂ .interface .busy) k)
+      ∙ run-uncut s asked (n - (length first + 2)) (replicate (d₂ .interface .busy + 1) status) asked-legal reads-legal (rw length-replicate (omega arith))
+      ∙ ap₂ (λ (x : Device) (j : ℕ). uncutLine x (n - (length first + 2) - j)) ready-asked (length-replicate (d₂ .interface .busy + 1) status)
       ∙ ap (uncutLine d₄) (omega arith)
 
   -- it stays silent
-  pub silent : (n : ℕ) → 256 ≤ d₂ .port .busy → length first + 2 + 256 ≤ n → sendAll s (uncutLine d n) (confirmedCycles s (uncutLine d n) first code) ≡ uncutLine (withPort (busyWith (d₂ .port .busy - 256) (inPhase 8 (d₂ .port))) d₂) (n - (length first + 2 + 256))
+  pub silent : (n : ℕ) → 256 ≤ d₂ .interface .busy → length first + 2 + 256 ≤ n → sendAll s (uncutLine d n) (confirmedCycles s (uncutLine d n) first code) ≡ uncutLine (withInterface (busyWith (d₂ .interface .busy - 256) (inPhase 8 (d₂ .interface))) d₂) (n - (length first + 2 + 256))
   silent n k h =
       late n (omega arith)
-      ∙ ap (λ (j : ℕ). sendAll s (uncutLine asked (n - (length first + 2))) (replicate j status)) (polls-silent (d₂ .port .busy) k)
+      ∙ ap (λ (j : ℕ). sendAll s (uncutLine asked (n - (length first + 2))) (replicate j status)) (polls-silent (d₂ .interface .busy) k)
       ∙ run-uncut s asked (n - (length first + 2)) (replicate 256 status) asked-legal (busy-legal 256 k) (rw length-replicate (omega arith))
       ∙ ap₂ (λ (x : Device) (j : ℕ). uncutLine x (n - (length first + 2) - j)) (busy-asked 256 k) (length-replicate 256 status)
-      ∙ ap (uncutLine (withPort (busyWith (d₂ .port .busy - 256) (inPhase 8 (d₂ .port))) d₂)) (omega arith)
+      ∙ ap (uncutLine (withInterface (busyWith (d₂ .interface .busy - 256) (inPhase 8 (d₂ .interface))) d₂)) (omega arith)
 
   -- it is cut before its confirm cycle
   pub early-cut : (n : ℕ) → n ≤ length first → sendAll s (uncutLine d n) (confirmedCycles s (uncutLine d n) first code) ≡ cutLine (run s d (take n first))
@@ -204,12 +204,12 @@ module _ (s : Setting) (d : Device) (first : List Cycle) (code : ℕ) (d₂ d₄
       ∙ ap (λ (cs : List Cycle). cutLine (run s d cs)) (take-append-le n first (confirmCycles code) h)
 
   -- it is cut after its confirm cycle: array, register and history are as that cycle left them
-  pub late-cut : (n : ℕ) → length first < n → n < length first + 2 + pollsFor (d₂ .port .busy) → (i : Interface) × (i .fate ≡ d₂ .port .fate) × (i .illegal ≡ 0) × (sendAll s (uncutLine d n) (confirmedCycles s (uncutLine d n) first code) ≡ cutLine (withPort i d₂))
+  pub late-cut : (n : ℕ) → length first < n → n < length first + 2 + pollsFor (d₂ .interface .busy) → (i : Interface) × (i .fate ≡ d₂ .interface .fate) × (i .illegal ≡ 0) × (sendAll s (uncutLine d n) (confirmedCycles s (uncutLine d n) first code) ≡ cutLine (withInterface i d₂))
   unfolding prefix
   late-cut n h k =
       cases (eqb n (length first + 1))
       (λ t. (
-        d₂ .port,
+        d₂ .interface,
         refl,
         c .legal,
         cut-prefix n (omega (arith, eqb-true n (length first + 1) t))
@@ -220,33 +220,33 @@ module _ (s : Setting) (d : Device) (first : List Cycle) (code : ℕ) (d₂ d₄
       (λ t.
       let g : length first + 2 ≤ n = omega (arith, eqb-false n (length first + 1) t) in
       let j = n - (length first + 2) in
-      let b : j ≤ d₂ .port .busy = omega (arith, polls-most (d₂ .port .busy)) in (
-        busyWith (d₂ .port .busy - j) (inPhase 8 (d₂ .port)),
+      let b : j ≤ d₂ .interface .busy = omega (arith, polls-most (d₂ .interface .busy)) in (
+        busyWith (d₂ .interface .busy - j) (inPhase 8 (d₂ .interface)),
         refl,
         c .legal,
         late n g
-            ∙ run-cut s asked j (replicate (pollsFor (d₂ .port .busy)) status) asked-legal polls-legal (rw length-replicate (omega arith))
-            ∙ ap (λ (cs : List Cycle). cutLine (run s asked cs)) (take-replicate j (pollsFor (d₂ .port .busy)) status (omega arith))
+            ∙ run-cut s asked j (replicate (pollsFor (d₂ .interface .busy)) status) asked-legal polls-legal (rw length-replicate (omega arith))
+            ∙ ap (λ (cs : List Cycle). cutLine (run s asked cs)) (take-replicate j (pollsFor (d₂ .interface .busy)) status (omega arith))
             ∙ ap cutLine (busy-asked j b),
       ))
 
   -- no cycle is answered illegal, wherever the operation is cut
-  pub confirmed-legal : (n : ℕ) → sendAll s (uncutLine d n) (confirmedCycles s (uncutLine d n) first code) .chip .port .illegal ≡ 0
+  pub confirmed-legal : (n : ℕ) → sendAll s (uncutLine d n) (confirmedCycles s (uncutLine d n) first code) .chip .interface .illegal ≡ 0
   confirmed-legal n =
       cases (leb n (length first))
       (λ t.
-      ap (λ (x : Line). x .chip .port .illegal) (early-cut n (leb-true n (length first) t))
+      ap (λ (x : Line). x .chip .interface .illegal) (early-cut n (leb-true n (length first) t))
       ∙ legal-take s d n first start-legal (legal-first s d first (confirmCycles code) prefix-legal))
-      (λ t. cases (ltb n (length first + 2 + pollsFor (d₂ .port .busy)))
+      (λ t. cases (ltb n (length first + 2 + pollsFor (d₂ .interface .busy)))
       (λ u.
-      let k = late-cut n (leb-false n (length first) t) (ltb-true n (length first + 2 + pollsFor (d₂ .port .busy)) u) in
-      ap (λ (x : Line). x .chip .port .illegal) (k .3) ∙ k .2)
-      (λ u. cases (ltb (d₂ .port .busy) 256)
+      let k = late-cut n (leb-false n (length first) t) (ltb-true n (length first + 2 + pollsFor (d₂ .interface .busy)) u) in
+      ap (λ (x : Line). x .chip .interface .illegal) (k .3) ∙ k .2)
+      (λ u. cases (ltb (d₂ .interface .busy) 256)
       (λ v.
-      let b = ltb-true (d₂ .port .busy) 256 v in
-      let h : length first + 2 + (d₂ .port .busy + 1) ≤ n = rw (polls-ready (d₂ .port .busy) b) at (ltb-false n (length first + 2 + pollsFor (d₂ .port .busy)) u) in
-      ap (λ (x : Line). x .chip .port .illegal) (through n b h) ∙ c .still-legal)
+      let b = ltb-true (d₂ .interface .busy) 256 v in
+      let h : length first + 2 + (d₂ .interface .busy + 1) ≤ n = rw (polls-ready (d₂ .interface .busy) b) at (ltb-false n (length first + 2 + pollsFor (d₂ .interface .busy)) u) in
+      ap (λ (x : Line). x .chip .interface .illegal) (through n b h) ∙ c .still-legal)
       (λ v.
-      let b = ltb-false (d₂ .port .busy) 256 v in
-      let h : length first + 2 + 256 ≤ n = rw (polls-silent (d₂ .port .busy) b) at (ltb-false n (length first + 2 + pollsFor (d₂ .port .busy)) u) in
-      ap (λ (x : Line). x .chip .port .illegal) (silent n b h) ∙ c .legal)))
+      let b = ltb-false (d₂ .interface .busy) 256 v in
+      let h : length first + 2 + 256 ≤ n = rw (polls-silent (d₂ .interface .busy) b) at (ltb-false n (length first + 2 + pollsFor (d₂ .interface .busy)) u) in
+      ap (λ (x : Line). x .chip .interface .illegal) (silent n b h) ∙ c .legal)))

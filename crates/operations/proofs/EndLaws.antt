@@ -10,14 +10,14 @@ use lib.Dec.{eqb, leb, ltb}
 use lib.ListN.{length, take}
 use Rattle.geometry.specs.Limits.{Valid}
 use Rattle.geometry.specs.Sizes.{pageSize, blockSize, chipSize}
-use Rattle.interface.specs.Interface.{busyOf, failedFor, nextFate}
-use Rattle.array.specs.Device.{Device, Setting}
+use Rattle.chip_interface.specs.Interface.{busyOf, failedFor, nextFate}
+use Rattle.chip_array.specs.Device.{Device, Setting}
 use Rattle.chip.specs.Chip.{Cycle}
 use Rattle.bus.specs.Line.{Line, run, sendAll, uncutLine, Quiet}
-use Rattle.polling.specs.Polling.{outcomeOf}
-use Rattle.sequences.specs.Cycles.{confirmedCycles}
+use Rattle.bus_polling.specs.Polling.{outcomeOf}
+use Rattle.bus_sequences.specs.Cycles.{confirmedCycles}
 use Rattle.operations.specs.Ends.{Called, End, endOf, confirmedEnd, endsAs, wordFor, totalFor}
-use Rattle.polling.specs.Outcomes.{answered}
+use Rattle.bus_polling.specs.Outcomes.{answered}
 use Rattle.operations.proofs.ConfirmLaws.{Confirmed, through, silent, early-cut, late-cut}
 
 pub same-end : {x y : End} → x .outcome ≡ y .outcome → x .array ≡ y .array → x .history ≡ y .history → x .left ≡ y .left → x .fate ≡ y .fate → x ≡ y
@@ -27,16 +27,16 @@ same-end o a h l f = λ i. record { outcome = o i; array = a i; history = h i; l
 pub record Effect (s : Setting) (d : Device) (first : List Cycle) (code op : ℕ) (d₂ d₄ : Device) (a₂ h₂ : List ℕ) : Type 0 where
   pub confirmed : Confirmed s d first code d₂ d₄
   pub quiet : (n : ℕ) → Quiet d (run s d (take n first))
-  pub busy-is : d₂ .port .busy ≡ busyOf (wordFor s d)
-  pub failed-is : d₂ .port .failed ≡ failedFor op (wordFor s d)
-  pub fate-is : d₂ .port .fate ≡ nextFate (s .fates) (d .port .fate)
+  pub busy-is : d₂ .interface .busy ≡ busyOf (wordFor s d)
+  pub failed-is : d₂ .interface .failed ≡ failedFor op (wordFor s d)
+  pub fate-is : d₂ .interface .fate ≡ nextFate (s .fates) (d .interface .fate)
   pub array-long : length (d₄ .array) ≡ chipSize (s .geometry)
   pub register-long : length (d₄ .register) ≡ pageSize (s .geometry)
   pub history-long : length (d₄ .history) ≡ s .geometry .blocks
-  pub then-failed : d₄ .port .failed ≡ d₂ .port .failed
-  pub then-fate : d₄ .port .fate ≡ d₂ .port .fate
-  pub then-array : d₄ .array ≡ cond (eqb (d₂ .port .failed) 0) a₂ (d₂ .array)
-  pub then-history : d₄ .history ≡ cond (eqb (d₂ .port .failed) 0) h₂ (d₂ .history)
+  pub then-failed : d₄ .interface .failed ≡ d₂ .interface .failed
+  pub then-fate : d₄ .interface .fate ≡ d₂ .interface .fate
+  pub then-array : d₄ .array ≡ cond (eqb (d₂ .interface .failed) 0) a₂ (d₂ .array)
+  pub then-history : d₄ .history ≡ cond (eqb (d₂ .interface .failed) 0) h₂ (d₂ .history)
 
 module _ (s : Setting) (d : Device) (first : List Cycle) (code op : ℕ) (d₂ d₄ : Device) (a₂ h₂ : List ℕ) (e : Effect s d first code op d₂ d₄ a₂ h₂) where
   whole : ℕ → Line
@@ -83,7 +83,7 @@ module _ (s : Setting) (d : Device) (first : List Cycle) (code op : ℕ) (d₂ d
       let c = e .confirmed in
       ap endOf (through s d first code d₂ d₄ c n (rw (e .busy-is) k) (rw (e .busy-is) m))
       ∙ same-end
-      (rw (eq-eqb _ _ (c .still-legal), ne-eqb (d₄ .port .phase) 8 (λ x. omega (arith, x, c .settled)), e .then-failed, e .failed-is, t, b))
+      (rw (eq-eqb _ _ (c .still-legal), ne-eqb (d₄ .interface .phase) 8 (λ x. omega (arith, x, c .settled)), e .then-failed, e .failed-is, t, b))
       (e .then-array ∙ rw (e .failed-is, l, t, b))
       (e .then-history ∙ rw (e .failed-is, l, t, b))
       (rw (e .busy-is, b))

@@ -14,18 +14,18 @@ use Rattle.cells.specs.Cells.{raised}
 use Rattle.cells.specs.Part.{part, put}
 use Rattle.cells.proofs.CellLaws.{length-raised}
 use Rattle.cells.proofs.PartLaws.{length-part, put-put}
-use Rattle.interface.specs.declared.Interface.{Interface}
-use Rattle.interface.specs.Interface.{beginning, fullAddress, inPhase, started, addressFits, failedFor, nextFate}
-use Rattle.array.specs.Device.{Device, Setting, device, withPort, rowAt, completed}
+use Rattle.chip_interface.specs.declared.Interface.{Interface}
+use Rattle.chip_interface.specs.Interface.{beginning, fullAddress, inPhase, started, addressFits, failedFor, nextFate}
+use Rattle.chip_array.specs.Device.{Device, Setting, device, withInterface, rowAt, completed}
 use Rattle.chip.specs.Chip.{exec, isConfirm}
 use Rattle.chip.specs.Chip.Cycle.{command}
 use Rattle.bus.specs.Line.{Line, run, sendAll, uncutLine, still, AllStill}
 use Rattle.bus.proofs.QuietLaws.{quiet-run, still-take, still-address}
 use Rattle.bus.proofs.StepLaws.{busyWith, begin-erase, three-bytes, confirm-erase}
-use Rattle.sequences.specs.Cycles.{eraseAddress, rowCycles, eraseCycles}
+use Rattle.bus_sequences.specs.Cycles.{eraseAddress, rowCycles, eraseCycles}
 use Rattle.operations.specs.Trace.{eraseStarts}
 use Rattle.operations.specs.Ends.{Called, CanErase, endOf, endsAs, confirmedEnd, eraseEnd, wordFor}
-use Rattle.polling.specs.Outcomes.{answered}
+use Rattle.bus_polling.specs.Outcomes.{answered}
 use Rattle.operations.proofs.CallLaws.{uncut-is, fitting-holds, row-is, address-holds, arms, part-arms, put-long, set-long}
 use Rattle.operations.proofs.TraceLaws.{effect-starts}
 use Rattle.operations.proofs.ConfirmLaws.{confirmed-legal}
@@ -43,13 +43,13 @@ module _ (s : Setting) (d : Device) (n block : ℕ) (p : CanErase s (uncutLine d
   row-small = row-below (s .geometry) (p .called .is-valid) block 0 (p .block-below) page-zero
 
   filled : Interface
-  filled = fullAddress (row * 65536) (beginning 5 2 (d .port))
+  filled = fullAddress (row * 65536) (beginning 5 2 (d .interface))
 
   after-address : run s d (eraseAddress row) ≡ device filled (d .array) (d .register) (d .history)
   unfolding run filled
   after-address =
       ap (λ (x : Device). run s x (rowCycles row)) (begin-erase s d (p .called .ready))
-      ∙ three-bytes s d row (d .port) (omega (arith, row-small, row-count-most (s .geometry) (p .called .is-valid)))
+      ∙ three-bytes s d row (d .interface) (omega (arith, row-small, row-count-most (s .geometry) (p .called .is-valid)))
       (subst (λ (a : ℕ). addressFits (s .geometry) a ≡ true) (zero-add (row * 65536))
       (address-holds (s .geometry) 0 row (p .called .is-valid) (omega (arith, page-size-least (s .geometry) (p .called .is-valid))) row-small))
 
@@ -91,11 +91,11 @@ module _ (s : Setting) (d : Device) (n block : ℕ) (p : CanErase s (uncutLine d
       block-is
 
   -- the chip when ready is reported
-  port-ready : Interface
-  port-ready = inPhase 1 (busyWith 0 (inPhase 8 (started 3 (s .fates) filled)))
+  interface-ready : Interface
+  interface-ready = inPhase 1 (busyWith 0 (inPhase 8 (started 3 (s .fates) filled)))
 
   done : Device
-  done = completed (s .geometry) (withPort (busyWith 0 (inPhase 8 (confirmed .port))) confirmed)
+  done = completed (s .geometry) (withInterface (busyWith 0 (inPhase 8 (confirmed .interface))) confirmed)
 
   failed : ℕ
   failed = failedFor 3 (wordFor s d)
@@ -122,14 +122,14 @@ module _ (s : Setting) (d : Device) (n block : ℕ) (p : CanErase s (uncutLine d
   unfolding marked freed
   freed-is = set-set (d .history) block 255 0
 
-  done-is : done ≡ cond (eqb failed 0) (device port-ready full (d .register) freed) (device port-ready half (d .register) marked)
-  unfolding done completed confirmed started filled port-ready failed
+  done-is : done ≡ cond (eqb failed 0) (device interface-ready full (d .register) freed) (device interface-ready half (d .register) marked)
+  unfolding done completed confirmed started filled interface-ready failed
   done-is =
-      ap (λ (x : Device). cond (eqb failed 0) x (device port-ready half (d .register) marked))
-      (ap (λ (b : ℕ). device port-ready (put (b * blockSize (s .geometry)) (replicate (blockSize (s .geometry)) 255) half) (d .register) (set marked b 0)) block-is
-      ∙ (λ i. device port-ready (again i) (d .register) (freed-is i)))
+      ap (λ (x : Device). cond (eqb failed 0) x (device interface-ready half (d .register) marked))
+      (ap (λ (b : ℕ). device interface-ready (put (b * blockSize (s .geometry)) (replicate (blockSize (s .geometry)) 255) half) (d .register) (set marked b 0)) block-is
+      ∙ (λ i. device interface-ready (again i) (d .register) (freed-is i)))
 
-  both-arms : (f : Device → ℕ) (v : ℕ) → f (device port-ready full (d .register) freed) ≡ v → f (device port-ready half (d .register) marked) ≡ v → f done ≡ v
+  both-arms : (f : Device → ℕ) (v : ℕ) → f (device interface-ready full (d .register) freed) ≡ v → f (device interface-ready half (d .register) marked) ≡ v → f done ≡ v
   both-arms f v x y = ap f done-is ∙ arms f v (eqb failed 0) _ _ x y
 
   length-half : length half ≡ chipSize (s .geometry)
@@ -154,7 +154,7 @@ module _ (s : Setting) (d : Device) (n block : ℕ) (p : CanErase s (uncutLine d
   still-first = (refl, still-address (rowBytes row))
 
   effect : Effect s d (eraseAddress row) 208 3 confirmed done full freed
-  unfolding confirmed done failed port-ready filled started
+  unfolding confirmed done failed interface-ready filled started
   effect =
       record {
         confirmed = record {
@@ -164,8 +164,8 @@ module _ (s : Setting) (d : Device) (n block : ℕ) (p : CanErase s (uncutLine d
           fits = fitting-holds (s .geometry) _ _ _ (p .called .is-valid) length-half (p .called .register-long) length-marked;
           row = rw row-at row-small;
           settle = refl;
-          settled = both-arms (λ (x : Device). x .port .phase) 1 refl refl;
-          still-legal = both-arms (λ (x : Device). x .port .illegal) 0 (p .called .legal) (p .called .legal);
+          settled = both-arms (λ (x : Device). x .interface .phase) 1 refl refl;
+          still-legal = both-arms (λ (x : Device). x .interface .illegal) 0 (p .called .legal) (p .called .legal);
         };
         quiet = λ k. quiet-run s d (take k (eraseAddress row)) (still-take k (eraseAddress row) still-first);
         busy-is = refl;
@@ -174,8 +174,8 @@ module _ (s : Setting) (d : Device) (n block : ℕ) (p : CanErase s (uncutLine d
         array-long = both-arms (λ (x : Device). length (x .array)) (chipSize (s .geometry)) length-full length-half;
         register-long = both-arms (λ (x : Device). length (x .register)) (pageSize (s .geometry)) (p .called .register-long) (p .called .register-long);
         history-long = both-arms (λ (x : Device). length (x .history)) (s .geometry .blocks) length-freed length-marked;
-        then-failed = both-arms (λ (x : Device). x .port .failed) failed refl refl;
-        then-fate = both-arms (λ (x : Device). x .port .fate) (nextFate (s .fates) (d .port .fate)) refl refl;
+        then-failed = both-arms (λ (x : Device). x .interface .failed) failed refl refl;
+        then-fate = both-arms (λ (x : Device). x .interface .fate) (nextFate (s .fates) (d .interface .fate)) refl refl;
         then-array = ap (λ (x : Device). x .array) done-is ∙ part-arms (λ (x : Device). x .array) (eqb failed 0) _ _;
         then-history = ap (λ (x : Device). x .history) done-is ∙ part-arms (λ (x : Device). x .history) (eqb failed 0) _ _;
       }
@@ -184,7 +184,7 @@ module _ (s : Setting) (d : Device) (n block : ℕ) (p : CanErase s (uncutLine d
   unfolding eraseEnd confirmed half full marked freed row
   ends = effect-ends s d (eraseAddress row) 208 3 confirmed done full freed effect n
 
-  allowed : sendAll s (uncutLine d n) (eraseCycles s (uncutLine d n) row) .chip .port .illegal ≡ 0
+  allowed : sendAll s (uncutLine d n) (eraseCycles s (uncutLine d n) row) .chip .interface .illegal ≡ 0
   allowed = confirmed-legal s d (eraseAddress row) 208 confirmed done (effect .confirmed) n
 
   next : answered (eraseEnd s (uncutLine d n) block .outcome) ≡ true → Called s (sendAll s (uncutLine d n) (eraseCycles s (uncutLine d n) row))
@@ -209,10 +209,10 @@ erase-ends s l block p =
     (ends s (l .chip) (l .left) block (subst (λ (x : Line). CanErase s x block) (uncut-is l (p .called .uncut)) p))
 
 -- no cycle of it is answered illegal
-pub erase-legal : (s : Setting) (l : Line) (block : ℕ) → CanErase s l block → sendAll s l (eraseCycles s l (rowOf (s .geometry) block 0)) .chip .port .illegal ≡ 0
+pub erase-legal : (s : Setting) (l : Line) (block : ℕ) → CanErase s l block → sendAll s l (eraseCycles s l (rowOf (s .geometry) block 0)) .chip .interface .illegal ≡ 0
 unfolding row
 erase-legal s l block p =
-    subst (λ (x : Line). sendAll s x (eraseCycles s x (rowOf (s .geometry) block 0)) .chip .port .illegal ≡ 0)
+    subst (λ (x : Line). sendAll s x (eraseCycles s x (rowOf (s .geometry) block 0)) .chip .interface .illegal ≡ 0)
     (sym (uncut-is l (p .called .uncut)))
     (allowed s (l .chip) (l .left) block (subst (λ (x : Line). CanErase s x block) (uncut-is l (p .called .uncut)) p))
 

@@ -6,16 +6,16 @@ use lib.ListN.{length, replicate}
 use Rattle.geometry.specs.declared.Geometry.{Geometry}
 use Rattle.cells.specs.Cells.{programmed, weakened, raised}
 use Rattle.cells.specs.Part.{put}
-use Rattle.interface.specs.Interface.{poweredOn, begun, statusMode, readMode, plainCommand, addressFits, latched, addressed, fateWord, nextFate, started}
-use Rattle.array.specs.Device.{Setting, device, setting, fitting, readStarted, programStarted, eraseStarted, completed}
+use Rattle.chip_interface.specs.Interface.{poweredOn, begun, statusMode, readMode, plainCommand, addressFits, latched, addressed, fateWord, nextFate, started}
+use Rattle.chip_array.specs.Device.{Setting, device, setting, fitting, readStarted, programStarted, eraseStarted, completed}
 use Rattle.chip.specs.Chip.{isConfirm, confirmed, confirmable, commanded, dataTaken, dataGiven, dataByte, finished, statusRead, exec}
 use Rattle.chip.specs.Chip.Cycle.{command, address, status}
 use Rattle.bus.specs.Line.{Line, mayGo, cutAfter, send, sendAll, sent, goesOn, byteOut, uncutLine}
-use Rattle.polling.specs.Polling.{waiting, polls, outcomeOf}
-use Rattle.polling.specs.Outcomes.{isPassed}
-use Rattle.sequences.specs.Cycles.{readCycles, readOutputs, outputs, programCycles, eraseCycles}
+use Rattle.bus_polling.specs.Polling.{waiting, polls, outcomeOf}
+use Rattle.bus_polling.specs.Outcomes.{isPassed}
+use Rattle.bus_sequences.specs.Cycles.{readCycles, readOutputs, outputs, programCycles, eraseCycles}
 use Rattle.operations.specs.Trace.{eraseSends, programSends, readSends}
-use Rattle.polling.specs.declared.Outcome.the-variants.{Passed, Silent, Cut, Illegal}
+use Rattle.bus_polling.specs.declared.Outcome.the-variants.{Passed, Silent, Cut, Illegal}
 
 abbrev small : Geometry
 small = record { main = 32; spare = 16; pages = 4; blocks = 4; logical = 2 }

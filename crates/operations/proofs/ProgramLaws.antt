@@ -13,19 +13,19 @@ use Rattle.cells.specs.Cells.{programmed, weakened}
 use Rattle.cells.specs.Part.{part, put}
 use Rattle.cells.proofs.CellLaws.{length-programmed, programmed-again}
 use Rattle.cells.proofs.PartLaws.{length-part, part-put, put-put}
-use Rattle.interface.specs.declared.Interface.{Interface}
-use Rattle.interface.specs.Interface.{beginning, fullAddress, inPhase, started, columnOfAddress, failedFor, nextFate}
-use Rattle.array.specs.Device.{Device, Setting, device, withPort, rowAt, fitting, completed}
+use Rattle.chip_interface.specs.declared.Interface.{Interface}
+use Rattle.chip_interface.specs.Interface.{beginning, fullAddress, inPhase, started, columnOfAddress, failedFor, nextFate}
+use Rattle.chip_array.specs.Device.{Device, Setting, device, withInterface, rowAt, fitting, completed}
 use Rattle.chip.specs.Chip.{exec, isConfirm}
 use Rattle.chip.specs.Chip.Cycle.{command, dataIn}
 use Rattle.bus.specs.Line.{Line, run, sendAll, uncutLine, still, AllStill}
 use Rattle.bus.proofs.LineLaws.{run-append}
 use Rattle.bus.proofs.QuietLaws.{quiet-run, still-take, still-append, still-address, still-data}
 use Rattle.bus.proofs.StepLaws.{atColumn, busyWith, begin-program, five-bytes, data-taken, confirm-program}
-use Rattle.sequences.specs.Cycles.{programData, addressCycles, programCycles}
+use Rattle.bus_sequences.specs.Cycles.{programData, addressCycles, programCycles}
 use Rattle.operations.specs.Trace.{programStarts}
 use Rattle.operations.specs.Ends.{Called, CanProgram, endOf, endsAs, confirmedEnd, programEnd, wordFor}
-use Rattle.polling.specs.Outcomes.{answered}
+use Rattle.bus_polling.specs.Outcomes.{answered}
 use Rattle.operations.proofs.CallLaws.{uncut-is, fitting-holds, column-is, row-is, address-holds, arms, part-arms, put-long, set-long}
 use Rattle.operations.proofs.EndLaws.{Effect, effect-ends, effect-next}
 use Rattle.operations.proofs.TraceLaws.{effect-starts}
@@ -44,7 +44,7 @@ module _ (s : Setting) (d : Device) (n block page : ℕ) (bytes : List ℕ) (p :
 
   -- the interface after the address, and after the data
   addressed : Interface
-  addressed = fullAddress (0 + row * 65536) (beginning 4 0 (d .port))
+  addressed = fullAddress (0 + row * 65536) (beginning 4 0 (d .interface))
 
   filled : Interface
   filled = atColumn (pageSize (s .geometry)) addressed
@@ -64,9 +64,9 @@ module _ (s : Setting) (d : Device) (n block page : ℕ) (bytes : List ℕ) (p :
   unfolding run addressed filled
   after-data =
       ap (λ (x : Device). run s x (addressCycles 0 row ++ map dataIn bytes)) (begin-program s d (p .called .ready))
-      ∙ run-append s (withPort (beginning 4 0 (d .port)) d) (addressCycles 0 row) (map dataIn bytes)
+      ∙ run-append s (withInterface (beginning 4 0 (d .interface)) d) (addressCycles 0 row) (map dataIn bytes)
       ∙ ap (λ (x : Device). run s x (map dataIn bytes))
-      (five-bytes s d 4 0 row (d .port) refl (omega arith) (omega (arith, row-small, row-count-most (s .geometry) (p .called .is-valid)))
+      (five-bytes s d 4 0 row (d .interface) refl (omega arith) (omega (arith, row-small, row-count-most (s .geometry) (p .called .is-valid)))
       (address-holds (s .geometry) 0 row (p .called .is-valid) (omega (arith, page-size-least (s .geometry) (p .called .is-valid))) row-small))
       ∙ data-taken s bytes addressed (d .array) (d .register) (d .history) refl (omega (arith, at-zero, p .bytes-long, p .called .register-long))
       ∙ ap₂ (λ (k : ℕ) (r : List ℕ). device (atColumn k addressed) (d .array) r (d .history))
@@ -117,11 +117,11 @@ module _ (s : Setting) (d : Device) (n block page : ℕ) (bytes : List ℕ) (p :
       row-at block-is page-is
 
   -- the chip when ready is reported
-  port-ready : Interface
-  port-ready = inPhase 1 (busyWith 0 (inPhase 8 (started 2 (s .fates) filled)))
+  interface-ready : Interface
+  interface-ready = inPhase 1 (busyWith 0 (inPhase 8 (started 2 (s .fates) filled)))
 
   done : Device
-  done = completed (s .geometry) (withPort (busyWith 0 (inPhase 8 (confirmed .port))) confirmed)
+  done = completed (s .geometry) (withInterface (busyWith 0 (inPhase 8 (confirmed .interface))) confirmed)
 
   failed : ℕ
   failed = failedFor 2 (wordFor s d)
@@ -148,14 +148,14 @@ module _ (s : Setting) (d : Device) (n block page : ℕ) (bytes : List ℕ) (p :
       ∙ ap (λ (zs : List ℕ). put (row * pageSize (s .geometry)) zs half) (programmed-again old bytes (s .mask))
       ∙ put-put (row * pageSize (s .geometry)) (programmed old bytes) ys (d .array) (length-programmed old bytes ∙ length-old ∙ sym m) h
 
-  done-is : done ≡ cond (eqb failed 0) (device port-ready full bytes marked) (device port-ready half bytes marked)
-  unfolding done completed confirmed started filled addressed port-ready failed
+  done-is : done ≡ cond (eqb failed 0) (device interface-ready full bytes marked) (device interface-ready half bytes marked)
+  unfolding done completed confirmed started filled addressed interface-ready failed
   done-is =
-      ap (λ (a : List ℕ). cond (eqb failed 0) (device port-ready a bytes marked) (device port-ready half bytes marked))
+      ap (λ (a : List ℕ). cond (eqb failed 0) (device interface-ready a bytes marked) (device interface-ready half bytes marked))
       (ap (λ (r : ℕ). put (r * pageSize (s .geometry)) (programmed (part (r * pageSize (s .geometry)) (pageSize (s .geometry)) half) bytes) half) row-at
       ∙ again)
 
-  both-arms : (f : Device → ℕ) (v : ℕ) → f (device port-ready full bytes marked) ≡ v → f (device port-ready half bytes marked) ≡ v → f done ≡ v
+  both-arms : (f : Device → ℕ) (v : ℕ) → f (device interface-ready full bytes marked) ≡ v → f (device interface-ready half bytes marked) ≡ v → f done ≡ v
   both-arms f v x y = ap f done-is ∙ arms f v (eqb failed 0) _ _ x y
 
   length-half : length half ≡ chipSize (s .geometry)
@@ -178,7 +178,7 @@ module _ (s : Setting) (d : Device) (n block page : ℕ) (bytes : List ℕ) (p :
   still-first = (refl, still-append (addressCycles 0 row) (map dataIn bytes) (still-address (columnBytes 0 ++ rowBytes row)) (still-data bytes))
 
   effect : Effect s d (programData row bytes) 16 2 confirmed done full marked
-  unfolding confirmed done failed port-ready filled addressed started
+  unfolding confirmed done failed interface-ready filled addressed started
   effect =
       record {
         confirmed = record {
@@ -188,8 +188,8 @@ module _ (s : Setting) (d : Device) (n block page : ℕ) (bytes : List ℕ) (p :
           fits = fitting-holds (s .geometry) _ _ _ (p .called .is-valid) length-half (p .bytes-long) length-marked;
           row = rw row-at row-small;
           settle = refl;
-          settled = both-arms (λ (x : Device). x .port .phase) 1 refl refl;
-          still-legal = both-arms (λ (x : Device). x .port .illegal) 0 (p .called .legal) (p .called .legal);
+          settled = both-arms (λ (x : Device). x .interface .phase) 1 refl refl;
+          still-legal = both-arms (λ (x : Device). x .interface .illegal) 0 (p .called .legal) (p .called .legal);
         };
         quiet = λ k. quiet-run s d (take k (programData row bytes)) (still-take k (programData row bytes) still-first);
         busy-is = refl;
@@ -198,8 +198,8 @@ module _ (s : Setting) (d : Device) (n block page : ℕ) (bytes : List ℕ) (p :
         array-long = ap (λ (x : Device). length (x .array)) done-is ∙ arms (λ (x : Device). length (x .array)) (chipSize (s .geometry)) (eqb failed 0) _ _ length-full length-half;
         register-long = both-arms (λ (x : Device). length (x .register)) (pageSize (s .geometry)) (p .bytes-long) (p .bytes-long);
         history-long = both-arms (λ (x : Device). length (x .history)) (s .geometry .blocks) length-marked length-marked;
-        then-failed = both-arms (λ (x : Device). x .port .failed) failed refl refl;
-        then-fate = both-arms (λ (x : Device). x .port .fate) (nextFate (s .fates) (d .port .fate)) refl refl;
+        then-failed = both-arms (λ (x : Device). x .interface .failed) failed refl refl;
+        then-fate = both-arms (λ (x : Device). x .interface .fate) (nextFate (s .fates) (d .interface .fate)) refl refl;
         then-array = ap (λ (x : Device). x .array) done-is ∙ part-arms (λ (x : Device). x .array) (eqb failed 0) _ _;
         then-history = ap (λ (x : Device). x .history) done-is ∙ part-arms (λ (x : Device). x .history) (eqb failed 0) _ _;
       }
@@ -213,7 +213,7 @@ module _ (s : Setting) (d : Device) (n block page : ℕ) (bytes : List ℕ) (p :
       effect-ends s d (programData row bytes) 16 2 confirmed done full marked effect n
       ∙ ap (λ (m : ℕ). confirmedEnd s (uncutLine d n) 2 m half marked full marked) first-long
 
-  allowed : sendAll s (uncutLine d n) (programCycles s (uncutLine d n) row bytes) .chip .port .illegal ≡ 0
+  allowed : sendAll s (uncutLine d n) (programCycles s (uncutLine d n) row bytes) .chip .interface .illegal ≡ 0
   allowed = confirmed-legal s d (programData row bytes) 16 confirmed done (effect .confirmed) n
 
   next : answered (programEnd s (uncutLine d n) block page bytes .outcome) ≡ true → Called s (sendAll s (uncutLine d n) (programCycles s (uncutLine d n) row bytes))
@@ -240,10 +240,10 @@ program-ends s l block page bytes p =
     (ends s (l .chip) (l .left) block page bytes (subst (λ (x : Line). CanProgram s x block page bytes) (uncut-is l (p .called .uncut)) p))
 
 -- no cycle of it is answered illegal
-pub program-legal : (s : Setting) (l : Line) (block page : ℕ) (bytes : List ℕ) → CanProgram s l block page bytes → sendAll s l (programCycles s l (rowOf (s .geometry) block page) bytes) .chip .port .illegal ≡ 0
+pub program-legal : (s : Setting) (l : Line) (block page : ℕ) (bytes : List ℕ) → CanProgram s l block page bytes → sendAll s l (programCycles s l (rowOf (s .geometry) block page) bytes) .chip .interface .illegal ≡ 0
 unfolding row
 program-legal s l block page bytes p =
-    subst (λ (x : Line). sendAll s x (programCycles s x (rowOf (s .geometry) block page) bytes) .chip .port .illegal ≡ 0)
+    subst (λ (x : Line). sendAll s x (programCycles s x (rowOf (s .geometry) block page) bytes) .chip .interface .illegal ≡ 0)
     (sym (uncut-is l (p .called .uncut)))
     (allowed s (l .chip) (l .left) block page bytes (subst (λ (x : Line). CanProgram s x block page bytes) (uncut-is l (p .called .uncut)) p))
 

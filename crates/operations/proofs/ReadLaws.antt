@@ -15,9 +15,9 @@ use Rattle.geometry.specs.Sizes.{pageSize, columnBytes, rowBytes}
 use Rattle.geometry.proofs.SizeLaws.{row-count-most, page-size-most, row-within}
 use Rattle.cells.specs.Part.{part}
 use Rattle.cells.proofs.PartLaws.{length-part}
-use Rattle.interface.specs.declared.Interface.{Interface}
-use Rattle.interface.specs.Interface.{beginning, fullAddress, inPhase, outputResumed, started, addressed, busyOf}
-use Rattle.array.specs.Device.{Device, Setting, device, withPort, rowAt, completed, pageLoaded}
+use Rattle.chip_interface.specs.declared.Interface.{Interface}
+use Rattle.chip_interface.specs.Interface.{beginning, fullAddress, inPhase, outputResumed, started, addressed, busyOf}
+use Rattle.chip_array.specs.Device.{Device, Setting, device, withInterface, rowAt, completed, pageLoaded}
 use Rattle.chip.specs.Chip.{Cycle, exec, isConfirm, nextColumn, dataByte}
 use Rattle.chip.specs.Chip.Cycle.{command, address, dataOut}
 use Rattle.bus.specs.Line.{Line, run, send, sendAll, uncutLine, cutLine, still, AllStill, Quiet, Legal, goesOn, byteOut}
@@ -25,9 +25,9 @@ use Rattle.bus.proofs.LineLaws.{sendAll-append, run-uncut, run-cut, send-one, s
 use Rattle.bus.proofs.LegalLaws.{legal-run, legal-take}
 use Rattle.bus.proofs.QuietLaws.{quiet-run, still-take, still-address, still-out}
 use Rattle.bus.proofs.StepLaws.{atColumn, busyWith, begin-read, resume-output, five-bytes, confirm-read, one-out, data-given}
-use Rattle.polling.specs.Outcomes.{isPassed}
-use Rattle.polling.specs.Polling.{outcomeOf, endedAs}
-use Rattle.sequences.specs.Cycles.{readAddress, addressCycles, rowCycles, pageRead, pageLine, readCycles, readOutcome, readOutputs, outputs}
+use Rattle.bus_polling.specs.Outcomes.{isPassed}
+use Rattle.bus_polling.specs.Polling.{outcomeOf, endedAs}
+use Rattle.bus_sequences.specs.Cycles.{readAddress, addressCycles, rowCycles, pageRead, pageLine, readCycles, readOutcome, readOutputs, outputs}
 use Rattle.operations.specs.Trace.{readStarts}
 use Rattle.operations.specs.Ends.{Called, CanRead, End, endOf, endsAs, passes, confirmedEnd, readEnd, endOfRead, readTotal, totalFor, wordFor}
 use Rattle.operations.proofs.CallLaws.{uncut-is, fitting-holds, row-is, column-is, address-holds}
@@ -71,27 +71,27 @@ module _ (s : Setting) (d : Device) (left row column n : ℕ) (p : CanRead s (un
   small = omega (arith, p .column-below, page-size-most (s .geometry) (p .called .is-valid))
 
   filled : Interface
-  filled = fullAddress (column + row * 65536) (beginning 3 0 (d .port))
+  filled = fullAddress (column + row * 65536) (beginning 3 0 (d .interface))
 
-  five : (i : Interface) → run s (withPort (beginning 3 0 i) d) (addressCycles column row) ≡ withPort (fullAddress (column + row * 65536) (beginning 3 0 i)) d
+  five : (i : Interface) → run s (withInterface (beginning 3 0 i) d) (addressCycles column row) ≡ withInterface (fullAddress (column + row * 65536) (beginning 3 0 i)) d
   five i =
       five-bytes s d 3 column row i refl small (omega (arith, p .row-below, row-count-most (s .geometry) (p .called .is-valid)))
       (address-holds (s .geometry) column row (p .called .is-valid) (p .column-below) (p .row-below))
 
   -- with a page in the register the first address byte starts another read
-  first-again : (b : ℕ) (i : Interface) → exec s (withPort (outputResumed i) d) (address b) ≡ exec s (withPort (beginning 3 0 (outputResumed i)) d) (address b)
+  first-again : (b : ℕ) (i : Interface) → exec s (withInterface (outputResumed i) d) (address b) ≡ exec s (withInterface (beginning 3 0 (outputResumed i)) d) (address b)
   unfolding exec addressed
   first-again b i = rw (eq-eqb (i .column) (i .column) refl)
 
   after-address : run s d (readAddress row column) ≡ device filled (d .array) (d .register) (d .history)
   unfolding run filled
   after-address =
-      cases (eqb (d .port .loaded) 1)
+      cases (eqb (d .interface .loaded) 1)
       (λ t.
       ap (λ (x : Device). run s x (addressCycles column row)) (resume-output s d (p .called .ready) t)
-      ∙ ap (λ (x : Device). run s x (address (column / 256 % 256) ∷ rowCycles row)) (first-again (column % 256) (d .port))
-      ∙ five (outputResumed (d .port)))
-      (λ t. ap (λ (x : Device). run s x (addressCycles column row)) (begin-read s d (p .called .ready) t) ∙ five (d .port))
+      ∙ ap (λ (x : Device). run s x (address (column / 256 % 256) ∷ rowCycles row)) (first-again (column % 256) (d .interface))
+      ∙ five (outputResumed (d .interface)))
+      (λ t. ap (λ (x : Device). run s x (addressCycles column row)) (begin-read s d (p .called .ready) t) ∙ five (d .interface))
 
   page : List ℕ
   page = part (row * pageSize (s .geometry)) (pageSize (s .geometry)) (d .array)
@@ -119,18 +119,18 @@ module _ (s : Setting) (d : Device) (left row column n : ℕ) (p : CanRead s (un
       ∙ ap (λ (r : ℕ). device (started 1 (s .fates) filled) (d .array) (part (r * pageSize (s .geometry)) (pageSize (s .geometry)) (d .array)) (d .history)) row-at
 
   -- the interface when ready is reported, and in data output
-  port-ready : Interface
-  port-ready = pageLoaded (busyWith 0 (inPhase 8 (started 1 (s .fates) filled)))
+  interface-ready : Interface
+  interface-ready = pageLoaded (busyWith 0 (inPhase 8 (started 1 (s .fates) filled)))
 
   loaded : Device
-  loaded = device port-ready (d .array) page (d .history)
+  loaded = device interface-ready (d .array) page (d .history)
 
   still-first : AllStill (readAddress row column)
   unfolding still isConfirm
   still-first = (refl, still-address (columnBytes column ++ rowBytes row))
 
   effect : Effect s d (readAddress row column) 48 1 confirmed loaded (d .array) (d .history)
-  unfolding confirmed loaded port-ready filled started completed
+  unfolding confirmed loaded interface-ready filled started completed
   effect =
       record {
         confirmed = record {
@@ -172,22 +172,22 @@ module _ (s : Setting) (d : Device) (left row column n : ℕ) (p : CanRead s (un
   tail = command 0 ∷ replicate n dataOut
 
   -- the interface after the last byte
-  port-last : Interface
-  port-last = atColumn (column + n) (outputResumed port-ready)
+  interface-last : Interface
+  interface-last = atColumn (column + n) (outputResumed interface-ready)
 
-  tail-is : run s loaded tail ≡ device port-last (d .array) page (d .history)
-  unfolding run tail loaded port-last port-ready started filled
+  tail-is : run s loaded tail ≡ device interface-last (d .array) page (d .history)
+  unfolding run tail loaded interface-last interface-ready started filled
   tail-is =
       ap (λ (x : Device). run s x (replicate n dataOut)) (resume-output s loaded (omega arith) refl)
-      ∙ data-given s n (outputResumed port-ready) (d .array) page (d .history) refl (rw (column-is column row small, length-page) (p .within))
-      ∙ ap (λ (k : ℕ). device (atColumn (k + n) (outputResumed port-ready)) (d .array) page (d .history)) (column-is column row small)
+      ∙ data-given s n (outputResumed interface-ready) (d .array) page (d .history) refl (rw (column-is column row small, length-page) (p .within))
+      ∙ ap (λ (k : ℕ). device (atColumn (k + n) (outputResumed interface-ready)) (d .array) page (d .history)) (column-is column row small)
 
   tail-legal : Legal s loaded tail
-  unfolding port-last port-ready started filled
-  tail-legal = legal-run s loaded tail (ap (λ (x : Device). x .port .illegal) tail-is ∙ p .called .legal)
+  unfolding interface-last interface-ready started filled
+  tail-legal = legal-run s loaded tail (ap (λ (x : Device). x .interface .illegal) tail-is ∙ p .called .legal)
 
-  loaded-legal : loaded .port .illegal ≡ 0
-  unfolding loaded port-ready started filled
+  loaded-legal : loaded .interface .illegal ≡ 0
+  unfolding loaded interface-ready started filled
   loaded-legal = p .called .legal
 
   still-tail : (k : ℕ) → Quiet loaded (run s loaded (take k tail))
@@ -242,7 +242,7 @@ module _ (s : Setting) (d : Device) (left row column n : ℕ) (p : CanRead s (un
       (ap (λ (x : Line). x .chip .history) (unpassed-line h) ∙ ap (λ (x : End). x .history) page-end
       ∙ ap (cond (leb left 6) (d .history)) (same-arms (passes s line 1 6) (d .history)) ∙ same-arms (leb left 6) (d .history))
       (ap (λ (x : Line). x .left) (unpassed-line h) ∙ ap (λ (x : End). x .left) page-end ∙ w)
-      (ap (λ (x : Line). x .chip .port .fate) (unpassed-line h) ∙ ap (λ (x : End). x .fate) page-end)
+      (ap (λ (x : Line). x .chip .interface .fate) (unpassed-line h) ∙ ap (λ (x : End). x .fate) page-end)
 
   ends-cut : left < totalFor s d 6 → endOfRead s line row column n ≡ readEnd s line n
   unfolding readEnd isPassed line
@@ -258,7 +258,7 @@ module _ (s : Setting) (d : Device) (left row column n : ℕ) (p : CanRead s (un
       let z : readTotal s d n ≡ totalFor s d 6 = rw b (add-zero _) in
       unpassed (rw (t, b)) (rw (t, z, t, b)) (rw z)
 
-  whole : (h : isPassed (endsAs s line 1 6) ≡ true) (t : totalFor s d 6 ≤ left) (b : busyOf (wordFor s d) < 256) → 1 + n ≤ more → final ≡ uncutLine (device port-last (d .array) page (d .history)) (more - (1 + n))
+  whole : (h : isPassed (endsAs s line 1 6) ≡ true) (t : totalFor s d 6 ≤ left) (b : busyOf (wordFor s d) < 256) → 1 + n ≤ more → final ≡ uncutLine (device interface-last (d .array) page (d .history)) (more - (1 + n))
   unfolding more tail
   whole h t b m =
       passed-line h t b
@@ -282,7 +282,7 @@ module _ (s : Setting) (d : Device) (left row column n : ℕ) (p : CanRead s (un
   later t = lt-leb left 6 (omega arith)
 
   ends-whole : totalFor s d 6 ≤ left → busyOf (wordFor s d) < 256 → 1 + n ≤ more → endOfRead s line row column n ≡ readEnd s line n
-  unfolding endOfRead readEnd final line more endedAs port-last port-ready started filled
+  unfolding endOfRead readEnd final line more endedAs interface-last interface-ready started filled
   ends-whole t b m =
       let e = whole (is-passed t b) t b m in
       same-end
@@ -291,10 +291,10 @@ module _ (s : Setting) (d : Device) (left row column n : ℕ) (p : CanRead s (un
       (ap (λ (x : Line). x .chip .array) e)
       (ap (λ (x : Line). x .chip .history) e)
       (ap (λ (x : Line). x .left) e ∙ omega (arith, total-is b))
-      (ap (λ (x : Line). x .chip .port .fate) e ∙ rw (later t))
+      (ap (λ (x : Line). x .chip .interface .fate) e ∙ rw (later t))
 
   ends-broken : totalFor s d 6 ≤ left → busyOf (wordFor s d) < 256 → more < 1 + n → endOfRead s line row column n ≡ readEnd s line n
-  unfolding endOfRead readEnd final line more endedAs loaded port-ready started filled
+  unfolding endOfRead readEnd final line more endedAs loaded interface-ready started filled
   ends-broken t b m =
       let e = broken (is-passed t b) t b m in
       let q = still-tail more in
@@ -303,7 +303,7 @@ module _ (s : Setting) (d : Device) (left row column n : ℕ) (p : CanRead s (un
       (ap (λ (x : Line). x .chip .array) e ∙ q .array)
       (ap (λ (x : Line). x .chip .history) e ∙ q .history)
       (ap (λ (x : Line). x .left) e ∙ omega (arith, total-is b))
-      (ap (λ (x : Line). x .chip .port .fate) e ∙ q .fate ∙ rw (later t))
+      (ap (λ (x : Line). x .chip .interface .fate) e ∙ q .fate ∙ rw (later t))
 
   ends : endOfRead s line row column n ≡ readEnd s line n
   unfolding more
@@ -349,26 +349,26 @@ module _ (s : Setting) (d : Device) (left row column n : ℕ) (p : CanRead s (un
       through s d (readAddress row column) 48 confirmed loaded (effect .confirmed) left (q .in-time) m ∙ rw u
 
   bytes : Passing → readOutputs s line row column n ≡ part (row * pageSize (s .geometry) + column) n (d .array)
-  unfolding readOutputs loaded port-ready started filled page
+  unfolding readOutputs loaded interface-ready started filled page
   bytes q =
       let t : totalFor s d 6 ≤ left = omega (arith, q .covered) in
-      let first : send s (uncutLine loaded more) (command 0) ≡ uncutLine (withPort (outputResumed port-ready) loaded) (more - 1) =
+      let first : send s (uncutLine loaded more) (command 0) ≡ uncutLine (withInterface (outputResumed interface-ready) loaded) (more - 1) =
       send-on s (uncutLine loaded more) (command 0) (admits-more (uncutLine loaded more) (record { uncut = refl; legal = loaded-legal }) (omega (arith, more-is q)))
       ∙ ap (λ (x : Device). uncutLine x (more - 1)) (resume-output s loaded (omega arith) refl) in
       rw (ap isPassed page-outcome ∙ is-passed t (q .in-time))
       (ap (λ (x : Line). outputs s n (send s x (command 0))) (page-line-is q)
       ∙ ap (outputs s n) first
-      ∙ outputs-are s n (more - 1) (outputResumed port-ready) (d .array) page (d .history) refl (p .called .legal) (rw (column-is column row small, length-page) (p .within)) (omega (arith, more-is q))
+      ∙ outputs-are s n (more - 1) (outputResumed interface-ready) (d .array) page (d .history) refl (p .called .legal) (rw (column-is column row small, length-page) (p .within)) (omega (arith, more-is q))
       ∙ ap (λ (k : ℕ). part k n page) (column-is column row small)
       ∙ part-part (row * pageSize (s .geometry)) (pageSize (s .geometry)) column n (d .array) (p .within))
 
-  final-is : Passing → final ≡ uncutLine (device port-last (d .array) page (d .history)) (more - (1 + n))
+  final-is : Passing → final ≡ uncutLine (device interface-last (d .array) page (d .history)) (more - (1 + n))
   final-is q =
       let t : totalFor s d 6 ≤ left = omega (arith, q .covered) in
       whole (is-passed t (q .in-time)) t (q .in-time) (more-is q)
 
   next : Passing → Called s final
-  unfolding port-last port-ready started filled
+  unfolding interface-last interface-ready started filled
   next q =
       subst (λ (x : Line). Called s x) (sym (final-is q))
       (record {
@@ -390,11 +390,11 @@ module _ (s : Setting) (d : Device) (left row column n : ℕ) (p : CanRead s (un
   unfolding isPassed line
   unpassed-silent t u = rw (t, u)
 
-  port-last-legal : port-last .illegal ≡ 0
-  unfolding port-last port-ready started filled
-  port-last-legal = p .called .legal
+  interface-last-legal : interface-last .illegal ≡ 0
+  unfolding interface-last interface-ready started filled
+  interface-last-legal = p .called .legal
 
-  allowed : final .chip .port .illegal ≡ 0
+  allowed : final .chip .interface .illegal ≡ 0
   unfolding line more
   allowed =
       cases (isPassed (endsAs s line 1 6))
@@ -405,14 +405,14 @@ module _ (s : Setting) (d : Device) (left row column n : ℕ) (p : CanRead s (un
       let b = ltb-true (busyOf (wordFor s d)) 256 u in
       cases (ltb (left - totalFor s d 6) (1 + n))
       (λ v.
-      ap (λ (x : Line). x .chip .port .illegal) (broken h g b (ltb-true (left - totalFor s d 6) (1 + n) v))
+      ap (λ (x : Line). x .chip .interface .illegal) (broken h g b (ltb-true (left - totalFor s d 6) (1 + n) v))
       ∙ legal-take s loaded (left - totalFor s d 6) tail loaded-legal tail-legal)
       (λ v.
-      ap (λ (x : Line). x .chip .port .illegal) (whole h g b (ltb-false (left - totalFor s d 6) (1 + n) v))
-      ∙ port-last-legal))
+      ap (λ (x : Line). x .chip .interface .illegal) (whole h g b (ltb-false (left - totalFor s d 6) (1 + n) v))
+      ∙ interface-last-legal))
       (λ u. absurd (false≢true (sym (unpassed-silent t u) ∙ h)))))
       (λ h.
-      ap (λ (x : Line). x .chip .port .illegal) (unpassed-line h)
+      ap (λ (x : Line). x .chip .interface .illegal) (unpassed-line h)
       ∙ confirmed-legal s d (readAddress row column) 48 confirmed loaded (effect .confirmed) left)
 
   starts : readStarts s line row column ≡ cond (leb left 6) [] (record { kind = 1; block = row / s .geometry .pages; page = row % s .geometry .pages; bytes = []; before = d .array; answer = endsAs s line 1 6 } ∷ [])
@@ -435,10 +435,10 @@ read-bytes s l row column n p =
     λ h. bytes s (l .chip) (l .left) row column n q (passing s (l .chip) (l .left) row column n q h))
 
 -- no cycle of it is answered illegal
-pub read-legal : (s : Setting) (l : Line) (row column n : ℕ) → CanRead s l row column n → sendAll s l (readCycles s l row column n) .chip .port .illegal ≡ 0
+pub read-legal : (s : Setting) (l : Line) (row column n : ℕ) → CanRead s l row column n → sendAll s l (readCycles s l row column n) .chip .interface .illegal ≡ 0
 unfolding line final
 read-legal s l row column n p =
-    subst (λ (x : Line). sendAll s x (readCycles s x row column n) .chip .port .illegal ≡ 0) (sym (uncut-is l (p .called .uncut)))
+    subst (λ (x : Line). sendAll s x (readCycles s x row column n) .chip .interface .illegal ≡ 0) (sym (uncut-is l (p .called .uncut)))
     (allowed s (l .chip) (l .left) row column n (subst (λ (x : Line). CanRead s x row column n) (uncut-is l (p .called .uncut)) p))
 
 -- once it passed the chip takes the next operation

@@ -10,8 +10,8 @@ use lib.Dec.{ltb}
 use lib.ListN.{length, take}
 use Rattle.geometry.specs.Limits.{Valid}
 use Rattle.geometry.specs.Sizes.{pageSize, blockSize, chipSize}
-use Rattle.interface.specs.Interface.{afterReset, inPhase, statusByte}
-use Rattle.array.specs.Device.{Device, Setting, withPort}
+use Rattle.chip_interface.specs.Interface.{afterReset, inPhase, statusByte}
+use Rattle.chip_array.specs.Device.{Device, Setting, withInterface}
 use Rattle.chip.specs.Chip.{exec, statusRead, statusShown, isConfirm}
 use Rattle.chip.specs.Chip.Cycle.{command, status}
 use Rattle.bus.specs.Line.{Line, mayGo, goesOn, statusOut, run, send, sendAll, uncutLine, cutLine, Legal, Quiet, still}
@@ -19,25 +19,25 @@ use Rattle.bus.proofs.LineLaws.{run-uncut, run-cut, send-one, send-none, send-s
 use Rattle.bus.proofs.LegalLaws.{legal-run, legal-take, legal-first}
 use Rattle.bus.proofs.QuietLaws.{quiet-run}
 use Rattle.bus.proofs.StepLaws.{reset-command, status-ready}
-use Rattle.polling.specs.Polling.{endedAs}
-use Rattle.sequences.specs.Cycles.{resetCycles, confirmCycles}
+use Rattle.bus_polling.specs.Polling.{endedAs}
+use Rattle.bus_sequences.specs.Cycles.{resetCycles, confirmCycles}
 use Rattle.operations.specs.Ends.{Called, resetEnd, endOfReset, resetStatus}
 use Rattle.operations.proofs.CallLaws.{uncut-is}
 use Rattle.operations.proofs.EndLaws.{same-end}
 
-module _ (s : Setting) (d : Device) (n : ℕ) (g : d .port .illegal ≡ 0) where
+module _ (s : Setting) (d : Device) (n : ℕ) (g : d .interface .illegal ≡ 0) where
   done : Device
-  done = withPort (inPhase 1 (afterReset (d .port))) d
+  done = withInterface (inPhase 1 (afterReset (d .interface))) d
 
   reset-is : run s d resetCycles ≡ done
   unfolding run done exec statusRead
   reset-is =
       ap (λ (x : Device). exec s (exec s x (command 112)) status) (reset-command s d)
-      ∙ ap (λ (x : Device). exec s x status) (status-ready s (withPort (afterReset (d .port)) d) (omega arith))
+      ∙ ap (λ (x : Device). exec s x status) (status-ready s (withInterface (afterReset (d .interface)) d) (omega arith))
 
   legal : Legal s d resetCycles
   unfolding done
-  legal = legal-run s d resetCycles (ap (λ (x : Device). x .port .illegal) reset-is ∙ g)
+  legal = legal-run s d resetCycles (ap (λ (x : Device). x .interface .illegal) reset-is ∙ g)
 
   quiet : (k : ℕ) → k < 3 → Quiet d (run s d (take k resetCycles))
   unfolding still isConfirm
@@ -64,28 +64,28 @@ module _ (s : Setting) (d : Device) (n : ℕ) (g : d .port .illegal ≡ 0) where
       (ap (λ (x : Line). x .chip .array) e ∙ q .array)
       (ap (λ (x : Line). x .chip .history) e ∙ q .history)
       (ap (λ (x : Line). x .left) e ∙ omega arith)
-      (ap (λ (x : Line). x .chip .port .fate) e ∙ q .fate))
+      (ap (λ (x : Line). x .chip .interface .fate) e ∙ q .fate))
       (λ t.
       let e = whole (ltb-false n 3 t) in
       same-end (ap endedAs e ∙ rw (eq-eqb _ _ g, t))
       (ap (λ (x : Line). x .chip .array) e)
       (ap (λ (x : Line). x .chip .history) e)
       (ap (λ (x : Line). x .left) e)
-      (ap (λ (x : Line). x .chip .port .fate) e))
+      (ap (λ (x : Line). x .chip .interface .fate) e))
 
-  allowed : sendAll s (uncutLine d n) resetCycles .chip .port .illegal ≡ 0
+  allowed : sendAll s (uncutLine d n) resetCycles .chip .interface .illegal ≡ 0
   unfolding done
   allowed =
       cases (ltb n 3)
-      (λ t. ap (λ (x : Line). x .chip .port .illegal) (broken (ltb-true n 3 t)) ∙ legal-take s d n resetCycles g legal)
-      (λ t. ap (λ (x : Line). x .chip .port .illegal) (whole (ltb-false n 3 t)) ∙ g)
+      (λ t. ap (λ (x : Line). x .chip .interface .illegal) (broken (ltb-true n 3 t)) ∙ legal-take s d n resetCycles g legal)
+      (λ t. ap (λ (x : Line). x .chip .interface .illegal) (whole (ltb-false n 3 t)) ∙ g)
 
   -- before its status read
   asked : run s d (confirmCycles 255) ≡ done
   unfolding run done
   asked =
       ap (λ (x : Device). exec s x (command 112)) (reset-command s d)
-      ∙ status-ready s (withPort (afterReset (d .port)) d) (omega arith)
+      ∙ status-ready s (withInterface (afterReset (d .interface)) d) (omega arith)
 
   legal-asked : Legal s d (confirmCycles 255)
   legal-asked = legal-first s d (confirmCycles 255) (status ∷ []) legal
@@ -130,17 +130,17 @@ module _ (s : Setting) (d : Device) (n : ℕ) (g : d .port .illegal ≡ 0) where
       (again-on (n - 2)))
 
 -- how a reset ends
-pub reset-ends : (s : Setting) (l : Line) → l .cut ≡ 0 → l .chip .port .illegal ≡ 0 → endOfReset s l ≡ resetEnd l
+pub reset-ends : (s : Setting) (l : Line) → l .cut ≡ 0 → l .chip .interface .illegal ≡ 0 → endOfReset s l ≡ resetEnd l
 reset-ends s l u g =
     subst (λ (x : Line). endOfReset s x ≡ resetEnd x) (sym (uncut-is l u)) (ends s (l .chip) (l .left) g)
 
 -- no cycle of it is answered illegal
-pub reset-legal : (s : Setting) (l : Line) → l .cut ≡ 0 → l .chip .port .illegal ≡ 0 → sendAll s l resetCycles .chip .port .illegal ≡ 0
+pub reset-legal : (s : Setting) (l : Line) → l .cut ≡ 0 → l .chip .interface .illegal ≡ 0 → sendAll s l resetCycles .chip .interface .illegal ≡ 0
 reset-legal s l u g =
-    subst (λ (x : Line). sendAll s x resetCycles .chip .port .illegal ≡ 0) (sym (uncut-is l u)) (allowed s (l .chip) (l .left) g)
+    subst (λ (x : Line). sendAll s x resetCycles .chip .interface .illegal ≡ 0) (sym (uncut-is l u)) (allowed s (l .chip) (l .left) g)
 
 -- its status read shows E0h, unless the allowance does not reach it
-pub reset-shows : (s : Setting) (l : Line) → l .cut ≡ 0 → l .chip .port .illegal ≡ 0 → resetStatus s l ≡ cond (ltb (l .left) 3) 0 224
+pub reset-shows : (s : Setting) (l : Line) → l .cut ≡ 0 → l .chip .interface .illegal ≡ 0 → resetStatus s l ≡ cond (ltb (l .left) 3) 0 224
 reset-shows s l u g =
     subst (λ (x : Line). resetStatus s x ≡ cond (ltb (x .left) 3) 0 224) (sym (uncut-is l u)) (answers s (l .chip) (l .left) g)
 
@@ -158,14 +158,14 @@ reset-unread s l e f =
     ∙ sym (sendAll-stopped s l resetCycles t))
 
 -- what a reset leaves does not depend on the phase that it began in, but for the fate words used
-pub reset-leaves : (s : Setting) (l : Line) → l .cut ≡ 0 → l .chip .port .illegal ≡ 0 → 3 ≤ l .left → sendAll s l resetCycles ≡ uncutLine (withPort (inPhase 1 (afterReset (l .chip .port))) (l .chip)) (l .left - 3)
+pub reset-leaves : (s : Setting) (l : Line) → l .cut ≡ 0 → l .chip .interface .illegal ≡ 0 → 3 ≤ l .left → sendAll s l resetCycles ≡ uncutLine (withInterface (inPhase 1 (afterReset (l .chip .interface))) (l .chip)) (l .left - 3)
 unfolding done
 reset-leaves s l u g h =
-    subst (λ (x : Line). sendAll s x resetCycles ≡ uncutLine (withPort (inPhase 1 (afterReset (x .chip .port))) (x .chip)) (x .left - 3)) (sym (uncut-is l u))
+    subst (λ (x : Line). sendAll s x resetCycles ≡ uncutLine (withInterface (inPhase 1 (afterReset (x .chip .interface))) (x .chip)) (x .left - 3)) (sym (uncut-is l u))
     (whole s (l .chip) (l .left) g h)
 
 -- once it passed the chip takes the next operation
-pub reset-next : (s : Setting) (l : Line) → l .cut ≡ 0 → l .chip .port .illegal ≡ 0 → 3 ≤ l .left → Valid (s .geometry) → length (l .chip .array) ≡ chipSize (s .geometry) → length (l .chip .register) ≡ pageSize (s .geometry) → length (l .chip .history) ≡ s .geometry .blocks → length (s .mask) ≡ blockSize (s .geometry) → Called s (sendAll s l resetCycles)
+pub reset-next : (s : Setting) (l : Line) → l .cut ≡ 0 → l .chip .interface .illegal ≡ 0 → 3 ≤ l .left → Valid (s .geometry) → length (l .chip .array) ≡ chipSize (s .geometry) → length (l .chip .register) ≡ pageSize (s .geometry) → length (l .chip .history) ≡ s .geometry .blocks → length (s .mask) ≡ blockSize (s .geometry) → Called s (sendAll s l resetCycles)
 reset-next s l u g h v a r k m =
     subst (λ (x : Line). Called s x) (sym (reset-leaves s l u g h))
     (record {

@@ -10,7 +10,7 @@ use borrow.Table.Steps.{cases}
 use lib.Dec.{leb}
 use lib.ListN.{length, length-append}
 use lib.Seq.{take-all}
-use Rattle.array.specs.Device.{Device, Setting}
+use Rattle.chip_array.specs.Device.{Device, Setting}
 use Rattle.chip.specs.Chip.{Cycle}
 use Rattle.chip.specs.Chip.Cycle.{command}
 use Rattle.bus.specs.Line.{Line, run, sendAll, uncutLine, goesOn, Legal}
@@ -25,16 +25,16 @@ module _ (s : Setting) (d : Device) (first : List Cycle) (code op : ℕ) (d₂ d
   steps : List Cycle
   steps = first ++ (command code ∷ [])
 
-  end-legal : run s d steps .port .illegal ≡ 0
+  end-legal : run s d steps .interface .illegal ≡ 0
   unfolding steps
   end-legal =
-      ap (λ (x : Device). x .port .illegal) (run-confirm s d first code d₂ d₄ (e .confirmed)) ∙ e .confirmed .legal
+      ap (λ (x : Device). x .interface .illegal) (run-confirm s d first code d₂ d₄ (e .confirmed)) ∙ e .confirmed .legal
 
   steps-legal : Legal s d (first ++ (command code ∷ []))
   unfolding steps
   steps-legal = legal-run s d steps end-legal
 
-  start-legal : d .port .illegal ≡ 0
+  start-legal : d .interface .illegal ≡ 0
   start-legal = legal-start s d steps end-legal
 
   length-steps : length steps ≡ length first + 1

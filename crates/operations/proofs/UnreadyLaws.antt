@@ -7,16 +7,16 @@ use native.Mathlib.Omega.{arith}
 use borrow.Table.Steps.{cases}
 use borrow.Author.Tests.{eq-eqb, lt-leb, eqb-true, eqb-false}
 use lib.Dec.{eqb}
-use Rattle.interface.specs.Interface.{outputPhase, eraseCode, eraseConfirm, plainCommand, begun}
-use Rattle.array.specs.Device.{Device, Setting, illegalCycle}
+use Rattle.chip_interface.specs.Interface.{outputPhase, eraseCode, eraseConfirm, plainCommand, begun}
+use Rattle.chip_array.specs.Device.{Device, Setting, illegalCycle}
 use Rattle.chip.specs.Chip.{Cycle, exec, commanded, isConfirm}
 use Rattle.chip.specs.Chip.Cycle.{command}
 use Rattle.bus.specs.Line.{Line, Going, cutAfter, send, sendAll, sent, goesOn, uncutLine, cutLine}
 use Rattle.bus.proofs.LineLaws.{admits-more, admits-none, admits-stopped, send-on, send-off, sendAll-stopped}
-use Rattle.polling.specs.Outcomes.{answered}
-use Rattle.polling.specs.Polling.{outcomeOf}
-use Rattle.polling.specs.declared.Outcome.the-variants.{Cut}
-use Rattle.sequences.specs.Cycles.{eraseCycles, rowCycles}
+use Rattle.bus_polling.specs.Outcomes.{answered}
+use Rattle.bus_polling.specs.Polling.{outcomeOf}
+use Rattle.bus_polling.specs.declared.Outcome.the-variants.{Cut}
+use Rattle.bus_sequences.specs.Cycles.{eraseCycles, rowCycles}
 use Rattle.operations.specs.Ends.{Called, Lent, endOf, unreadyLine, unreadyEnd}
 use Rattle.operations.specs.Trace.{startedBy, eraseSends, eraseStarts}
 
@@ -33,7 +33,7 @@ called-lent c =
       uncut = c .uncut;
     }
 
-pub lent-called : {s : Setting} {l : Line} → Lent s l → l .chip .port .phase ≤ outputPhase → Called s l
+pub lent-called : {s : Setting} {l : Line} → Lent s l → l .chip .interface .phase ≤ outputPhase → Called s l
 lent-called c h =
     record {
       is-valid = c .is-valid;
@@ -47,9 +47,9 @@ lent-called c h =
     }
 
 -- 60h on a chip that is not ready
-erase-refused : (s : Setting) (d : Device) → outputPhase < d .port .phase → exec s d (command eraseCode) ≡ illegalCycle d
+erase-refused : (s : Setting) (d : Device) → outputPhase < d .interface .phase → exec s d (command eraseCode) ≡ illegalCycle d
 unfolding exec commanded isConfirm plainCommand begun
-erase-refused s d h = rw (lt-leb (d .port .phase) 2 h)
+erase-refused s d h = rw (lt-leb (d .interface .phase) 2 h)
 
 -- the line that is left: it goes no further, was not answered, and its chip holds what it held
 module _ (l : Line) where
@@ -63,7 +63,7 @@ module _ (l : Line) where
       cases (eqb (l .left) 0)
       (λ t.
       let e : 0 ≡ l .left - 1 = omega (arith, eqb-true (l .left) 0 t) in
-      rw t (λ i. record { outcome = Cut; array = l .chip .array; history = l .chip .history; left = e i; fate = l .chip .port .fate }))
+      rw t (λ i. record { outcome = Cut; array = l .chip .array; history = l .chip .history; left = e i; fate = l .chip .interface .fate }))
       (λ f. rw f)
 
   pub unready-register : unreadyLine l .chip .register ≡ l .chip .register
@@ -88,7 +88,7 @@ module _ (s : Setting) (l : Line) (lent : Lent s l) (c : Cycle) (refuses : exec 
   first-cut : l .left ≡ 0 → send s l c ≡ cutLine (l .chip)
   unfolding cutAfter
   first-cut z =
-      let cut : cutAfter (l .cut) (l .chip .port .illegal) ≡ 1 = rw (eq-eqb (l .cut) 0 (lent .uncut), eq-eqb (l .chip .port .illegal) 0 (lent .legal)) in
+      let cut : cutAfter (l .cut) (l .chip .interface .illegal) ≡ 1 = rw (eq-eqb (l .cut) 0 (lent .uncut), eq-eqb (l .chip .interface .illegal) 0 (lent .legal)) in
       send-off s l c (admits-none l going z)
       ∙ (λ i. record { chip = l .chip; left = z i; cut = cut i })
 
@@ -119,7 +119,7 @@ module _ (s : Setting) (l : Line) (lent : Lent s l) (c : Cycle) (refuses : exec 
       rw (f, more) (ap (λ (xs : List Cycle). c ∷ xs) rest))
 
 -- an erase on a line with a chip that is not ready
-module _ (s : Setting) (l : Line) (lent : Lent s l) (h : outputPhase < l .chip .port .phase) (row : ℕ) where
+module _ (s : Setting) (l : Line) (lent : Lent s l) (h : outputPhase < l .chip .interface .phase) (row : ℕ) where
   pub erase-unready-line : sendAll s l (eraseCycles s l row) ≡ unreadyLine l
   erase-unready-line = all-stops s l lent (command eraseCode) (erase-refused s (l .chip) h) _
 

@@ -9,13 +9,13 @@ use Rattle.geometry.specs.Limits.{Valid}
 use Rattle.geometry.specs.Sizes.{pageSize, blockSize, chipSize, rowCount, rowOf}
 use Rattle.cells.specs.Cells.{programmed, weakened, raised}
 use Rattle.cells.specs.Part.{part, put}
-use Rattle.interface.specs.Interface.{fateWord, nextFate, busyOf, failedFor, resetCode, outputPhase}
-use Rattle.array.specs.Device.{Setting, Device, illegalCycle}
+use Rattle.chip_interface.specs.Interface.{fateWord, nextFate, busyOf, failedFor, resetCode, outputPhase}
+use Rattle.chip_array.specs.Device.{Setting, Device, illegalCycle}
 use Rattle.bus.specs.Line.{Line, sendAll, statusOut, uncutLine, cutLine}
-use Rattle.polling.specs.Polling.{outcomeOf, endedAs}
-use Rattle.sequences.specs.Cycles.{resetCycles, confirmCycles, readCycles, readOutcome}
-use Rattle.polling.specs.declared.Outcome.{Outcome}
-use Rattle.polling.specs.declared.Outcome.the-variants.{Passed, Failed, Silent, Cut, Illegal}
+use Rattle.bus_polling.specs.Polling.{outcomeOf, endedAs}
+use Rattle.bus_sequences.specs.Cycles.{resetCycles, confirmCycles, readCycles, readOutcome}
+use Rattle.bus_polling.specs.declared.Outcome.{Outcome}
+use Rattle.bus_polling.specs.declared.Outcome.the-variants.{Passed, Failed, Silent, Cut, Illegal}
 
 -- the chip as the store calls it: all lengths fit, no command under way, nothing refused or cut
 pub record Called (s : Setting) (l : Line) : Type 0 where
@@ -24,8 +24,8 @@ pub record Called (s : Setting) (l : Line) : Type 0 where
   pub register-long : length (l .chip .register) ≡ pageSize (s .geometry)
   pub history-long : length (l .chip .history) ≡ s .geometry .blocks
   pub mask-long : length (s .mask) ≡ blockSize (s .geometry)
-  pub ready : l .chip .port .phase ≤ outputPhase
-  pub legal : l .chip .port .illegal ≡ 0
+  pub ready : l .chip .interface .phase ≤ outputPhase
+  pub legal : l .chip .interface .illegal ≡ 0
   pub uncut : l .cut ≡ 0
 
 -- the same with any interface words: a command may be under way, or the chip busy
@@ -35,7 +35,7 @@ pub record Lent (s : Setting) (l : Line) : Type 0 where
   pub register-long : length (l .chip .register) ≡ pageSize (s .geometry)
   pub history-long : length (l .chip .history) ≡ s .geometry .blocks
   pub mask-long : length (s .mask) ≡ blockSize (s .geometry)
-  pub legal : l .chip .port .illegal ≡ 0
+  pub legal : l .chip .interface .illegal ≡ 0
   pub uncut : l .cut ≡ 0
 
 -- what is left of a line for whoever does not look at cycles
@@ -53,7 +53,7 @@ endOf l =
       array = l .chip .array;
       history = l .chip .history;
       left = l .left;
-      fate = l .chip .port .fate;
+      fate = l .chip .interface .fate;
     }
 
 -- status reads of an operation whose fate has k busy ones: one more, and 256 at the most
@@ -62,7 +62,7 @@ pollsFor k = cond (ltb k 256) (k + 1) 256
 
 -- the fate word of the next operation
 abbrev pub wordFor : Setting → Device → ℕ
-wordFor s d = fateWord (s .fates) (d .port .fate)
+wordFor s d = fateWord (s .fates) (d .interface .fate)
 
 -- cycles of an operation with m cycles before its confirm cycle, up to the last status read
 abbrev pub totalFor : Setting → Device → ℕ → ℕ
@@ -88,7 +88,7 @@ confirmedEnd s l op m a₁ h₁ a₂ h₂ =
       array = cond (leb (l .left) m) (l .chip .array) (cond (passes s l op m) a₂ a₁);
       history = cond (leb (l .left) m) (l .chip .history) (cond (passes s l op m) h₂ h₁);
       left = l .left - totalFor s (l .chip) m;
-      fate = cond (leb (l .left) m) (l .chip .port .fate) (nextFate (s .fates) (l .chip .port .fate));
+      fate = cond (leb (l .left) m) (l .chip .interface .fate) (nextFate (s .fates) (l .chip .interface .fate));
     }
 
 -- the bytes of a row and of a block
@@ -157,7 +157,7 @@ unreadyEnd l =
       array = l .chip .array;
       history = l .chip .history;
       left = l .left - 1;
-      fate = l .chip .port .fate;
+      fate = l .chip .interface .fate;
     }
 
 -- cycles of a read of n bytes
@@ -173,7 +173,7 @@ readEnd s l n =
       array = l .chip .array;
       history = l .chip .history;
       left = l .left - readTotal s (l .chip) n;
-      fate = cond (leb (l .left) 6) (l .chip .port .fate) (nextFate (s .fates) (l .chip .port .fate));
+      fate = cond (leb (l .left) 6) (l .chip .interface .fate) (nextFate (s .fates) (l .chip .interface .fate));
     }
 
 unfoldable pub endOfRead : Setting → Line → ℕ → ℕ → ℕ → End
@@ -183,7 +183,7 @@ endOfRead s l row column n =
       array = sendAll s l (readCycles s l row column n) .chip .array;
       history = sendAll s l (readCycles s l row column n) .chip .history;
       left = sendAll s l (readCycles s l row column n) .left;
-      fate = sendAll s l (readCycles s l row column n) .chip .port .fate;
+      fate = sendAll s l (readCycles s l row column n) .chip .interface .fate;
     }
 
 -- a reset takes three cycles and changes neither the array nor the history
@@ -194,7 +194,7 @@ resetEnd l =
       array = l .chip .array;
       history = l .chip .history;
       left = l .left - 3;
-      fate = l .chip .port .fate;
+      fate = l .chip .interface .fate;
     }
 
 unfoldable pub endOfReset : Setting → Line → End
@@ -204,7 +204,7 @@ endOfReset s l =
       array = sendAll s l resetCycles .chip .array;
       history = sendAll s l resetCycles .chip .history;
       left = sendAll s l resetCycles .left;
-      fate = sendAll s l resetCycles .chip .port .fate;
+      fate = sendAll s l resetCycles .chip .interface .fate;
     }
 
 -- the byte of its status read, after FFh and 70h: 0 where it is not sent

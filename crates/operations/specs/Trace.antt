@@ -2,14 +2,14 @@
 use Prim.Native.Nat.{ℕ, _/_, _%_}
 use mathlib.Core.Bool.{cond}
 use mathlib.Core.List.{List, [], _∷_, _++_}
-use Rattle.array.specs.Device.{Setting}
+use Rattle.chip_array.specs.Device.{Setting}
 use Rattle.chip.specs.Chip.{Cycle}
 use Rattle.chip.specs.Chip.Cycle.{command}
 use Rattle.bus.specs.Line.{Line, sendAll, sent, goesOn}
-use Rattle.polling.specs.Polling.{outcomeOf}
-use Rattle.sequences.specs.Cycles.{readAddress, programData, eraseAddress, confirmedCycles, readCycles, programCycles, eraseCycles}
-use Rattle.polling.specs.declared.Outcome.{Outcome}
-use Rattle.interface.specs.Interface.{readConfirm, programConfirm, eraseConfirm}
+use Rattle.bus_polling.specs.Polling.{outcomeOf}
+use Rattle.bus_sequences.specs.Cycles.{readAddress, programData, eraseAddress, confirmedCycles, readCycles, programCycles, eraseCycles}
+use Rattle.bus_polling.specs.declared.Outcome.{Outcome}
+use Rattle.chip_interface.specs.Interface.{readConfirm, programConfirm, eraseConfirm}
 
 -- kind: 1 read, 2 program, 3 erase. bytes: the data of a program. before: the array when the confirm cycle came
 pub record ArrayOperation : Type 0 where

@@ -1,15 +1,15 @@
 // The chip's operations as cycles on the bus: reset, read, program and erase.
 use bus::Bus;
+use bus_polling::Done;
+use bus_polling::Outcome;
 use geometry::Geometry;
-use polling::Done;
-use polling::Outcome;
 ghost use mathlib.Core.Path.{_≡_};
 ghost use lib.ListN.{length};
 ghost use Rattle.cells.specs.Cells.{over};
-ghost use Rattle.array.specs.Device.{setting};
+ghost use Rattle.chip_array.specs.Device.{setting};
 ghost use Rattle.bus.specs.Line.{line, sendAll};
-ghost use Rattle.polling.specs.Polling.{outcomeOf, endedAs};
-ghost use Rattle.sequences.specs.Cycles.{resetCycles, readCycles, readOutcome, readOutputs, programCycles, eraseCycles};
+ghost use Rattle.bus_polling.specs.Polling.{outcomeOf, endedAs};
+ghost use Rattle.bus_sequences.specs.Cycles.{resetCycles, readCycles, readOutcome, readOutputs, programCycles, eraseCycles};
 ghost use Rattle.operations.specs.Ends.{resetStatus};
 
 // The bus after a reset, how it ended, and the status byte read: 0 where it was not reached.
@@ -33,13 +33,13 @@ pub fn reset(
     ensures { λ r. ⌜ r .outcome ≡ endedAs (line (r .bus) (now (array .exit)) (now (register .exit)) (now (history .exit))) ⌝ }
     ensures { λ r. ⌜ r .status ≡ resetStatus (setting g (now (mask .entry)) (now (fates .entry))) (line from (now (array .entry)) (now (register .entry)) (now (history .entry))) ⌝ }
 {
-    let b = sequences::confirm(from, g, array, register, history, mask, fates, 0xff);
+    let b = bus_sequences::confirm(from, g, array, register, history, mask, fates, 0xff);
     let out = bus::status(b, g, array, register, history);
     let c = out.bus;
     let status = out.byte;
     ResetDone {
         bus: c,
-        outcome: polling::ended(c),
+        outcome: bus_polling::ended(c),
         status,
     }
 }
@@ -59,9 +59,9 @@ pub fn erase(
     ensures { λ r. ⌜ r .outcome ≡ outcomeOf (line (r .bus) (now (array .exit)) (now (register .exit)) (now (history .exit))) ⌝ }
 {
     let b = bus::command(from, g, array, register, history, mask, fates, 0x60);
-    let c = sequences::send_row(b, g, row);
-    let d = sequences::confirm(c, g, array, register, history, mask, fates, 0xd0);
-    polling::poll(d, g, array, register, history)
+    let c = bus_sequences::send_row(b, g, row);
+    let d = bus_sequences::confirm(c, g, array, register, history, mask, fates, 0xd0);
+    bus_polling::poll(d, g, array, register, history)
 }
 
 // Program: 80h, five address bytes, the data, 10h, 70h, status reads.
@@ -80,10 +80,10 @@ pub fn program(
     ensures { λ r. ⌜ r .outcome ≡ outcomeOf (line (r .bus) (now (array .exit)) (now (register .exit)) (now (history .exit))) ⌝ }
 {
     let b = bus::command(from, g, array, register, history, mask, fates, 0x80);
-    let c = sequences::send_address(b, g, 0, row);
-    let d = sequences::send_data(c, register, data);
-    let e = sequences::confirm(d, g, array, register, history, mask, fates, 0x10);
-    polling::poll(e, g, array, register, history)
+    let c = bus_sequences::send_address(b, g, 0, row);
+    let d = bus_sequences::send_data(c, register, data);
+    let e = bus_sequences::confirm(d, g, array, register, history, mask, fates, 0x10);
+    bus_polling::poll(e, g, array, register, history)
 }
 
 // Read: 00h, five address bytes, 30h, 70h, status reads, 00h, and a data output for each byte of the buffer.
@@ -104,18 +104,18 @@ pub fn read(
     ensures { λ r. ⌜ now (buffer .exit) ≡ over (readOutputs (setting g (now (mask .entry)) (now (fates .entry))) (line from (now (array .entry)) (now (register .entry)) (now (history .entry))) row column (length (now (buffer .entry)))) (now (buffer .entry)) ⌝ }
 {
     let b = bus::command(from, g, array, register, history, mask, fates, 0x00);
-    let c = sequences::send_address(b, g, column, row);
-    let d = sequences::confirm(c, g, array, register, history, mask, fates, 0x30);
-    let loaded = polling::poll(d, g, array, register, history);
+    let c = bus_sequences::send_address(b, g, column, row);
+    let d = bus_sequences::confirm(c, g, array, register, history, mask, fates, 0x30);
+    let loaded = bus_polling::poll(d, g, array, register, history);
     let e = loaded.bus;
     let outcome = loaded.outcome;
     let Outcome::Passed = outcome else {
         return Done { bus: e, outcome };
     };
     let f = bus::command(e, g, array, register, history, mask, fates, 0x00);
-    let last = sequences::take_data(f, register, buffer);
+    let last = bus_sequences::take_data(f, register, buffer);
     Done {
         bus: last,
-        outcome: polling::ended(last),
+        outcome: bus_polling::ended(last),
     }
 }

@@ -10,19 +10,19 @@ use lib.Dec.{leb}
 use lib.ListN.{getD, set}
 use lib.Seq.{getD-set-same}
 use Rattle.geometry.specs.Sizes.{rowOf}
-use Rattle.interface.specs.Interface.{outputPhase}
-use Rattle.array.specs.Device.{Setting}
+use Rattle.chip_interface.specs.Interface.{outputPhase}
+use Rattle.chip_array.specs.Device.{Setting}
 use Rattle.chip.specs.Chip.{Cycle}
 use Rattle.bus.specs.Line.{Line, sendAll}
-use Rattle.polling.specs.Outcomes.{isPassed, answered}
-use Rattle.polling.specs.Polling.{outcomeOf}
-use Rattle.polling.specs.declared.Outcome.{Outcome}
-use Rattle.polling.specs.declared.Outcome.the-variants.{Passed}
-use Rattle.sequences.specs.Cycles.{eraseCycles, programCycles}
+use Rattle.bus_polling.specs.Outcomes.{isPassed, answered}
+use Rattle.bus_polling.specs.Polling.{outcomeOf}
+use Rattle.bus_polling.specs.declared.Outcome.{Outcome}
+use Rattle.bus_polling.specs.declared.Outcome.the-variants.{Passed}
+use Rattle.bus_sequences.specs.Cycles.{eraseCycles, programCycles}
 use Rattle.operations.specs.Ends.{Called, Lent, CanErase, CanProgram, End, endOf, eraseEnd, programEnd}
 use Rattle.operations.specs.Trace.{ArrayOperation}
 use Rattle.progress.specs.Progress.{Progress, progress}
-use Rattle.polling.proofs.OutcomeLaws.{is-passed, passed-answered}
+use Rattle.bus_polling.proofs.OutcomeLaws.{is-passed, passed-answered}
 use Rattle.operations.proofs.UnreadyLaws.{lent-called, erase-unanswered}
 use Rattle.progress.specs.Steps.{eraseOn, programOn, ComesTo}
 use Rattle.progress.proofs.StepLaws.{erase-end, erase-outcome, erase-called, program-end, program-outcome, program-called, erase-on-line, erase-on-outcome, program-on-line, program-on-outcome, whole-effect}
@@ -70,10 +70,10 @@ module _ (s : Setting) (f g : Progress → Progress) (l m : Line) (o : Outcome) 
 module _ (s : Setting) (l : Line) (block : ℕ) (lent : Lent s l) (below : block < s .geometry .blocks) (m : Line) (o : Outcome) (e : m ≡ sendAll s l (eraseCycles s l (rowOf (s .geometry) block 0))) (q : o ≡ outcomeOf m) where
   can-erase : answered o ≡ true → CanErase s l block
   can-erase t =
-      cases (leb (l .chip .port .phase) outputPhase)
-      (λ r. record { called = lent-called lent (leb-true (l .chip .port .phase) outputPhase r); block-below = below })
+      cases (leb (l .chip .interface .phase) outputPhase)
+      (λ r. record { called = lent-called lent (leb-true (l .chip .interface .phase) outputPhase r); block-below = below })
       (λ r.
-      let unready = erase-unanswered s l lent (leb-false (l .chip .port .phase) outputPhase r) (rowOf (s .geometry) block 0) in
+      let unready = erase-unanswered s l lent (leb-false (l .chip .interface .phase) outputPhase r) (rowOf (s .geometry) block 0) in
       absurd (false≢true (sym unready ∙ sym (ap (λ (x : Line). answered (outcomeOf x)) e) ∙ sym (ap answered q) ∙ t)))
 
   pub erase-comes : ComesTo s (eraseOn s block) l m o

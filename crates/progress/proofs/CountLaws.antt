@@ -6,12 +6,12 @@ use native.Mathlib.Omega.{arith}
 use borrow.Table.Steps.{cases}
 use lib.ListN.{length, length-append}
 use Rattle.geometry.specs.Sizes.{rowOf}
-use Rattle.array.specs.Device.{Setting}
+use Rattle.chip_array.specs.Device.{Setting}
 use Rattle.chip.specs.Chip.{Cycle}
 use Rattle.bus.specs.Line.{Line, sendAll, sent}
 use Rattle.bus.proofs.LineLaws.{sent-counts}
-use Rattle.polling.specs.Outcomes.{isPassed}
-use Rattle.sequences.specs.Cycles.{resetCycles, readCycles, eraseCycles, programCycles}
+use Rattle.bus_polling.specs.Outcomes.{isPassed}
+use Rattle.bus_sequences.specs.Cycles.{resetCycles, readCycles, eraseCycles, programCycles}
 use Rattle.progress.specs.Progress.{Progress, readOn, resetOn}
 use Rattle.progress.specs.Steps.{eraseOn, programOn}
 use Rattle.progress.specs.Kept.{Kept}

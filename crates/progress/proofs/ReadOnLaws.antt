@@ -10,12 +10,12 @@ use Rattle.geometry.proofs.SizeLaws.{row-within}
 use Rattle.cells.specs.Cells.{over}
 use Rattle.cells.specs.Part.{part}
 use Rattle.cells.proofs.PartLaws.{length-part}
-use Rattle.array.specs.Device.{Setting}
+use Rattle.chip_array.specs.Device.{Setting}
 use Rattle.bus.specs.Line.{Line, sendAll}
-use Rattle.polling.specs.Outcomes.{isPassed}
-use Rattle.sequences.specs.Cycles.{readCycles, readOutcome, readOutputs}
-use Rattle.polling.specs.declared.Outcome.{Outcome}
-use Rattle.polling.specs.declared.Outcome.the-variants.{Passed}
+use Rattle.bus_polling.specs.Outcomes.{isPassed}
+use Rattle.bus_sequences.specs.Cycles.{readCycles, readOutcome, readOutputs}
+use Rattle.bus_polling.specs.declared.Outcome.{Outcome}
+use Rattle.bus_polling.specs.declared.Outcome.the-variants.{Passed}
 use Rattle.operations.specs.Ends.{Called, CanRead, End, endOfRead, readEnd}
 use Rattle.operations.proofs.ReadLaws.{read-ends, read-bytes, read-next}
 use Rattle.progress.specs.Progress.{Progress, progress, readOn}

@@ -8,13 +8,13 @@ use borrow.Table.Steps.{cases}
 use borrow.Author.Tests.{lt-leb, ltb-false}
 use lib.Dec.{eqb, leb, ltb}
 use Rattle.geometry.specs.Sizes.{rowOf}
-use Rattle.interface.specs.Interface.{busyOf, failedFor}
-use Rattle.array.specs.Device.{Setting}
+use Rattle.chip_interface.specs.Interface.{busyOf, failedFor}
+use Rattle.chip_array.specs.Device.{Setting}
 use Rattle.bus.specs.Line.{Line, sendAll}
-use Rattle.polling.specs.Outcomes.{isPassed, answered}
-use Rattle.polling.specs.Polling.{outcomeOf}
-use Rattle.polling.specs.declared.Outcome.{Outcome}
-use Rattle.sequences.specs.Cycles.{eraseCycles, programCycles}
+use Rattle.bus_polling.specs.Outcomes.{isPassed, answered}
+use Rattle.bus_polling.specs.Polling.{outcomeOf}
+use Rattle.bus_polling.specs.declared.Outcome.{Outcome}
+use Rattle.bus_sequences.specs.Cycles.{eraseCycles, programCycles}
 use Rattle.operations.specs.Ends.{Called, CanErase, CanProgram, End, endOf, eraseEnd, programEnd, confirmedEnd, passes, endsAs, totalFor, wordFor}
 use Rattle.operations.proofs.EraseLaws.{erase-ends, erase-next}
 use Rattle.operations.proofs.ProgramLaws.{program-ends, program-next}

@@ -1,7 +1,7 @@
 -- Properties of requests on their way that every operation keeps: such a property is kept by every request.
 use Prim.Native.Nat.{ℕ}
 use mathlib.Core.List.{List}
-use Rattle.array.specs.Device.{Setting}
+use Rattle.chip_array.specs.Device.{Setting}
 use Rattle.progress.specs.Progress.{Progress, readOn, resetOn}
 use Rattle.progress.specs.Steps.{eraseOn, programOn, resumed}
 

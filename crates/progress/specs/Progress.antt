@@ -2,13 +2,13 @@
 use Prim.Native.Nat.{ℕ}
 use mathlib.Core.Bool.{cond}
 use mathlib.Core.List.{List, _++_}
-use Rattle.array.specs.Device.{Setting}
+use Rattle.chip_array.specs.Device.{Setting}
 use Rattle.chip.specs.Chip.{Cycle}
 use Rattle.bus.specs.Line.{Line, sendAll, sent}
-use Rattle.polling.specs.Outcomes.{isPassed}
-use Rattle.polling.specs.Polling.{endedAs}
-use Rattle.sequences.specs.Cycles.{resetCycles, readCycles, readOutcome}
-use Rattle.polling.specs.declared.Outcome.{Outcome}
+use Rattle.bus_polling.specs.Outcomes.{isPassed}
+use Rattle.bus_polling.specs.Polling.{endedAs}
+use Rattle.bus_sequences.specs.Cycles.{resetCycles, readCycles, readOutcome}
+use Rattle.bus_polling.specs.declared.Outcome.{Outcome}
 use Rattle.operations.specs.Trace.{ArrayOperation, readSends, readStarts}
 
 -- cycles: those sent. started: the array operations

@@ -4,14 +4,14 @@ use mathlib.Core.Bool.{true, cond}
 use mathlib.Core.List.{List, _++_}
 use mathlib.Core.Path.{_≡_}
 use Rattle.geometry.specs.Sizes.{rowOf}
-use Rattle.array.specs.Device.{Setting}
+use Rattle.chip_array.specs.Device.{Setting}
 use Rattle.chip.specs.Chip.{Cycle}
 use Rattle.bus.specs.Line.{Line, sendAll}
-use Rattle.polling.specs.Outcomes.{isPassed, answered}
-use Rattle.polling.specs.Polling.{outcomeOf}
-use Rattle.polling.specs.declared.Outcome.{Outcome}
-use Rattle.polling.specs.declared.Outcome.the-variants.{Passed}
-use Rattle.sequences.specs.Cycles.{eraseCycles, programCycles}
+use Rattle.bus_polling.specs.Outcomes.{isPassed, answered}
+use Rattle.bus_polling.specs.Polling.{outcomeOf}
+use Rattle.bus_polling.specs.declared.Outcome.{Outcome}
+use Rattle.bus_polling.specs.declared.Outcome.the-variants.{Passed}
+use Rattle.bus_sequences.specs.Cycles.{eraseCycles, programCycles}
 use Rattle.operations.specs.Ends.{Called}
 use Rattle.operations.specs.Trace.{ArrayOperation, eraseSends, eraseStarts, programSends, programStarts}
 use Rattle.progress.specs.Progress.{Progress, progress}

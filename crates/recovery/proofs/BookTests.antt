@@ -8,7 +8,7 @@ use mathlib.Core.Path.{_≡_, refl}
 use lib.Count.{ones, onesIn}
 use lib.ListN.{replicate}
 use Rattle.geometry.specs.declared.Geometry.{Geometry}
-use Rattle.polling.specs.declared.Outcome.the-variants.{Passed}
+use Rattle.bus_polling.specs.declared.Outcome.the-variants.{Passed}
 use Rattle.operations.specs.Trace.{ArrayOperation}
 use Rattle.pages.specs.Check.{zeroBits}
 use Rattle.pages.specs.Layout.{whole, allOnes, storedCheck, countedCheck, kindOf, dataKind, tableKind, numberWidth, isDataKind, isTableKind, labelOf, numberOf, bytesOf, labelBytes, encoded, label}

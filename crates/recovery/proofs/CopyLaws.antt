@@ -12,9 +12,9 @@ use Rattle.operations.specs.Trace.{ArrayOperation}
 use Rattle.pages.specs.Layout.{kindOf, isDataKind}
 use Rattle.copies.specs.Blocks.{blockIn, isComplete}
 use Rattle.copies.proofs.PickLaws.{up-to, some-same, some-is, none-below}
-use Rattle.runs.specs.Touched.{Each, Some, first, later, Programs}
-use Rattle.runs.proofs.TraceLaws.{or-assoc}
-use Rattle.runs.proofs.EachLaws.{each-map}
+use Rattle.damage.specs.Touched.{Each, Some, first, later, Programs}
+use Rattle.damage.proofs.TraceLaws.{or-assoc}
+use Rattle.damage.proofs.EachLaws.{each-map}
 use Rattle.bools.proofs.BoolLaws.{both, one-true, and-none}
 use Rattle.recovery.specs.Copy.{isDataProgram, sentPage, sentPages, hasCopy}
 

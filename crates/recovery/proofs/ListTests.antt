@@ -11,14 +11,14 @@ use Rattle.geometry.specs.declared.Geometry.{Geometry}
 use Rattle.cells.specs.Cells.{programmed, weakened, raised}
 use Rattle.cells.specs.Part.{put}
 use Rattle.bitmaps.specs.Bitmap.{bitAt, withBit, countBits, clearFrom}
-use Rattle.interface.specs.Interface.{poweredOn, begun, statusMode, readMode, plainCommand, addressFits, latched, addressed, fateWord, nextFate, started, statusByte}
-use Rattle.array.specs.Device.{device, setting, fitting, readStarted, programStarted, eraseStarted, completed}
+use Rattle.chip_interface.specs.Interface.{poweredOn, begun, statusMode, readMode, plainCommand, addressFits, latched, addressed, fateWord, nextFate, started, statusByte}
+use Rattle.chip_array.specs.Device.{device, setting, fitting, readStarted, programStarted, eraseStarted, completed}
 use Rattle.chip.specs.Chip.{isConfirm, confirmed, confirmable, commanded, dataTaken, dataGiven, dataByte, finished, statusRead, exec}
 use Rattle.bus.specs.Line.{mayGo, cutAfter, send, byteOut, sendAll, sent, goesOn}
-use Rattle.polling.specs.Polling.{waiting, polls, outcomeOf, endedAs}
-use Rattle.polling.specs.Outcomes.{isPassed, isFailed, isSilent, isCut}
-use Rattle.polling.specs.declared.Outcome.the-variants.{Passed}
-use Rattle.sequences.specs.Cycles.{readCycles, readOutcome, outputs, readOutputs}
+use Rattle.bus_polling.specs.Polling.{waiting, polls, outcomeOf, endedAs}
+use Rattle.bus_polling.specs.Outcomes.{isPassed, isFailed, isSilent, isCut}
+use Rattle.bus_polling.specs.declared.Outcome.the-variants.{Passed}
+use Rattle.bus_sequences.specs.Cycles.{readCycles, readOutcome, outputs, readOutputs}
 use Rattle.operations.specs.Trace.{ArrayOperation, startedBy}
 use Rattle.pages.specs.Check.{zeroBits}
 use Rattle.pages.specs.Layout.{tableKind, label, whole, allOnes, storedCheck, countedCheck, kindOf, numberWidth, isDataKind, isTableKind, labelOf, numberOf, bytesOf, labelBytes, encoded}
@@ -27,15 +27,15 @@ use Rattle.copies.specs.Pick.{better, pick, someBelow}
 use Rattle.copies.specs.Table as table
 use Rattle.copies.specs.Current as current
 use Rattle.copies.specs.Current.{currentTable, currentCopy, reading, sharesNumber, clashesAt, clashes, judgeTable, mountAnswer}
-use Rattle.choose.specs.Choose.{permitted, searchAfter}
+use Rattle.state_choose.specs.Choose.{permitted, searchAfter}
 use Rattle.state.specs.State.{copyBits}
 use Rattle.state.specs.declared.State.{State}
 use Rattle.progress.specs.Progress.{progress, readOn}
 use Rattle.progress.specs.Steps.{eraseOn, programOn}
-use Rattle.calls.specs.Call.{Result, callLine, stopAnswer}
+use Rattle.request.specs.Call.{Result, callLine, stopAnswer}
 use Rattle.fill.specs.Fill.{mainOf, mainRead, pageFilled, pagesFilled, tableMain, dataSource, isGiven}
-use Rattle.tables.specs.Tables.{Tabled, afterFill, tryBlock, tryTable, tablesFilled}
-use Rattle.changes.specs.Changes.{writeUpdate, afterTry, copyTried, copiesFilled, thenTable, changeRun}
+use Rattle.fill_tables.specs.Tables.{Tabled, afterFill, tryBlock, tryTable, tablesFilled}
+use Rattle.write_changes.specs.Changes.{writeUpdate, afterTry, copyTried, copiesFilled, thenTable, changeRun}
 use Rattle.recovery.specs.Book.{Change, write, entered, Account, blankAccount, changed, mounted, settled, fed}
 use Rattle.recovery.specs.Copy.{isDataProgram, sentPage, sentPages, hasCopy}
 use Rattle.recovery.specs.Calls.{Lent, toRead, Store, failedAfter, afterMount, step}

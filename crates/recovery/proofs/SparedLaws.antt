@@ -6,11 +6,11 @@ use mathlib.Core.Logic.{inl, ⊎-elim}
 use mathlib.Core.Path.{_≡_, sym, ap, subst, fun-ext, _∙_}
 use lib.Dec.{eqb}
 use Rattle.geometry.specs.declared.Geometry.{Geometry}
-use Rattle.polling.specs.Outcomes.{isFailed}
+use Rattle.bus_polling.specs.Outcomes.{isFailed}
 use Rattle.operations.specs.Trace.{ArrayOperation}
-use Rattle.runs.specs.Run.{failedIn}
-use Rattle.runs.specs.Touched.{Each, Steady}
-use Rattle.runs.proofs.TraceLaws.{or-assoc, failed-append}
+use Rattle.damage.specs.Run.{failedIn}
+use Rattle.damage.specs.Touched.{Each, Steady}
+use Rattle.damage.proofs.TraceLaws.{or-assoc, failed-append}
 use Rattle.bools.proofs.BoolLaws.{or-none, and-none}
 use Rattle.recovery.specs.Calls.{failedAfter}
 use Rattle.recovery.specs.Recovery.{SparedBy, Spared}

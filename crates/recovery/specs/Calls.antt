@@ -7,21 +7,21 @@ use lib.Dec.{eqb}
 use lib.ListN.{getD}
 use Rattle.geometry.specs.declared.Geometry.{Geometry}
 use Rattle.cells.specs.Bytes.{Bytes}
-use Rattle.array.specs.Device.{Device, Setting, setting}
-use Rattle.polling.specs.declared.Outcome.the-variants.{Passed}
+use Rattle.chip_array.specs.Device.{Device, Setting, setting}
+use Rattle.bus_polling.specs.declared.Outcome.the-variants.{Passed}
 use Rattle.operations.specs.Trace.{ArrayOperation}
 use Rattle.progress.specs.Progress.{progress}
 use Rattle.copies.specs.Blocks.{blockIn, isMarked}
 use Rattle.state.specs.State as state
 use Rattle.state.specs.declared.State.{State}
-use Rattle.calls.specs.Call.{Result, sizedFor, callLine}
-use Rattle.refusals.specs.Refusals.{refusalOf}
-use Rattle.fetching.specs.Fetching.{ReadResult, pageProgress}
-use Rattle.reading.specs.Reading.{readingPage}
+use Rattle.request.specs.Call.{Result, sizedFor, callLine}
+use Rattle.request_refusals.specs.Refusals.{refusalOf}
+use Rattle.read_page.specs.Fetching.{ReadResult, pageProgress}
+use Rattle.read.specs.Reading.{readingPage}
 use Rattle.mount.specs.Mount.{mountRun, mounting}
 use Rattle.format.specs.Format.{formatRun, formatting}
-use Rattle.changes.specs.Changes.{writeUpdate, eraseUpdate, changeRun, writing, eraseRefusal, erasingLogical}
-use Rattle.runs.specs.Run.{failedIn}
+use Rattle.write_changes.specs.Changes.{writeUpdate, eraseUpdate, changeRun, writing, eraseRefusal, erasingLogical}
+use Rattle.damage.specs.Run.{failedIn}
 use Rattle.recovery.specs.Book.{Change, write, erase, Note, Account, blankAccount, Entry, changed, mounted, fed}
 use Rattle.recovery.specs.Copy.{hasCopy}
 

@@ -10,17 +10,17 @@ use lib.ListN.{length, replicate}
 use Rattle.geometry.specs.declared.Geometry.{Geometry}
 use Rattle.geometry.specs.Sizes.{blockSize}
 use Rattle.cells.specs.Bytes.{Bytes}
-use Rattle.array.specs.Device.{Device, setting}
-use Rattle.polling.specs.Outcomes.{isFailed}
+use Rattle.chip_array.specs.Device.{Device, setting}
+use Rattle.bus_polling.specs.Outcomes.{isFailed}
 use Rattle.operations.specs.Trace.{ArrayOperation}
 use Rattle.copies.specs.Blocks.{blockIn}
 use Rattle.copies.specs.Pick.{at}
 use Rattle.copies.specs.Table.{lists}
 use Rattle.copies.specs.Current.{currentTable}
 use Rattle.state.specs.declared.State.{State}
-use Rattle.calls.specs.Call.{Result}
-use Rattle.fetching.specs.Fetching.{ReadResult}
-use Rattle.reading.specs.Reading.{readingPage}
+use Rattle.request.specs.Call.{Result}
+use Rattle.read_page.specs.Fetching.{ReadResult}
+use Rattle.read.specs.Reading.{readingPage}
 use Rattle.recovery.specs.Book.{Book, Same, Note, entered}
 use Rattle.recovery.specs.Copy.{hasCopy}
 use Rattle.recovery.specs.Calls.{Lent, Call, Typed, AllTyped, Store, underWay, settingOf, mountOn, readOf, traceOf, after, formatOn, begun}

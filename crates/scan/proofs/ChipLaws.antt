@@ -6,22 +6,22 @@ use mathlib.Core.Path.{_≡_, refl, sym, ap, subst, _∙_}
 use native.Mathlib.Nat.{zero-add, add-zero}
 use native.Mathlib.Numerals.{add-one}
 use native.Mathlib.Omega.{arith}
-use Rattle.array.specs.Device.{Setting}
+use Rattle.chip_array.specs.Device.{Setting}
 use Rattle.chip.specs.Chip.{Cycle}
 use Rattle.bus.specs.Line.{Line}
-use Rattle.polling.specs.Outcomes.{isPassed}
-use Rattle.polling.specs.declared.Outcome.{Outcome}
-use Rattle.polling.specs.declared.Outcome.the-variants.{Passed}
+use Rattle.bus_polling.specs.Outcomes.{isPassed}
+use Rattle.bus_polling.specs.declared.Outcome.{Outcome}
+use Rattle.bus_polling.specs.declared.Outcome.the-variants.{Passed}
 use Rattle.operations.specs.Ends.{Called}
 use Rattle.operations.specs.Trace.{ArrayOperation}
-use Rattle.summary.specs.declared.Summary.{Summary}
-use Rattle.found.specs.Contents.{Contents, copyNoted, contentsTo}
-use Rattle.found.specs.Found.{blankFound, noted, foundTo, summaryAt, rightAt, bitsAt}
-use Rattle.found.specs.declared.Found.{Found}
+use Rattle.scan_summary.specs.declared.Summary.{Summary}
+use Rattle.scan_found.specs.Contents.{Contents, copyNoted, contentsTo}
+use Rattle.scan_found.specs.Found.{blankFound, noted, foundTo, summaryAt, rightAt, bitsAt}
+use Rattle.scan_found.specs.declared.Found.{Found}
 use Rattle.progress.specs.Progress.{Progress, progress}
-use Rattle.block_scan.specs.Pages.{pagesRead}
+use Rattle.scan_block.specs.Pages.{pagesRead}
 use Rattle.scan.specs.Scan.{blocksRead}
-use Rattle.block_scan.proofs.ScanLaws.{pages-stopped}
+use Rattle.scan_block.proofs.ScanLaws.{pages-stopped}
 use Rattle.progress.proofs.ReadOnLaws.{same-progress}
 
 -- once a block's scan has not passed no further one is scanned

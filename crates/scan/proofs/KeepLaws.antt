@@ -1,9 +1,9 @@
 -- What every operation keeps, a scan keeps. Assumes nothing.
 use Prim.Native.Nat.{ℕ, zero, suc}
-use Rattle.array.specs.Device.{Setting}
+use Rattle.chip_array.specs.Device.{Setting}
 use Rattle.progress.specs.Progress.{Progress}
 use Rattle.progress.specs.Kept.{Kept}
-use Rattle.block_scan.proofs.KeepLaws.{pages-keep}
+use Rattle.scan_block.proofs.KeepLaws.{pages-keep}
 use Rattle.scan.specs.Scan.{blocksRead}
 
 module _ (s : Setting) (P : Progress → Type 0) (k : Kept s P) where

@@ -1,8 +1,8 @@
 -- The scan of the chip: all pages of its blocks, one block after the other.
 use Prim.Native.Nat.{ℕ, zero, suc}
-use Rattle.array.specs.Device.{Setting}
+use Rattle.chip_array.specs.Device.{Setting}
 use Rattle.progress.specs.Progress.{Progress}
-use Rattle.block_scan.specs.Pages.{pagesRead}
+use Rattle.scan_block.specs.Pages.{pagesRead}
 
 -- all pages of the first n blocks
 unfoldable pub blocksRead : Setting → ℕ → Progress → Progress

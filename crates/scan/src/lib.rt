@@ -1,24 +1,24 @@
 // The scan of the chip: every page of every block read whole through the bus, and what was found.
 use bus::Bus;
-use found::Found;
+use bus_polling::Outcome;
 use geometry::Geometry;
-use polling::Outcome;
+use scan_found::Found;
 ghost use mathlib.Core.Bool.{true};
 ghost use mathlib.Core.List.{List};
 ghost use mathlib.Core.Path.{_≡_};
 ghost use Prim.Native.Nat.{_<_, _≤_};
 ghost use lib.ListN.{length};
 ghost use Rattle.geometry.specs.Sizes.{pageSize};
-ghost use Rattle.array.specs.Device.{setting};
+ghost use Rattle.chip_array.specs.Device.{setting};
 ghost use Rattle.chip.specs.Chip.{Cycle};
 ghost use Rattle.bus.specs.Line.{line};
-ghost use Rattle.polling.specs.Outcomes.{isPassed};
-ghost use Rattle.polling.specs.declared.Outcome.the-variants.{Passed};
+ghost use Rattle.bus_polling.specs.Outcomes.{isPassed};
+ghost use Rattle.bus_polling.specs.declared.Outcome.the-variants.{Passed};
 ghost use Rattle.operations.specs.Ends.{Called};
 ghost use Rattle.operations.specs.Trace.{ArrayOperation};
 ghost use Rattle.progress.specs.Progress.{progress};
-ghost use Rattle.found.specs.Found.{foundTo};
-ghost use Rattle.found.specs.Contents.{contents, contentsTo};
+ghost use Rattle.scan_found.specs.Found.{foundTo};
+ghost use Rattle.scan_found.specs.Contents.{contents, contentsTo};
 ghost use Rattle.scan.specs.Scan.{blocksRead};
 
 // The bus after a scan of the chip, how its last read ended, and what was found if all passed.
@@ -62,7 +62,7 @@ pub fn scan_chip(
     let blocks = g.blocks;
     while block < blocks {
         let mut bits = [0u8; 512];
-        let done = block_scan::scan_block(
+        let done = scan_block::scan_block(
             b,
             g,
             array,
@@ -86,7 +86,7 @@ pub fn scan_chip(
         let summary = done.summary;
         let right = done.right;
         found = found.note(block, summary, right, bits);
-        found::contents::note_copy(summary, block, kinds, logicals, numbers);
+        scan_found::contents::note_copy(summary, block, kinds, logicals, numbers);
         block += 1;
     }
     ChipScanned {

@@ -10,7 +10,7 @@ use lib.Dec.{eqb, ltb}
 use lib.ListN.{length, getD, replicate, length-replicate}
 use Rattle.bitmaps.specs.Bitmap.{byteOf, bitAt, withBit, clearFrom, neverBoth}
 use Rattle.bitmaps.proofs.BitLaws.{bit-set, bit-kept}
-use Rattle.choose.specs.Choose.{permitted}
+use Rattle.state_choose.specs.Choose.{permitted}
 use Rattle.state.specs.State.{none, emptyFrom, soundBlock, soundFrom, soundEntries, mounted, Mounted}
 use Rattle.state.specs.declared.State.{State}
 use Rattle.state.proofs.StateLaws.{with-length}

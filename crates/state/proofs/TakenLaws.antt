@@ -13,7 +13,7 @@ use lib.Seq.{getD-set-same, getD-set-other}
 use Rattle.bitmaps.specs.Bitmap.{byteOf, bitAt, withBit, flagOf, flagsOf}
 use Rattle.bitmaps.proofs.BitLaws.{bit-set, bit-kept}
 use Rattle.bitmaps.proofs.ByteLaws.{or-zero, tests-join, tests-swap, flag-at}
-use Rattle.choose.specs.Choose.{permitted}
+use Rattle.state_choose.specs.Choose.{permitted}
 use Rattle.state.specs.State.{soundFrom}
 use Rattle.state.specs.declared.State.{State}
 use Rattle.state.proofs.StateLaws.{with-length}

@@ -6,7 +6,7 @@ use mathlib.Core.Path.{_≡_}
 use lib.Dec.{eqb, leb, ltb}
 use lib.ListN.{getD, set, replicate}
 use Rattle.bitmaps.specs.Bitmap.{bitAt, withBit, clearFrom, neverBoth}
-use Rattle.choose.specs.Choose.{permitted, countPermitted}
+use Rattle.state_choose.specs.Choose.{permitted, countPermitted}
 use Rattle.state.specs.declared.State.{State}
 
 -- a state that is 0 in all fields but its status: 0 not mounted, 1 mounted, 2 stopped

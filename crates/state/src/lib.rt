@@ -1,10 +1,10 @@
 // The mounted state.
-use choose::Choice;
+use state_choose::Choice;
 ghost use mathlib.Core.Path.{_≡_};
 ghost use Prim.Native.Nat.{_+_, _-_, _<_, _≤_};
 ghost use lib.ListN.{length, replicate};
 ghost use Rattle.bitmaps.specs.Bitmap.{withBit};
-ghost use Rattle.choose.specs.Choose.{chosen};
+ghost use Rattle.state_choose.specs.Choose.{chosen};
 ghost use Rattle.state.specs.State.{blank, mountedWith, nextNumber, numberEnd, spent, taken, withInvalid, withCopy, withTable, heldBits, emptyFrom, soundBlock, soundFrom, soundEntries, mounted, freeBlocks};
 
 // The numbers end below this.
@@ -141,7 +141,7 @@ impl State {
         let marked = self.marked;
         let invalid = self.invalid;
         let last = self.last;
-        choose::choose(&marked, &invalid, held, blocks, last)
+        state_choose::choose(&marked, &invalid, held, blocks, last)
     }
 
     // The blocks that hold something current, one bit a block.
@@ -204,7 +204,7 @@ impl State {
         if blocks <= table {
             return false;
         }
-        choose::is_permitted(&marked, &invalid, &named, table)
+        state_choose::is_permitted(&marked, &invalid, &named, table)
     }
 
     // Whether the map names sound blocks for the logical blocks and none past them, and the table's block is sound.
@@ -255,7 +255,7 @@ impl State {
             let marked = self.marked;
             let invalid = self.invalid;
             let held = self.held(logical);
-            return choose::count_permitted(&marked, &invalid, &held, blocks);
+            return state_choose::count_permitted(&marked, &invalid, &held, blocks);
         }
         0
     }

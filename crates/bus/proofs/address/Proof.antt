@@ -1,8 +1,8 @@
 -- `bus::address` meets its contract: a cycle that may go is the chip's, and one that may not leaves the chip alone. Assumes nothing.
 use mathlib.Core.Path.{sym, ap, _∙_}
 use mathlib.Core.List.{[]}
-use Rattle.interface.specs.declared.Interface.{Interface}
-use Rattle.array.specs.Device.{device}
+use Rattle.chip_interface.specs.declared.Interface.{Interface}
+use Rattle.chip_array.specs.Device.{device}
 use Rattle.chip.specs.Chip.{exec}
 use Rattle.bus.specs.Line.{line}
 use Rattle.bus.proofs.LineLaws.{left-of-admits, line-sent, line-kept}

@@ -4,7 +4,7 @@ use mathlib.Core.Path.{sym, _∙_}
 use borrow.Author.Needs.{needs}
 use borrow.Author.Tests.{lt-ltb, le-ltb}
 use Rattle.chip.specs.Chip.{finished}
-use Rattle.array.proofs.DeviceLaws.{fits}
+use Rattle.chip_array.proofs.DeviceLaws.{fits}
 use Rattle.chip.proofs.finish.Statement.{statement}
 use Rattle.chip.proofs.finish.Tie as tie
 

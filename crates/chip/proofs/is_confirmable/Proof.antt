@@ -3,7 +3,7 @@ use mathlib.Core.Path.{sym, _∙_}
 use borrow.Author.Needs.{needs}
 use borrow.Author.Tests.{eq-eqb, ne-eqb}
 use Rattle.chip.specs.Chip.{confirmable}
-use Rattle.array.proofs.DeviceLaws.{fits}
+use Rattle.chip_array.proofs.DeviceLaws.{fits}
 use Rattle.chip.proofs.is_confirmable.Statement.{statement}
 use Rattle.chip.proofs.is_confirmable.Tie as tie
 

@@ -3,7 +3,7 @@ use mathlib.Core.Path.{sym, _∙_}
 use borrow.Author.Needs.{needs}
 use borrow.Author.Tests.{eq-eqb, ne-eqb}
 use Rattle.geometry.proofs.LimitLaws.{limits}
-use Rattle.array.specs.Device.{fitting}
+use Rattle.chip_array.specs.Device.{fitting}
 use Rattle.chip.proofs.is_fitting.Statement.{statement}
 use Rattle.chip.proofs.is_fitting.Tie as tie
 

@@ -3,9 +3,9 @@ use Prim.Native.Nat.{ℕ}
 use mathlib.Core.List.{List}
 use mathlib.Core.Path.{ap₂, _∙_}
 use denote.Ref.{now}
-use Rattle.array.specs.Device.{setting}
+use Rattle.chip_array.specs.Device.{setting}
 use Rattle.bus.specs.Line.{line, sendAll}
-use Rattle.sequences.specs.Cycles.{programCycles}
+use Rattle.bus_sequences.specs.Cycles.{programCycles}
 use Rattle.fill.proofs.PageLaws.{as-page}
 use borrow.Author.Needs.{needs}
 use Rattle.fill.proofs.program_page.Statement.{statement}

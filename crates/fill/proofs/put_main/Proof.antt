@@ -5,7 +5,7 @@ use mathlib.Core.Path.{refl, sym, _∙_}
 use native.Mathlib.Omega.{arith}
 use denote.Ref.{now}
 use lib.ListN.{take, drop, replicate}
-use Rattle.array.specs.Device.{setting}
+use Rattle.chip_array.specs.Device.{setting}
 use Rattle.bus.specs.Line.{line}
 use Rattle.fill.specs.Fill.{givenMain, dataSource}
 use Rattle.fill.proofs.MainLaws.{source-given, source-kept, source-none, lent-long, put-read, put-ones, given-comes, given-main, kept-comes, kept-main, kept-history}

@@ -3,10 +3,10 @@ use mathlib.Core.Path.{_∙_}
 use native.Mathlib.Omega.{arith}
 use denote.Ref.{now}
 use Rattle.geometry.proofs.SizeLaws.{page-size-most}
-use Rattle.array.specs.Device.{setting}
+use Rattle.chip_array.specs.Device.{setting}
 use Rattle.bus.specs.Line.{line}
-use Rattle.polling.proofs.OutcomeLaws.{passed-by-tag, other-by-tag}
-use Rattle.calls.proofs.CallLaws.{lent-page}
+use Rattle.bus_polling.proofs.OutcomeLaws.{passed-by-tag, other-by-tag}
+use Rattle.request.proofs.CallLaws.{lent-page}
 use Rattle.format.proofs.WholeLaws.{round-left, round-stop, round-goes-on}
 use borrow.Author.Needs.{needs}
 use Rattle.format.proofs.erase_and_fill.Statement.{statement}

@@ -4,14 +4,14 @@ use mathlib.Core.Path.{sym, subst, _∙_}
 use native.Mathlib.Nat.{zero-mul}
 use native.Mathlib.Omega.{arith}
 use denote.Ref.{now}
-use Rattle.array.specs.Device.{setting}
+use Rattle.chip_array.specs.Device.{setting}
 use Rattle.bus.specs.Line.{line}
 use Rattle.operations.proofs.UnreadyLaws.{called-lent}
 use Rattle.state.specs.State.{none}
 use Rattle.state.specs.declared.State.{State}
-use Rattle.cursor.specs.Cursor.{running}
-use Rattle.driver.proofs.RunLaws.{first-due}
-use Rattle.driven.proofs.KeepLaws.{run-left}
+use Rattle.fill_cursor.specs.Cursor.{running}
+use Rattle.fill_driver.proofs.RunLaws.{first-due}
+use Rattle.fill_laws.proofs.KeepLaws.{run-left}
 use Rattle.format.proofs.EndLaws.{few-end, tables-end, last-small}
 use borrow.Author.Needs.{needs}
 use Rattle.format.proofs.fill_first.Statement.{statement}

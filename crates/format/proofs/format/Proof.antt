@@ -2,8 +2,8 @@
 use mathlib.Core.Path.{_∙_}
 use borrow.Author.Needs.{needs}
 use denote.Ref.{now}
-use Rattle.array.specs.Device.{device, setting}
-use Rattle.calls.proofs.StartLaws.{start-called, start-left, refused-is, stopped-is, goes-on}
+use Rattle.chip_array.specs.Device.{device, setting}
+use Rattle.request.proofs.StartLaws.{start-called, start-left, refused-is, stopped-is, goes-on}
 use Rattle.format.specs.Format.{endOfRun, marksRun, formatting}
 use Rattle.format.proofs.WholeLaws.{format-stops}
 use Rattle.format.proofs.format.Statement.{statement}

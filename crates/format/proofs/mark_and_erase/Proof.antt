@@ -2,9 +2,9 @@
 use mathlib.Core.Path.{_∙_}
 use native.Mathlib.Omega.{arith}
 use denote.Ref.{now}
-use Rattle.array.specs.Device.{setting}
+use Rattle.chip_array.specs.Device.{setting}
 use Rattle.bus.specs.Line.{line}
-use Rattle.polling.proofs.OutcomeLaws.{passed-by-tag, other-by-tag}
+use Rattle.bus_polling.proofs.OutcomeLaws.{passed-by-tag, other-by-tag}
 use Rattle.format.proofs.WholeLaws.{marks-left, marks-stop, marks-goes}
 use borrow.Author.Needs.{needs}
 use Rattle.format.proofs.mark_and_erase.Statement.{statement}

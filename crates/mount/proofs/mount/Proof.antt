@@ -2,8 +2,8 @@
 use mathlib.Core.Path.{_∙_}
 use borrow.Author.Needs.{needs}
 use denote.Ref.{now}
-use Rattle.array.specs.Device.{device, setting}
-use Rattle.calls.proofs.StartLaws.{start-called, start-left, refused-is, stopped-is, goes-on}
+use Rattle.chip_array.specs.Device.{device, setting}
+use Rattle.request.proofs.StartLaws.{start-called, start-left, refused-is, stopped-is, goes-on}
 use Rattle.scan.specs.Scan.{blocksRead}
 use Rattle.mount.specs.Mount.{mountEnd, mounting}
 use Rattle.mount.proofs.EndLaws.{mount-stops}

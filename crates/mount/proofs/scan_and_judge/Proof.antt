@@ -3,19 +3,19 @@ use mathlib.Core.List.{[]}
 use Prim.Native.Nat.{_<_}
 use mathlib.Core.Path.{sym, subst, _∙_}
 use Rattle.geometry.proofs.SizeLaws.{page-size-most}
-use Rattle.found.specs.declared.Found.{Found}
+use Rattle.scan_found.specs.declared.Found.{Found}
 use native.Mathlib.Omega.{arith}
 use denote.Ref.{now}
-use Rattle.array.specs.Device.{setting}
+use Rattle.chip_array.specs.Device.{setting}
 use Rattle.bus.specs.Line.{line}
-use Rattle.polling.specs.declared.Outcome.the-variants.{Passed}
-use Rattle.polling.proofs.OutcomeLaws.{passed-by-tag, other-by-tag}
+use Rattle.bus_polling.specs.declared.Outcome.the-variants.{Passed}
+use Rattle.bus_polling.proofs.OutcomeLaws.{passed-by-tag, other-by-tag}
 use Rattle.progress.specs.Progress.{progress}
 use Rattle.scan.specs.Scan.{blocksRead}
-use Rattle.found.proofs.FoundLaws.{table-small, found-fits}
+use Rattle.scan_found.proofs.FoundLaws.{table-small, found-fits}
 use Rattle.state.specs.State.{numberEnd}
 use Rattle.mount.proofs.EndLaws.{scan-left, stopped-end, refused-end, mounted-end, answer-found, state-found, room}
-use Rattle.calls.proofs.CallLaws.{lent-page}
+use Rattle.request.proofs.CallLaws.{lent-page}
 use borrow.Author.Needs.{needs}
 use Rattle.mount.proofs.scan_and_judge.Statement.{statement}
 use Rattle.mount.proofs.scan_and_judge.Tie as tie

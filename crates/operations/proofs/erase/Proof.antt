@@ -1,8 +1,8 @@
 -- `operations::erase` meets its contract: 60h and the row, the confirm cycle and 70h, and the status reads. Assumes nothing.
 use mathlib.Core.Path.{_∙_}
 use borrow.Author.Needs.{needs}
-use Rattle.sequences.specs.Cycles.{eraseAddress}
-use Rattle.sequences.proofs.DataLaws.{onward, confirmed-all}
+use Rattle.bus_sequences.specs.Cycles.{eraseAddress}
+use Rattle.bus_sequences.proofs.DataLaws.{onward, confirmed-all}
 use Rattle.operations.proofs.erase.Statement.{statement}
 use Rattle.operations.proofs.erase.Tie as tie
 

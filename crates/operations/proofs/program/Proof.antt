@@ -1,8 +1,8 @@
 -- `operations::program` meets its contract: 80h, the address and the data, the confirm cycle and 70h, and the status reads. Assumes nothing.
 use mathlib.Core.Path.{_∙_}
 use borrow.Author.Needs.{needs}
-use Rattle.sequences.specs.Cycles.{addressCycles, programData}
-use Rattle.sequences.proofs.DataLaws.{onward, joined, confirmed-all}
+use Rattle.bus_sequences.specs.Cycles.{addressCycles, programData}
+use Rattle.bus_sequences.proofs.DataLaws.{onward, joined, confirmed-all}
 use Rattle.operations.proofs.program.Statement.{statement}
 use Rattle.operations.proofs.program.Tie as tie
 

@@ -5,10 +5,10 @@ use mathlib.Core.Path.{sym, ap, _∙_}
 use borrow.Author.Needs.{needs}
 use lib.ListN.{length}
 use Rattle.cells.specs.Cells.{over}
-use Rattle.polling.specs.Outcomes.{isPassed}
-use Rattle.sequences.specs.Cycles.{readAddress}
-use Rattle.polling.proofs.OutcomeLaws.{passed-by-tag, other-by-tag}
-use Rattle.sequences.proofs.DataLaws.{onward, read-stops, read-goes, confirmed-all}
+use Rattle.bus_polling.specs.Outcomes.{isPassed}
+use Rattle.bus_sequences.specs.Cycles.{readAddress}
+use Rattle.bus_polling.proofs.OutcomeLaws.{passed-by-tag, other-by-tag}
+use Rattle.bus_sequences.proofs.DataLaws.{onward, read-stops, read-goes, confirmed-all}
 use Rattle.operations.proofs.read.Statement.{statement}
 use Rattle.operations.proofs.read.Tie as tie
 

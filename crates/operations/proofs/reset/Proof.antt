@@ -1,7 +1,7 @@
 -- `operations::reset` meets its contract: the two command cycles and a status read. Assumes nothing.
 use mathlib.Core.Path.{ap, _∙_}
 use borrow.Author.Needs.{needs}
-use Rattle.sequences.proofs.DataLaws.{lone, joined}
+use Rattle.bus_sequences.proofs.DataLaws.{lone, joined}
 use Rattle.bus.specs.Line.{statusOut}
 use Rattle.operations.specs.Ends.{resetStatus}
 use Rattle.operations.proofs.reset.Statement.{statement}

@@ -6,10 +6,10 @@ use native.Mathlib.Omega.{arith}
 use borrow.Author.Needs.{needs}
 use denote.Ref.{now}
 use lib.ListN.{length}
-use Rattle.array.specs.Device.{setting}
+use Rattle.chip_array.specs.Device.{setting}
 use Rattle.bus.specs.Line.{line}
-use Rattle.polling.proofs.OutcomeLaws.{passed-by-tag, other-by-tag, is-passed}
-use Rattle.found.specs.Contents.{contents}
+use Rattle.bus_polling.proofs.OutcomeLaws.{passed-by-tag, other-by-tag, is-passed}
+use Rattle.scan_found.specs.Contents.{contents}
 use Rattle.scan.proofs.ChipLaws.{Through, chip-begins, chip-goes, chip-stops}
 use Rattle.scan.proofs.scan_chip.Statement.{statement}
 use Rattle.scan.proofs.scan_chip.Tie as tie

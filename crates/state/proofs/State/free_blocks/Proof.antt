@@ -3,7 +3,7 @@ use mathlib.Core.List.{List}
 use mathlib.Core.Path.{sym, ap, _∙_}
 use Prim.Native.Nat.{ℕ}
 use borrow.Author.Needs.{needs}
-use Rattle.choose.specs.Choose.{countPermitted}
+use Rattle.state_choose.specs.Choose.{countPermitted}
 use Rattle.state.specs.State.{freeBlocks}
 use Rattle.state.proofs.State.free_blocks.Statement.{statement}
 use Rattle.state.proofs.State.free_blocks.Tie as tie

@@ -1,0 +1,95 @@
+-- `c_buffers::hand_back` meets its contract. Assumes nothing.
+use denote.Ref.{now}
+use Prim.Native.Nat.{ℕ}
+use mathlib.Core.Path.{_≡_, ap, _∙_}
+use lib.ListN.{length, getD}
+use mir.Syntax.{w8, w16, w64}
+use mir.Val.{Fits}
+use Rattle.c_state.specs.StateBytes.{bytesState, Ranged}
+use Rattle.c_state.proofs.RoundLaws.{load-stored}
+use Rattle.c_buffers.proofs.BufferLaws.{put-back}
+use borrow.Author.Needs.{needs}
+use Rattle.c_buffers.proofs.hand_back.Statement.{statement}
+use Rattle.c_buffers.proofs.hand_back.Tie as tie
+
+-- a state is in the range of its types
+status-fits : (s : tie.Start) → Fits w64 (s .args .returned .state .status)
+status-fits s = search needs
+
+table-fits : (s : tie.Start) → Fits w64 (s .args .returned .state .table)
+table-fits s = search needs
+
+last-fits : (s : tie.Start) → Fits w64 (s .args .returned .state .last)
+last-fits s = search needs
+
+number-fits : (s : tie.Start) → Fits w64 (s .args .returned .state .number)
+number-fits s = search needs
+
+marked-long : (s : tie.Start) → length (s .args .returned .state .marked) ≡ 512
+marked-long s = search needs
+
+marked-fits : (s : tie.Start) (i : ℕ) → Fits w8 (getD (s .args .returned .state .marked) i 0)
+marked-fits s i = search needs
+
+invalid-long : (s : tie.Start) → length (s .args .returned .state .invalid) ≡ 512
+invalid-long s = search needs
+
+invalid-fits : (s : tie.Start) (i : ℕ) → Fits w8 (getD (s .args .returned .state .invalid) i 0)
+invalid-fits s i = search needs
+
+map-long : (s : tie.Start) → length (s .args .returned .state .map) ≡ 4096
+map-long s = search needs
+
+map-fits : (s : tie.Start) (i : ℕ) → Fits w16 (getD (s .args .returned .state .map) i 0)
+map-fits s i = search needs
+
+ranged : (s : tie.Start) → Ranged (s .args .returned .state)
+ranged s =
+    record {
+      status-fits = status-fits s .fits;
+      table-fits = table-fits s .fits;
+      last-fits = last-fits s .fits;
+      number-fits = number-fits s .fits;
+      marked-long = marked-long s;
+      marked-bytes = λ i. marked-fits s i .fits;
+      invalid-long = invalid-long s;
+      invalid-bytes = λ i. invalid-fits s i .fits;
+      map-long = map-long s;
+      map-fits = λ i. map-fits s i .fits;
+    }
+
+store-requires : tie.Need-store-requires
+store-requires c κs = search needs
+
+write-interface-requires : tie.Need-write-interface-requires
+write-interface-requires c κs = search needs
+
+slice-write-sent : tie.Need-slice-write-sent
+slice-write-sent c = search needs
+
+same-length : tie.Need-same-length
+same-length c = search needs
+
+same-length-2 : tie.Need-same-length-2
+same-length-2 c = search needs
+
+same-length-3 : tie.Need-same-length-3
+same-length-3 c = search needs
+
+returns : tie.Need-returns
+returns c =
+    let at-store = c .before .before .before .before .before .before in
+    let s = at-store .before .before .before .before .before .before .before in
+    (put-back (s .args .returned .answer) (s .args .returned .sent) (s .args .returned .state) (s .args .returned .interface) _ _ (now (s .args .sent)) (at-store .store .ensures) (c .before .before .write-interface .ensures) (s .pre .1 .1), ap bytesState (at-store .store .ensures) ∙ load-stored (s .args .returned .state) (ranged s))
+
+pub hand-back-spec : {M : Type 1} → statement M
+hand-back-spec =
+    tie.close
+    (tie.spec
+    store-requires
+    write-interface-requires
+    slice-write-sent
+    same-length
+    same-length-2
+    same-length-3
+    returns)

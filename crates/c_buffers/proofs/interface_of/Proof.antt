@@ -1,0 +1,60 @@
+-- `c_buffers::interface_of` meets its contract. Assumes nothing.
+use Rattle.c_buffers.specs.Buffers.{interfaceOf}
+use mathlib.Core.Path.{refl}
+use borrow.Author.Needs.{needs}
+use Rattle.c_buffers.proofs.interface_of.Statement.{statement}
+use Rattle.c_buffers.proofs.interface_of.Tie as tie
+
+shared-slice-read-t3 : tie.Need-shared-slice-read-t3
+shared-slice-read-t3 c = search needs
+
+shared-slice-read-t5 : tie.Need-shared-slice-read-t5
+shared-slice-read-t5 c = search needs
+
+shared-slice-read-t7 : tie.Need-shared-slice-read-t7
+shared-slice-read-t7 c = search needs
+
+shared-slice-read-t9 : tie.Need-shared-slice-read-t9
+shared-slice-read-t9 c = search needs
+
+shared-slice-read-t11 : tie.Need-shared-slice-read-t11
+shared-slice-read-t11 c = search needs
+
+shared-slice-read-t13 : tie.Need-shared-slice-read-t13
+shared-slice-read-t13 c = search needs
+
+shared-slice-read-t15 : tie.Need-shared-slice-read-t15
+shared-slice-read-t15 c = search needs
+
+shared-slice-read-t17 : tie.Need-shared-slice-read-t17
+shared-slice-read-t17 c = search needs
+
+shared-slice-read-t19 : tie.Need-shared-slice-read-t19
+shared-slice-read-t19 c = search needs
+
+shared-slice-read-t21 : tie.Need-shared-slice-read-t21
+shared-slice-read-t21 c = search needs
+
+shared-slice-read-t23 : tie.Need-shared-slice-read-t23
+shared-slice-read-t23 c = search needs
+
+returns : tie.Need-returns
+unfolding interfaceOf
+returns c = refl
+
+pub interface-of-spec : {M : Type 1} → statement M
+interface-of-spec =
+    tie.close
+    (tie.spec
+    shared-slice-read-t3
+    shared-slice-read-t5
+    shared-slice-read-t7
+    shared-slice-read-t9
+    shared-slice-read-t11
+    shared-slice-read-t13
+    shared-slice-read-t15
+    shared-slice-read-t17
+    shared-slice-read-t19
+    shared-slice-read-t21
+    shared-slice-read-t23
+    returns)

@@ -1,0 +1,187 @@
+-- Blocks by their pages: one that holds a copy, one that holds a copy with bits raised, an erased one. Assumes nothing.
+use Prim.Native.Nat.{ℕ, zero, suc, _+_, _-_, _*_, _≤_, _<_}
+use mathlib.Core.Bool.{true, false, false≢true}
+use mathlib.Core.List.{List}
+use mathlib.Core.Path.{_≡_, refl, sym, ap, ap₂, subst, _∙_}
+use native.Mathlib.Nat.{add-zero}
+use native.Mathlib.Omega.{arith}
+use borrow.Table.Steps.{cases}
+use borrow.Author.Tests.{eq-eqb, eqb-true, eqb-false}
+use lib.Bits.{bitAnd, and-le-r}
+use lib.Dec.{eqb}
+use lib.ListN.{length, getD, take, replicate, getD-replicate}
+use lib.Seq.{getD-drop}
+use Rattle.geometry.specs.declared.Geometry.{Geometry}
+use Rattle.geometry.specs.Limits.{Valid}
+use Rattle.geometry.specs.Sizes.{pageSize}
+use Rattle.cells.specs.Bytes.{Bytes}
+use Rattle.pages.specs.Layout.{Label, label, labelOf, whole, numberWidth, Fits}
+use Rattle.pages.specs.Over.{Over}
+use Rattle.pages.proofs.LayoutLaws.{encoded-whole, encoded-label, encoded-first, encoded-main, bytes-encoded, raised-whole-any, erased-not-whole}
+use Rattle.pages.proofs.ByteLaws.{width-le}
+use Rattle.pages.proofs.OverLaws.{over-getD, over-bytes-to}
+use Rattle.copies.specs.Blocks.{pageIn, wholeIn, labelIn, mainIn, markByte, isMarked, agrees, completeTo, isComplete, anyTo, greatestTo}
+use Rattle.fill.specs.Fill.{Copy, copyPage}
+use Rattle.fill.proofs.PageLaws.{page-long}
+use Rattle.damage.specs.Run.{Labelled}
+
+-- numbers on whole pages are below some number
+pub greatest-most : (g : Geometry) (row : List ℕ) (k n : ℕ) → 0 < k → ((i : ℕ) → i < n → wholeIn g row i ≡ true → labelIn g row i .number < k) → greatestTo g row n < k
+unfolding greatestTo
+greatest-most g row k zero z f = z
+greatest-most g row k (suc n) z f =
+    let less = greatest-most g row k n z (λ i h. f i (omega (arith, h))) in
+    cases (wholeIn g row n)
+    (λ t. rw t (omega (arith, less, f n (omega arith) t)))
+    (λ t. rw t less)
+
+-- the number of a whole page
+pub greatest-least : (g : Geometry) (row : List ℕ) (n i : ℕ) → i < n → wholeIn g row i ≡ true → labelIn g row i .number ≤ greatestTo g row n
+unfolding greatestTo
+greatest-least g row zero i h t = absurd (omega (arith, h))
+greatest-least g row (suc n) i h t =
+    cases (eqb i n)
+    (λ e.
+    let j = eqb-true i n e in
+    let here : wholeIn g row n ≡ true = ap (wholeIn g row) (sym j) ∙ t in
+    rw here (omega (arith, ap (λ (k : ℕ). labelIn g row k .number) j)))
+    (λ e.
+    let less = greatest-least g row n i (omega (arith, h, eqb-false i n e)) t in
+    cases (wholeIn g row n) (λ u. rw u (omega (arith, less))) (λ u. rw u less))
+
+-- page 0 is whole
+pub any-first : (g : Geometry) (row : List ℕ) (n : ℕ) → wholeIn g row 0 ≡ true → anyTo g row (suc n) ≡ true
+unfolding anyTo
+any-first g row zero t = rw t
+any-first g row (suc n) t = cases (wholeIn g row (suc n)) (λ u. rw u) (λ u. rw u (any-first g row n t))
+
+-- a block whose first two pages have FFh in the mark's place
+pub no-mark : (g : Geometry) (row : List ℕ) → markByte g row 0 ≡ 255 → markByte g row 1 ≡ 255 → isMarked g row ≡ false
+unfolding isMarked
+no-mark g row a b = rw (eq-eqb _ _ a, eq-eqb _ _ b)
+
+-- an erased block
+module _ (g : Geometry) (v : Valid g) (row : List ℕ) (erased : (i : ℕ) → i < g .pages → pageIn g row i ≡ replicate (pageSize g) 255) where
+  pub erased-unwhole : (i : ℕ) → i < g .pages → wholeIn g row i ≡ false
+  erased-unwhole i h = ap (whole (g .main)) (erased i h) ∙ erased-not-whole (g .main) (pageSize g)
+
+  pub erased-greatest : greatestTo g row (g .pages) < 1
+  erased-greatest = greatest-most g row 1 (g .pages) (omega arith) (λ i h t. absurd (false≢true (sym (erased-unwhole i h) ∙ t)))
+
+  erased-byte : (i : ℕ) → i < g .pages → markByte g row i ≡ 255
+  erased-byte i h = ap (λ (x : List ℕ). getD x (g .main) 0) (erased i h) ∙ getD-replicate (pageSize g) (g .main) 255 0 (omega (arith, v .spare-least))
+
+  pub erased-unmarked : isMarked g row ≡ false
+  erased-unmarked = no-mark g row (erased-byte 0 (omega (arith, v .pages-least))) (erased-byte 1 (omega (arith, v .pages-least)))
+
+-- the pages of a copy
+module _ (g : Geometry) (v : Valid g) (c : Copy) (fits : Labelled c) (main : ℕ → List ℕ) (long : (i : ℕ) → i < g .pages → length (main i) ≡ g .main) (bytes : (i : ℕ) → i < g .pages → Bytes (main i)) where
+  abbrev pub pages : ℕ → List ℕ
+  pages i = copyPage g c i (main i)
+
+  abbrev labelAt : ℕ → Label
+  labelAt i = label (c .kind) (c .logical) i (c .number)
+
+  label-fits : (i : ℕ) → i < g .pages → Fits (labelAt i)
+  label-fits i h =
+      record {
+        width-some = fits .width-some;
+        kind-byte = fits .kind-byte;
+        logical-fits = fits .logical-fits;
+        page-byte = omega (arith, h, v .pages-most);
+        number-fits = fits .number-fits;
+      }
+
+  pub copy-long : (i : ℕ) → i < g .pages → length (pages i) ≡ pageSize g
+  copy-long i h = page-long g v (c .kind) (c .logical) (c .number) i (main i) (long i h)
+
+  pub copy-bytes : (i : ℕ) → i < g .pages → Bytes (pages i)
+  copy-bytes i h = bytes-encoded (g .spare) (labelAt i) (main i) (label-fits i h) (bytes i h)
+
+  check-fits : (i : ℕ) → i < g .pages → 8 * (length (main i) + 5 + numberWidth (c .kind)) < 65536
+  check-fits i h = omega (arith, width-le (c .kind), long i h, v .main-most)
+
+  -- a law of an encoded page, said of the geometry's main bytes
+  by-main : (P : ℕ → Type 0) (i : ℕ) → i < g .pages → P (length (main i)) → P (g .main)
+  by-main P i h = subst P (long i h)
+
+  pub page-whole : (i : ℕ) → i < g .pages → whole (g .main) (pages i) ≡ true
+  page-whole i h =
+      by-main (λ (k : ℕ). whole k (pages i) ≡ true) i h (encoded-whole (g .spare) (labelAt i) (main i) (label-fits i h) (check-fits i h))
+
+  -- spare byte 0
+  first-byte : (i : ℕ) → i < g .pages → getD (pages i) (g .main) 0 ≡ 255
+  first-byte i h =
+      by-main (λ (k : ℕ). getD (pages i) k 0 ≡ 255) i h (sym (getD-drop (length (main i)) (pages i) 0 0 ∙ ap (λ (k : ℕ). getD (pages i) k 0) (add-zero (length (main i)))) ∙ encoded-first (g .spare) (labelAt i) (main i))
+
+  -- a block that holds the copy
+  module _ (row : List ℕ) (same : (i : ℕ) → i < g .pages → pageIn g row i ≡ pages i) where
+    pub copy-whole : (i : ℕ) → i < g .pages → wholeIn g row i ≡ true
+    copy-whole i h = ap (whole (g .main)) (same i h) ∙ page-whole i h
+
+    pub copy-label : (i : ℕ) → i < g .pages → labelIn g row i ≡ labelAt i
+    copy-label i h =
+        ap (labelOf (g .main)) (same i h) ∙ by-main (λ (k : ℕ). labelOf k (pages i) ≡ labelAt i) i h (encoded-label (g .spare) (labelAt i) (main i) (label-fits i h))
+
+    pub copy-main : (i : ℕ) → i < g .pages → mainIn g row i ≡ main i
+    copy-main i h = ap (take (g .main)) (same i h) ∙ by-main (λ (k : ℕ). take k (pages i) ≡ main i) i h (encoded-main (g .spare) (labelAt i) (main i))
+
+    copy-byte : (i : ℕ) → i < g .pages → markByte g row i ≡ 255
+    copy-byte i h =
+        ap (λ (x : List ℕ). getD x (g .main) 0) (same i h) ∙ first-byte i h
+
+    pub copy-unmarked : isMarked g row ≡ false
+    copy-unmarked = no-mark g row (copy-byte 0 (omega (arith, v .pages-least))) (copy-byte 1 (omega (arith, v .pages-least)))
+
+    agrees-own : (i : ℕ) → i < g .pages → agrees (labelIn g row 0) i (labelIn g row i) ≡ true
+    unfolding agrees
+    agrees-own i h =
+        ap₂ (λ (x y : Label). agrees x i y) (copy-label 0 (omega (arith, v .pages-least))) (copy-label i h)
+        ∙ rw (eq-eqb (c .kind) (c .kind) refl, eq-eqb (c .logical) (c .logical) refl, eq-eqb (c .number) (c .number) refl, eq-eqb i i refl)
+
+    all-agree : (n : ℕ) → n ≤ g .pages → completeTo g row n ≡ true
+    unfolding completeTo
+    all-agree zero h = refl
+    all-agree (suc n) h = rw (copy-whole n (omega (arith, h)), agrees-own n (omega (arith, h))) (all-agree n (omega (arith, h)))
+
+    pub copy-complete : isComplete g row ≡ true
+    unfolding isComplete
+    copy-complete = rw copy-unmarked (all-agree (g .pages) (omega arith))
+
+    pub copy-any : anyTo g row (g .pages) ≡ true
+    copy-any =
+        let e : suc (g .pages - 1) ≡ g .pages = omega (arith, v .pages-least) in
+        ap (anyTo g row) (sym e) ∙ any-first g row (g .pages - 1) (copy-whole 0 (omega (arith, v .pages-least)))
+
+    pub copy-greatest : greatestTo g row (g .pages) ≡ c .number
+    copy-greatest =
+        let first = greatest-least g row (g .pages) 0 (omega (arith, v .pages-least)) (copy-whole 0 (omega (arith, v .pages-least))) in
+        let most = greatest-most g row (c .number + 1) (g .pages) (omega arith) (λ i h t. omega (arith, ap (λ (x : Label). x .number) (copy-label i h))) in
+        omega (arith, first, most, ap (λ (x : Label). x .number) (copy-label 0 (omega (arith, v .pages-least))))
+
+  -- a block that holds its pages with bits raised
+  module _ (row : List ℕ) (over : (i : ℕ) → i < g .pages → Over (pages i) (pageIn g row i)) where
+    -- a page that is whole is the page that was meant
+    pub raised-same : (i : ℕ) → i < g .pages → wholeIn g row i ≡ true → pageIn g row i ≡ pages i
+    raised-same i h t =
+        raised-whole-any (g .spare) (labelAt i) (main i) (pageIn g row i) (label-fits i h) (check-fits i h) (over i h)
+        (ap (λ (k : ℕ). whole k (pageIn g row i)) (long i h) ∙ t)
+
+    raised-number : (i : ℕ) → i < g .pages → wholeIn g row i ≡ true → labelIn g row i .number ≡ c .number
+    raised-number i h t =
+        ap (λ (x : List ℕ). labelOf (g .main) x .number) (raised-same i h t)
+        ∙ by-main (λ (k : ℕ). labelOf k (pages i) .number ≡ c .number) i h (ap (λ (x : Label). x .number) (encoded-label (g .spare) (labelAt i) (main i) (label-fits i h)))
+
+    pub raised-greatest : greatestTo g row (g .pages) < c .number + 1
+    raised-greatest = greatest-most g row (c .number + 1) (g .pages) (omega arith) (λ i h t. omega (arith, raised-number i h t))
+
+    -- byte 0 of the spare bytes is FFh still
+    raised-byte : (i : ℕ) → i < g .pages → markByte g row i ≡ 255
+    raised-byte i h =
+        let first = first-byte i h in
+        let kept = over-getD (g .main) (over i h) in
+        let both : bitAnd 255 (markByte g row i) ≡ 255 = sym (ap (λ (x : ℕ). bitAnd x (markByte g row i)) first) ∙ kept ∙ first in
+        omega (arith, both, and-le-r 255 (markByte g row i), over-bytes-to (over i h) (g .main))
+
+    pub raised-unmarked : isMarked g row ≡ false
+    raised-unmarked = no-mark g row (raised-byte 0 (omega (arith, v .pages-least))) (raised-byte 1 (omega (arith, v .pages-least)))

@@ -1,0 +1,258 @@
+// The store for programs in C: format, mount, read, write and erase, on numbers and lent buffers.
+use geometry::Geometry;
+ghost use mathlib.Core.Path.{_≡_};
+ghost use Rattle.chip_array.specs.Device.{setting};
+ghost use Rattle.c_buffers.specs.Buffers.{geometryOf, lent, handed, PassedOn};
+ghost use Rattle.flash_store.specs.Library.{formatResult, mountResult, readPage, writeResult, eraseResult, formattingLent, mountingLent, readHanded, readingLent, writingLent, erasingLent};
+
+// A buffer of the state, the interface or the cycles sent has the wrong length.
+const BAD_BUFFER: usize = 100;
+
+// Formats the chip. c/flash_store.h says what is lent.
+#[no_mangle]
+pub extern "C" fn flash_store_format(
+    main: usize,
+    spare: usize,
+    pages: usize,
+    blocks: usize,
+    logical: usize,
+    state: &mut [u8],
+    interface: &mut [usize],
+    array: &mut [u8],
+    register: &mut [u8],
+    history: &mut [u8],
+    mask: &[u8],
+    fates: &[u32],
+    allowed: u32,
+    sent: &mut [usize],
+) -> usize
+    ensures { λ r. ⌜ handed r (lent (now (state .exit)) (now (interface .exit)) (now (array .exit)) (now (register .exit)) (now (history .exit)) (now (sent .exit))) ≡ formattingLent (setting (geometryOf main spare pages blocks logical) (now (mask .entry)) (now (fates .entry))) (lent (now (state .entry)) (now (interface .entry)) (now (array .entry)) (now (register .entry)) (now (history .entry)) (now (sent .entry))) allowed ⌝ }
+    ensures { λ _. ⌜ PassedOn (lent (now (state .entry)) (now (interface .entry)) (now (array .entry)) (now (register .entry)) (now (history .entry)) (now (sent .entry))) (formatResult (setting (geometryOf main spare pages blocks logical) (now (mask .entry)) (now (fates .entry))) (lent (now (state .entry)) (now (interface .entry)) (now (array .entry)) (now (register .entry)) (now (history .entry)) (now (sent .entry))) allowed) (now (state .exit)) ⌝ }
+{
+    if !c_buffers::is_lent_rightly(state.len(), interface.len(), sent.len()) {
+        return BAD_BUFFER;
+    }
+    let g = Geometry {
+        main,
+        spare,
+        pages,
+        blocks,
+        logical,
+    };
+    let before = c_state::load(state);
+    let start = c_buffers::interface_of(interface);
+    let returned = format::format(
+        before,
+        g,
+        start,
+        array,
+        register,
+        history,
+        mask,
+        fates,
+        allowed,
+    );
+    c_buffers::hand_back(returned, state, interface, sent)
+}
+
+// Mounts.
+#[no_mangle]
+pub extern "C" fn flash_store_mount(
+    main: usize,
+    spare: usize,
+    pages: usize,
+    blocks: usize,
+    logical: usize,
+    state: &mut [u8],
+    interface: &mut [usize],
+    array: &mut [u8],
+    register: &mut [u8],
+    history: &mut [u8],
+    mask: &[u8],
+    fates: &[u32],
+    allowed: u32,
+    sent: &mut [usize],
+) -> usize
+    ensures { λ r. ⌜ handed r (lent (now (state .exit)) (now (interface .exit)) (now (array .exit)) (now (register .exit)) (now (history .exit)) (now (sent .exit))) ≡ mountingLent (setting (geometryOf main spare pages blocks logical) (now (mask .entry)) (now (fates .entry))) (lent (now (state .entry)) (now (interface .entry)) (now (array .entry)) (now (register .entry)) (now (history .entry)) (now (sent .entry))) allowed ⌝ }
+    ensures { λ _. ⌜ PassedOn (lent (now (state .entry)) (now (interface .entry)) (now (array .entry)) (now (register .entry)) (now (history .entry)) (now (sent .entry))) (mountResult (setting (geometryOf main spare pages blocks logical) (now (mask .entry)) (now (fates .entry))) (lent (now (state .entry)) (now (interface .entry)) (now (array .entry)) (now (register .entry)) (now (history .entry)) (now (sent .entry))) allowed) (now (state .exit)) ⌝ }
+{
+    if !c_buffers::is_lent_rightly(state.len(), interface.len(), sent.len()) {
+        return BAD_BUFFER;
+    }
+    let g = Geometry {
+        main,
+        spare,
+        pages,
+        blocks,
+        logical,
+    };
+    let before = c_state::load(state);
+    let start = c_buffers::interface_of(interface);
+    let returned = mount::mount(
+        before,
+        g,
+        start,
+        array,
+        register,
+        history,
+        mask,
+        fates,
+        allowed,
+    );
+    c_buffers::hand_back(returned, state, interface, sent)
+}
+
+// Reads one logical page into the buffer.
+#[no_mangle]
+pub extern "C" fn flash_store_read(
+    main: usize,
+    spare: usize,
+    pages: usize,
+    blocks: usize,
+    logical: usize,
+    state: &mut [u8],
+    interface: &mut [usize],
+    array: &mut [u8],
+    register: &mut [u8],
+    history: &mut [u8],
+    mask: &[u8],
+    fates: &[u32],
+    allowed: u32,
+    sent: &mut [usize],
+    block: usize,
+    page: usize,
+    buffer: &mut [u8],
+) -> usize
+    ensures { λ r. ⌜ readHanded (handed r (lent (now (state .exit)) (now (interface .exit)) (now (array .exit)) (now (register .exit)) (now (history .exit)) (now (sent .exit)))) (now (buffer .exit)) ≡ readingLent (setting (geometryOf main spare pages blocks logical) (now (mask .entry)) (now (fates .entry))) (lent (now (state .entry)) (now (interface .entry)) (now (array .entry)) (now (register .entry)) (now (history .entry)) (now (sent .entry))) allowed block page (now (buffer .entry)) ⌝ }
+    ensures { λ _. ⌜ PassedOn (lent (now (state .entry)) (now (interface .entry)) (now (array .entry)) (now (register .entry)) (now (history .entry)) (now (sent .entry))) (readPage (setting (geometryOf main spare pages blocks logical) (now (mask .entry)) (now (fates .entry))) (lent (now (state .entry)) (now (interface .entry)) (now (array .entry)) (now (register .entry)) (now (history .entry)) (now (sent .entry))) allowed block page (now (buffer .entry)) .returned) (now (state .exit)) ⌝ }
+{
+    if !c_buffers::is_lent_rightly(state.len(), interface.len(), sent.len()) {
+        return BAD_BUFFER;
+    }
+    let g = Geometry {
+        main,
+        spare,
+        pages,
+        blocks,
+        logical,
+    };
+    let before = c_state::load(state);
+    let start = c_buffers::interface_of(interface);
+    let returned = read::read(
+        before,
+        g,
+        start,
+        array,
+        register,
+        history,
+        mask,
+        fates,
+        allowed,
+        block,
+        page,
+        buffer,
+    );
+    c_buffers::hand_back(returned, state, interface, sent)
+}
+
+// Writes one logical page.
+#[no_mangle]
+pub extern "C" fn flash_store_write(
+    main: usize,
+    spare: usize,
+    pages: usize,
+    blocks: usize,
+    logical: usize,
+    state: &mut [u8],
+    interface: &mut [usize],
+    array: &mut [u8],
+    register: &mut [u8],
+    history: &mut [u8],
+    mask: &[u8],
+    fates: &[u32],
+    allowed: u32,
+    sent: &mut [usize],
+    block: usize,
+    page: usize,
+    bytes: &[u8],
+) -> usize
+    ensures { λ r. ⌜ handed r (lent (now (state .exit)) (now (interface .exit)) (now (array .exit)) (now (register .exit)) (now (history .exit)) (now (sent .exit))) ≡ writingLent (setting (geometryOf main spare pages blocks logical) (now (mask .entry)) (now (fates .entry))) (lent (now (state .entry)) (now (interface .entry)) (now (array .entry)) (now (register .entry)) (now (history .entry)) (now (sent .entry))) allowed block page (now (bytes .entry)) ⌝ }
+    ensures { λ _. ⌜ PassedOn (lent (now (state .entry)) (now (interface .entry)) (now (array .entry)) (now (register .entry)) (now (history .entry)) (now (sent .entry))) (writeResult (setting (geometryOf main spare pages blocks logical) (now (mask .entry)) (now (fates .entry))) (lent (now (state .entry)) (now (interface .entry)) (now (array .entry)) (now (register .entry)) (now (history .entry)) (now (sent .entry))) allowed block page (now (bytes .entry))) (now (state .exit)) ⌝ }
+{
+    if !c_buffers::is_lent_rightly(state.len(), interface.len(), sent.len()) {
+        return BAD_BUFFER;
+    }
+    let g = Geometry {
+        main,
+        spare,
+        pages,
+        blocks,
+        logical,
+    };
+    let before = c_state::load(state);
+    let start = c_buffers::interface_of(interface);
+    let returned = write::write(
+        before,
+        g,
+        start,
+        array,
+        register,
+        history,
+        mask,
+        fates,
+        allowed,
+        block,
+        page,
+        bytes,
+    );
+    c_buffers::hand_back(returned, state, interface, sent)
+}
+
+// Erases a logical block.
+#[no_mangle]
+pub extern "C" fn flash_store_erase(
+    main: usize,
+    spare: usize,
+    pages: usize,
+    blocks: usize,
+    logical: usize,
+    state: &mut [u8],
+    interface: &mut [usize],
+    array: &mut [u8],
+    register: &mut [u8],
+    history: &mut [u8],
+    mask: &[u8],
+    fates: &[u32],
+    allowed: u32,
+    sent: &mut [usize],
+    block: usize,
+) -> usize
+    ensures { λ r. ⌜ handed r (lent (now (state .exit)) (now (interface .exit)) (now (array .exit)) (now (register .exit)) (now (history .exit)) (now (sent .exit))) ≡ erasingLent (setting (geometryOf main spare pages blocks logical) (now (mask .entry)) (now (fates .entry))) (lent (now (state .entry)) (now (interface .entry)) (now (array .entry)) (now (register .entry)) (now (history .entry)) (now (sent .entry))) allowed block ⌝ }
+    ensures { λ _. ⌜ PassedOn (lent (now (state .entry)) (now (interface .entry)) (now (array .entry)) (now (register .entry)) (now (history .entry)) (now (sent .entry))) (eraseResult (setting (geometryOf main spare pages blocks logical) (now (mask .entry)) (now (fates .entry))) (lent (now (state .entry)) (now (interface .entry)) (now (array .entry)) (now (register .entry)) (now (history .entry)) (now (sent .entry))) allowed block) (now (state .exit)) ⌝ }
+{
+    if !c_buffers::is_lent_rightly(state.len(), interface.len(), sent.len()) {
+        return BAD_BUFFER;
+    }
+    let g = Geometry {
+        main,
+        spare,
+        pages,
+        blocks,
+        logical,
+    };
+    let before = c_state::load(state);
+    let start = c_buffers::interface_of(interface);
+    let returned = write::erase(
+        before,
+        g,
+        start,
+        array,
+        register,
+        history,
+        mask,
+        fates,
+        allowed,
+        block,
+    );
+    c_buffers::hand_back(returned, state, interface, sent)
+}

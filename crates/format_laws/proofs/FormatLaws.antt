@@ -1,0 +1,476 @@
+-- A formatting as a whole: every cycle legal, marked blocks untouched, and what an acknowledged one leaves. Assumes nothing.
+use Prim.Native.Nat.{ℕ, zero, suc, _+_, _*_, _≤_, _<_}
+use mathlib.Core.Bool.{true, false, false≢true}
+use mathlib.Core.List.{List, []}
+use mathlib.Core.Logic.{_⊎_, inl, inr, ⊎-elim}
+use mathlib.Core.Path.{_≡_, refl, sym, ap, subst, _∙_}
+use native.Mathlib.Nat.{mul-le-mul-right, add-zero}
+use native.Mathlib.Omega.{arith}
+use borrow.Table.Steps.{cases}
+use borrow.Author.Tests.{eqb-true, eqb-false, ltb-true, ltb-false}
+use lib.Dec.{eqb}
+use lib.ListN.{length, replicate}
+use Rattle.geometry.specs.declared.Geometry.{Geometry}
+use Rattle.geometry.specs.Limits.{Valid}
+use Rattle.geometry.specs.Sizes.{blockSize, rowOf}
+use Rattle.geometry.proofs.SizeLaws.{row-below}
+use Rattle.cells.specs.Bytes.{Bytes}
+use Rattle.bitmaps.specs.Bitmap.{bitAt}
+use Rattle.chip_array.specs.Device.{Device, Setting}
+use Rattle.bus_polling.specs.Outcomes.{isPassed, isReadEnd}
+use Rattle.bus_polling.specs.declared.Outcome.{Outcome}
+use Rattle.bus_polling.specs.declared.Outcome.the-variants.{Passed}
+use Rattle.operations.specs.Ends.{Called}
+use Rattle.operations.specs.Trace.{ArrayOperation}
+use Rattle.copies.specs.Blocks.{blockIn, pageIn, isMarked}
+use Rattle.copies.specs.Current.{currentTable, filledLast, nextNumber}
+use Rattle.state_choose.specs.Choose.{permitted, countPermitted}
+use Rattle.state.specs.State.{blank, numbersLeft}
+use Rattle.state.specs.State as state
+use Rattle.state.proofs.NumberLaws.{mounted-told}
+use Rattle.state.specs.declared.State.{State}
+use Rattle.scan_found.specs.Contents.{mapOf}
+use Rattle.scan_found.specs.Found.{bitsAt, marksTo}
+use Rattle.request.specs.Call.{sizedFor, callLine, stopAnswer}
+use Rattle.request.proofs.CallLaws.{sizes, stop-answer, stop-cut, stop-silent}
+use Rattle.progress.specs.Progress.{Progress, progress, readOn, resetOn}
+use Rattle.fill.specs.Fill.{tableCopy, tableMain, copyPage}
+use Rattle.mount.specs.Mount.{mountedState, blockOf}
+use Rattle.mount.proofs.MountLaws.{mark-bit}
+use Rattle.format_marks.specs.Marks.{marksRead}
+use Rattle.format_erase.specs.Round.{Round, erasedTo}
+use Rattle.format_erase.proofs.RoundLaws.{round-stopped}
+use Rattle.fill_tables.specs.Tables.{Tabled, tabled}
+use Rattle.format.specs.Format.{firstState, tooFew, stopped, tablesOf, tablesRun, roundRun, marksRun, formatRun}
+use Rattle.damage.specs.Run.{failedIn, NoneFailed, Sound, Unchanged, Spent, readMost, blockOn, Slow, Failing, tableFillMost}
+use Rattle.damage.proofs.PlaceLaws.{page-erased}
+use Rattle.damage.proofs.ReadLaws.{read-unchanged, read-spends, read-calm, reset-unchanged, reset-spends}
+use Rattle.damage.proofs.CopyLaws.{erased-unmarked}
+use Rattle.format_laws.proofs.SettledLaws as settled
+use Rattle.format_laws.proofs.TablesLaws.{Ready, Done, Left, tables-leave}
+use Rattle.format_laws.proofs.RoundLaws.{Rounded, round-leaves}
+use Rattle.format_laws.proofs.CountLaws.{count-unfailed, none-unfailed, some-unfailed}
+use Rattle.format_laws.specs.Formatting.{Formatted, FormatAnswer, is-worn, is-silent, is-cut, unfailed, roundFrom, roundDone, blockMost, formatMost}
+use Rattle.bitmaps.proofs.BitmapLaws.{blank-bit}
+
+-- how a formatting of chip d ends that may send n cycles, whatever fails or is cut
+pub record FormatLeft (s : Setting) (d : Device) (n : ℕ) (t : Tabled) : Type 0 where
+  pub legal : t .progress .line .chip .interface .illegal ≡ 0
+  pub answers : FormatAnswer (t .answer)
+  pub worn-by : t .answer ≡ 8 → (unfailed (s .geometry) (d .array) (roundDone s d n .started) (s .geometry .blocks) < s .geometry .logical + 2)
+      ⊎ (unfailed (s .geometry) (d .array) (t .progress .started) (s .geometry .blocks) ≡ 0)
+  pub worn-so : isPassed (roundDone s d n .outcome) ≡ true → unfailed (s .geometry) (d .array) (roundDone s d n .started) (s .geometry .blocks) < s .geometry .logical + 2 → t .answer ≡ 8
+  pub worn-out : isPassed (roundDone s d n .outcome) ≡ true → unfailed (s .geometry) (d .array) (t .progress .started) (s .geometry .blocks) ≡ 0 → (t .answer ≡ 8) ⊎ (t .answer ≡ 9)
+  pub spent-by : t .answer ≡ 9 → Failing (s .fates)
+  pub silent-by : t .answer ≡ 10 → Slow (s .fates)
+  pub used-up : t .answer ≡ 11 → t .progress .line .left ≡ 0
+  pub round-failed : (b : ℕ) → b < s .geometry .blocks → failedIn b (roundDone s d n .started) ≡ true → Failing (s .fates)
+  pub failed-by : (b : ℕ) → b < s .geometry .blocks → failedIn b (t .progress .started) ≡ true → Failing (s .fates)
+  pub stopped-so : (t .answer ≡ 0 → ⊥) → t .state ≡ blank 2
+  pub marked-kept : (b : ℕ) → b < s .geometry .blocks → isMarked (s .geometry) (blockIn (s .geometry) (d .array) b) ≡ true
+      → blockIn (s .geometry) (t .progress .line .chip .array) b ≡ blockIn (s .geometry) (d .array) b
+  pub marks : t .answer ≡ 0 → (b : ℕ) → b < s .geometry .blocks → isMarked (s .geometry) (blockIn (s .geometry) (t .progress .line .chip .array) b) ≡ isMarked (s .geometry) (blockIn (s .geometry) (d .array) b)
+  pub called : t .answer ≡ 0 → Called s (t .progress .line)
+  pub formatted : t .answer ≡ 0 → Formatted (s .geometry) (t .progress .line .chip .array) (t .state)
+  pub failures : t .answer ≡ 0 → (b : ℕ) → b < s .geometry .blocks → failedIn b (t .progress .started) ≡ bitAt (t .state .invalid) b
+  pub spent : n ≤ t .progress .line .left + formatMost (s .geometry)
+
+-- the marks' reads change nothing
+module _ (s : Setting) (array history : List ℕ) (v : Valid (s .geometry)) where
+  mark-unchanged : (b i : ℕ) → b < s .geometry .blocks → i < s .geometry .pages → (p : Progress) → Unchanged s array history p → Unchanged s array history (readOn s (rowOf (s .geometry) b i) (s .geometry .main) 1 p)
+  mark-unchanged b i h l p u =
+      read-unchanged s array history (rowOf (s .geometry) b i) (s .geometry .main) 1 (row-below (s .geometry) v b i h l) (omega (arith, v .spare-least)) (omega (arith, v .spare-least)) p u
+
+  mark-spends : (b i : ℕ) → b < s .geometry .blocks → i < s .geometry .pages → (p : Progress) → Unchanged s array history p → Spent p (readOn s (rowOf (s .geometry) b i) (s .geometry .main) 1 p) (readMost 1)
+  mark-spends b i h l p u =
+      read-spends s array history (rowOf (s .geometry) b i) (s .geometry .main) 1 (row-below (s .geometry) v b i h l) (omega (arith, v .spare-least)) (omega (arith, v .spare-least)) p u
+
+  marks-unchanged : (n : ℕ) → n ≤ s .geometry .blocks → (p : Progress) → Unchanged s array history p → Unchanged s array history (marksRead s n p)
+  unfolding marksRead
+  marks-unchanged zero h p u = u
+  marks-unchanged (suc n) h p u =
+      mark-unchanged n 1 (omega (arith, h)) (omega (arith, v .pages-least)) _
+      (mark-unchanged n 0 (omega (arith, h)) (omega (arith, v .pages-least)) _ (marks-unchanged n (omega (arith, h)) p u))
+
+  marks-spend : (n : ℕ) → n ≤ s .geometry .blocks → (p : Progress) → Unchanged s array history p → Spent p (marksRead s n p) (n * (2 * readMost 1))
+  unfolding marksRead
+  marks-spend zero h p u = omega arith
+  marks-spend (suc n) h p u =
+      let so-far = marksRead s n p in
+      let same = marks-unchanged n (omega (arith, h)) p u in
+      let first = readOn s (rowOf (s .geometry) n 0) (s .geometry .main) 1 so-far in
+      let one = mark-spends n 0 (omega (arith, h)) (omega (arith, v .pages-least)) so-far same in
+      let two = mark-spends n 1 (omega (arith, h)) (omega (arith, v .pages-least)) first (mark-unchanged n 0 (omega (arith, h)) (omega (arith, v .pages-least)) so-far same) in
+      omega (arith, one, two, marks-spend n (omega (arith, h)) p u)
+
+  mark-calm : (b i : ℕ) → b < s .geometry .blocks → i < s .geometry .pages → (p : Progress) → Unchanged s array history p → NoneFailed p (readOn s (rowOf (s .geometry) b i) (s .geometry .main) 1 p)
+  mark-calm b i h l p u =
+      read-calm s array history (rowOf (s .geometry) b i) (s .geometry .main) 1 (row-below (s .geometry) v b i h l) (omega (arith, v .spare-least)) (omega (arith, v .spare-least)) p u
+
+  marks-calm : (n : ℕ) → n ≤ s .geometry .blocks → (p : Progress) → Unchanged s array history p → NoneFailed p (marksRead s n p)
+  unfolding marksRead
+  marks-calm zero h p u c = refl
+  marks-calm (suc n) h p u c =
+      let so-far = marksRead s n p in
+      let same = marks-unchanged n (omega (arith, h)) p u in
+      let first = readOn s (rowOf (s .geometry) n 0) (s .geometry .main) 1 so-far in
+      mark-calm n 1 (omega (arith, h)) (omega (arith, v .pages-least)) first (mark-unchanged n 0 (omega (arith, h)) (omega (arith, v .pages-least)) so-far same) c
+      ∙ mark-calm n 0 (omega (arith, h)) (omega (arith, v .pages-least)) so-far same c
+      ∙ marks-calm n (omega (arith, h)) p u c
+
+-- where the marks are the same, so is their bitmap
+pub marks-same : (g : Geometry) (a b : List ℕ) (n : ℕ) → ((k : ℕ) → k < n → isMarked g (blockIn g a k) ≡ isMarked g (blockIn g b k)) → marksTo g a n ≡ marksTo g b n
+unfolding marksTo
+marks-same g a b zero f = refl
+marks-same g a b (suc n) f = rw (f n (omega arith), marks-same g a b n (λ k h. f k (omega (arith, h))))
+
+pub count-most : (marked invalid held : List ℕ) (n : ℕ) → countPermitted marked invalid held n ≤ n
+unfolding countPermitted
+count-most marked invalid held zero = omega arith
+count-most marked invalid held (suc n) =
+    let less = count-most marked invalid held n in
+    cases (permitted marked invalid held n) (λ t. rw t (omega (arith, less))) (λ t. rw t (omega (arith, less)))
+
+-- silent or cut
+stop-least : (o : Outcome) → isReadEnd o ≡ true → isPassed o ≡ false → FormatAnswer (stopAnswer o) × (10 ≤ stopAnswer o)
+stop-least o r f =
+    ⊎-elim (λ e. (subst FormatAnswer (sym e) is-silent, omega (arith, e))) (λ e. (subst FormatAnswer (sym e) is-cut, omega (arith, e))) (stop-answer o r f)
+
+-- a formatting that led from p to t
+pub record Whole (s : Setting) (p : Progress) (t : Tabled) : Type 0 where
+  pub sound : Sound s (t .progress)
+  pub answers : FormatAnswer (t .answer)
+  pub worn-by : t .answer ≡ 8 → (unfailed (s .geometry) (p .line .chip .array) (roundFrom s p .progress .started) (s .geometry .blocks) < s .geometry .logical + 2)
+      ⊎ (unfailed (s .geometry) (p .line .chip .array) (t .progress .started) (s .geometry .blocks) ≡ 0)
+  pub worn-so : isPassed (roundFrom s p .progress .outcome) ≡ true → unfailed (s .geometry) (p .line .chip .array) (roundFrom s p .progress .started) (s .geometry .blocks) < s .geometry .logical + 2
+      → t .answer ≡ 8
+  pub worn-out : isPassed (roundFrom s p .progress .outcome) ≡ true → unfailed (s .geometry) (p .line .chip .array) (t .progress .started) (s .geometry .blocks) ≡ 0 → (t .answer ≡ 8) ⊎ (t .answer ≡ 9)
+  pub spent-by : t .answer ≡ 9 → Failing (s .fates)
+  pub silent-by : t .answer ≡ 10 → Slow (s .fates)
+  pub used-up : t .answer ≡ 11 → t .progress .line .left ≡ 0
+  pub round-failed : (b : ℕ) → b < s .geometry .blocks → failedIn b (roundFrom s p .progress .started) ≡ true → Failing (s .fates)
+  pub failed-by : (b : ℕ) → b < s .geometry .blocks → failedIn b (t .progress .started) ≡ true → Failing (s .fates)
+  pub stopped-so : (t .answer ≡ 0 → ⊥) → t .state ≡ blank 2
+  pub marked-kept : (b : ℕ) → b < s .geometry .blocks → isMarked (s .geometry) (blockOn s p b) ≡ true → blockOn s (t .progress) b ≡ blockOn s p b
+  pub marks : t .answer ≡ 0 → (b : ℕ) → b < s .geometry .blocks → isMarked (s .geometry) (blockOn s (t .progress) b) ≡ isMarked (s .geometry) (blockOn s p b)
+  pub called : t .answer ≡ 0 → Called s (t .progress .line)
+  pub formatted : t .answer ≡ 0 → Formatted (s .geometry) (t .progress .line .chip .array) (t .state)
+  pub failures : t .answer ≡ 0 → (b : ℕ) → b < s .geometry .blocks → failedIn b (t .progress .started) ≡ bitAt (t .state .invalid) b
+  pub spent : Spent p (t .progress) (s .geometry .blocks * blockMost (s .geometry) + s .geometry .blocks * tableFillMost (s .geometry))
+
+module _ (s : Setting) (v : Valid (s .geometry)) (mask-bytes : Bytes (s .mask)) (p : Progress) (sound : Sound s p) (ends : isReadEnd (p .outcome) ≡ true) (none : (b : ℕ) → failedIn b (p .started) ≡ false) where
+  abbrev g : Geometry
+  g = s .geometry
+
+  abbrev marked : List ℕ
+  marked = marksTo g (p .line .chip .array) (g .blocks)
+
+  mark-is : (b : ℕ) → b < g .blocks → isMarked g (blockOn s p b) ≡ bitAt marked b
+  mark-is b h = sym (mark-bit g (p .line .chip .array) (g .blocks) (v .blocks-most) b h)
+
+  abbrev r : Round
+  r = erasedTo s marked (g .blocks) p
+
+  rounded : Rounded s marked p (g .blocks) r
+  rounded = round-leaves s v mask-bytes marked p mark-is sound ends none (g .blocks) (omega arith)
+
+  -- the blocks left after the first round
+  abbrev unfailed-round : ℕ
+  unfailed-round = unfailed g (p .line .chip .array) (r .progress .started) (g .blocks)
+
+  round-count : unfailed-round ≡ countPermitted marked (r .invalid) (replicate 512 0) (g .blocks)
+  round-count = count-unfailed g (p .line .chip .array) (r .progress .started) marked (r .invalid) (g .blocks) (v .blocks-most) mark-is (rounded .failures)
+
+  -- a run that ends with the first round
+  stops : (a : ℕ) → FormatAnswer a → (a ≡ 0 → ⊥) → (a ≡ 8 → unfailed-round < g .logical + 2) → (isPassed (r .progress .outcome) ≡ true → unfailed-round < g .logical + 2 → a ≡ 8) → (a ≡ 9 → ⊥)
+      → (a ≡ 10 → Slow (s .fates)) → (a ≡ 11 → r .progress .line .left ≡ 0) → Whole s p (tabled (r .progress) a (blank 2))
+  stops a is not-done worn-by worn-so not-spent silent-by used =
+      record {
+        sound = rounded .sound;
+        answers = is;
+        worn-by = λ z. inl (worn-by z);
+        worn-so = worn-so;
+        worn-out = λ y none. inl (worn-so y (omega (arith, none)));
+        spent-by = λ z. absurd (not-spent z);
+        silent-by = silent-by;
+        used-up = used;
+        round-failed = rounded .failed-by;
+        failed-by = rounded .failed-by;
+        stopped-so = λ y. refl;
+        marked-kept = λ b h m. rounded .marked-kept b h (sym (mark-is b h) ∙ m);
+        marks = λ z. absurd (not-done z);
+        called = λ z. absurd (not-done z);
+        formatted = λ z. absurd (not-done z);
+        failures = λ z. absurd (not-done z);
+        spent = omega (arith, rounded .spent);
+      }
+
+  -- the first round passed
+  module _ (y : isPassed (r .progress .outcome) ≡ true) where
+    abbrev first : State
+    first = firstState g marked (r .invalid) (r .numbers .greatest)
+
+    erased-row : (b : ℕ) → b < g .blocks → bitAt marked b ≡ false → bitAt (r .invalid) b ≡ false → blockOn s (r .progress) b ≡ replicate (blockSize g) 255
+    erased-row b h = rounded .erased y b h
+
+    marks-after : (b : ℕ) → b < g .blocks → isMarked g (blockOn s (r .progress) b) ≡ bitAt marked b
+    marks-after b h =
+        cases (bitAt marked b)
+        (λ t. ap (isMarked g) (rounded .marked-kept b h t) ∙ mark-is b h)
+        (λ f.
+        cases (bitAt (r .invalid) b)
+        (λ i. rounded .unmarked y b h i ∙ sym f)
+        (λ i.
+        erased-unmarked g v (blockOn s (r .progress) b) (λ k l. ap (λ (row : List ℕ). pageIn g row k) (erased-row b h f i) ∙ page-erased g k l) ∙ sym f))
+
+    ready : Ready s (r .progress) first
+    unfolding firstState
+    ready =
+        record {
+          passed = y;
+          sound = rounded .sound;
+          last-below = omega (arith, v .blocks-least);
+          number-some = omega arith;
+          invalid-bits = rounded .invalid-bits;
+          marks = marks-after;
+          erased = erased-row;
+          listed = λ b h m t. omega (arith, rounded .numbers y b h t);
+          apart = rounded .apart;
+          failures = rounded .failures;
+          failed-by = rounded .failed-by;
+        }
+
+    abbrev t : Tabled
+    t = tablesOf s marked (r .invalid) (r .numbers .greatest) (r .progress)
+
+    left : Left s (replicate 512 0) first (r .progress) t
+    left = tables-leave s mask-bytes (replicate 512 0) (numbersLeft first) first (r .progress) ready (omega arith)
+
+    -- a table fill passed
+    module _ (z : t .answer ≡ 0) where
+      abbrev after : List ℕ
+      after = t .progress .line .chip .array
+
+      d : Done s first (t .progress) (t .state)
+      d = left .done z
+
+      marked-is : t .state .marked ≡ marksTo g after (g .blocks)
+      unfolding firstState
+      marked-is =
+          d .marked-same
+          ∙ marks-same g (p .line .chip .array) after (g .blocks) (λ k h. mark-is k h ∙ sym (d .marks k h))
+
+      marks-kept : (b : ℕ) → b < g .blocks → isMarked g (blockIn g after b) ≡ isMarked g (blockOn s p b)
+      unfolding firstState
+      marks-kept b h = d .marks b h ∙ sym (mark-is b h)
+
+      state-is : t .state ≡ mountedState g after
+      unfolding firstState mountedState blockOf
+      state-is =
+          let table-is : t .state .table ≡ blockOf (currentTable g after) = sym (ap blockOf (settled.current-is (d .settled))) in
+          let last-is : t .state .last ≡ blockOf (filledLast g after) = d .last-is ∙ sym (ap blockOf (settled.last-is (d .settled))) in
+          let number-is : state.nextNumber (t .state) ≡ nextNumber g after = d .number-is ∙ sym (settled.next-is (d .settled)) in
+          let invalid-is : t .state .invalid ≡ bitsAt g after (blockOf (currentTable g after)) = sym (settled.bitmap-back (d .settled)) ∙ ap (bitsAt g after) table-is in
+          let map-is : t .state .map ≡ mapOf g after (blockOf (currentTable g after)) = d .map-same ∙ sym (settled.map-blank (d .settled)) ∙ ap (mapOf g after) table-is in
+          mounted-told (t .state) (d .status-same) number-is table-is last-is marked-is invalid-is map-is
+
+      formats : Formatted g after (t .state)
+      formats =
+          record {
+            table-is = settled.current-is (d .settled);
+            lists-are = settled.lists-invalid (d .settled);
+            number-next = d .number-is ∙ ap (λ (k : ℕ). k + 1) (sym (settled.number-is (d .settled)));
+            table-pages = λ i h.
+                d .settled .table-pages i h ∙ ap (λ (k : ℕ). copyPage g (tableCopy k) i (tableMain g (t .state .invalid) i)) (sym (settled.number-is (d .settled)));
+            table-whole = settled.table-whole (d .settled);
+            table-bytes = settled.page-bytes (d .settled);
+            erased = λ b h x m l. d .settled .erased b h x m (sym (settled.lists-invalid (d .settled) b h) ∙ l);
+            only-table = λ b h c l. settled.only-table (d .settled) b h c (sym (settled.lists-invalid (d .settled) b h) ∙ l);
+            mounts = settled.mounts-well (d .settled);
+            state-is = state-is;
+            reads-blank = settled.reads-blank (d .settled);
+          }
+
+    kept-marked : (b : ℕ) → b < g .blocks → bitAt marked b ≡ true → blockOn s (t .progress) b ≡ blockOn s p b
+    unfolding firstState
+    kept-marked b h m = left .marked-kept b h m ∙ rounded .marked-kept b h m
+
+    tables-spent : Spent (r .progress) (t .progress) (countPermitted marked (r .invalid) (replicate 512 0) (g .blocks) * tableFillMost g)
+    unfolding firstState
+    tables-spent = left .spent
+
+    fills-most : countPermitted marked (r .invalid) (replicate 512 0) (g .blocks) * tableFillMost g ≤ g .blocks * tableFillMost g
+    fills-most = mul-le-mul-right (tableFillMost g) (count-most marked (r .invalid) (replicate 512 0) (g .blocks))
+
+    -- worn: every unmarked block failed
+    worn-all : t .answer ≡ 8 → (b : ℕ) → b < g .blocks → isMarked g (blockOn s p b) ≡ false → failedIn b (t .progress .started) ≡ true
+    unfolding firstState permitted
+    worn-all z b h m =
+        let free : bitAt marked b ≡ false = sym (mark-is b h) ∙ m in
+        cases (bitAt (r .invalid) b)
+        (λ i. left .failed-kept b (rounded .failures b h ∙ i))
+        (λ i. left .worn-by z b h (rw (free, i, blank-bit 512 b)))
+
+    -- spent: an erase failed, or a fill
+    spent-failing : t .answer ≡ 9 → Failing (s .fates)
+    unfolding firstState
+    spent-failing z =
+        ⊎-elim
+        (λ most. rounded .greatest-by (λ z. omega (arith, most, z)))
+        (λ f. f)
+        (left .spent-by z)
+
+    -- no block is left: worn or spent
+    none-left : unfailed g (p .line .chip .array) (t .progress .started) (g .blocks) ≡ 0 → (t .answer ≡ 8) ⊎ (t .answer ≡ 9)
+    unfolding firstState
+    none-left none =
+        cases (eqb (t .answer) 8)
+        (λ e. inl (eqb-true (t .answer) 8 e))
+        (λ e.
+        cases (eqb (t .answer) 9)
+        (λ i. inr (eqb-true (t .answer) 9 i))
+        (λ i.
+        let u = left .unworn (eqb-false (t .answer) 8 e) (eqb-false (t .answer) 9 i) in
+        absurd (omega (arith, none, some-unfailed g (p .line .chip .array) (t .progress .started) (g .blocks) (u .block) (u .below) (mark-is (u .block) (u .below) ∙ u .unmarked) (u .unfailed)))))
+
+    few-blocks : tooFew g marked (r .invalid) ≡ true → unfailed-round < g .logical + 2
+    unfolding tooFew
+    few-blocks few = omega (arith, round-count, ltb-true (countPermitted marked (r .invalid) (replicate 512 0) (g .blocks)) (g .logical + 2) few)
+
+    many-blocks : tooFew g marked (r .invalid) ≡ false → unfailed-round < g .logical + 2 → ⊥
+    unfolding tooFew
+    many-blocks enough less = omega (arith, less, round-count, ltb-false (countPermitted marked (r .invalid) (replicate 512 0) (g .blocks)) (g .logical + 2) enough)
+
+    tables-whole : Whole s p (tablesRun s marked (r .invalid) (r .numbers .greatest) (r .progress))
+    unfolding tablesRun
+    tables-whole =
+        cases (tooFew g marked (r .invalid))
+        (λ few. subst (Whole s p) (sym (rw few))
+        (stops 8 is-worn (λ z. omega (arith, z)) (λ z. few-blocks few) (λ x less. refl) (λ z. omega (arith, z)) (λ z. absurd (omega (arith, z))) (λ z. absurd (omega (arith, z)))))
+        (λ enough.
+        subst (Whole s p) (sym (rw enough))
+        (record {
+          sound = left .sound;
+          answers = left .answers;
+          worn-by = λ z. inr (none-unfailed g (p .line .chip .array) (t .progress .started) (g .blocks) (worn-all z));
+          worn-so = λ x less. absurd (many-blocks enough less);
+          worn-out = λ x none. none-left none;
+          spent-by = spent-failing;
+          silent-by = left .silent-by;
+          used-up = left .used-up;
+          round-failed = rounded .failed-by;
+          failed-by = left .failed-by;
+          stopped-so = left .stopped;
+          marked-kept = λ b h m. kept-marked b h (sym (mark-is b h) ∙ m);
+          marks = marks-kept;
+          called = λ z. d z .called;
+          formatted = formats;
+          failures = λ z. d z .failures;
+          spent = omega (arith, rounded .spent, tables-spent, fills-most);
+        }))
+
+  -- the first round and what follows it
+  round-whole : Whole s p (roundRun s marked p)
+  unfolding roundRun
+  round-whole =
+      cases (isPassed (r .progress .outcome))
+      (λ y. subst (Whole s p) (sym (rw y)) (tables-whole y))
+      (λ f.
+      let stop = stop-least (r .progress .outcome) (rounded .ends) f in
+      let least = stop .1 in
+      subst (Whole s p) (sym (rw f))
+      (stops (stopAnswer (r .progress .outcome)) (stop .0) (λ z. omega (arith, z, least)) (λ z. absurd (omega (arith, z, least))) (λ y. absurd (false≢true (sym f ∙ y)))
+      (λ z. omega (arith, z, least)) (λ z. rounded .sound .silent-by (stop-silent (r .progress .outcome) z)) (λ z. rounded .sound .used-up (stop-cut (r .progress .outcome) z))))
+
+-- the request from its reset on
+module _ (s : Setting) (d : Device) (n : ℕ) (t : sizedFor s d ≡ true) (mask-bytes : Bytes (s .mask)) where
+  abbrev begun : Progress
+  begun = resetOn s (progress (callLine d n) Passed [] [])
+
+  fitted : Valid (s .geometry)
+  fitted = sizes (s .geometry) (length (d .array)) (length (d .register)) (length (d .history)) (length (s .mask)) t .chip-fits .is-valid
+
+  abbrev q : Progress
+  q = marksRead s (s .geometry .blocks) begun
+
+  same : Unchanged s (d .array) (d .history) q
+  same = marks-unchanged s (d .array) (d .history) fitted (s .geometry .blocks) (omega arith) begun (reset-unchanged s d n t)
+
+  calm : (b : ℕ) → failedIn b (q .started) ≡ false
+  unfolding resetOn isPassed failedIn
+  calm b = marks-calm s (d .array) (d .history) fitted (s .geometry .blocks) (omega arith) begun (reset-unchanged s d n t) b
+
+  few : n ≤ q .line .left + (3 + s .geometry .blocks * (2 * readMost 1))
+  few = omega (arith, reset-spends s d n t, marks-spend s (d .array) (d .history) fitted (s .geometry .blocks) (omega arith) begun (reset-unchanged s d n t))
+
+  block-same : (b : ℕ) → blockOn s q b ≡ blockIn (s .geometry) (d .array) b
+  block-same b = ap (λ (a : List ℕ). blockIn (s .geometry) a b) (same .same-array)
+
+  -- the count of blocks is that of the chip as it was handed in
+  unfailed-same : (trace : List ArrayOperation) → unfailed (s .geometry) (q .line .chip .array) trace (s .geometry .blocks) ≡ unfailed (s .geometry) (d .array) trace (s .geometry .blocks)
+  unfailed-same trace = ap (λ (a : List ℕ). unfailed (s .geometry) a trace (s .geometry .blocks)) (same .same-array)
+
+  -- what the marks led to
+  whole-run : (x : Tabled) → Whole s q x → FormatLeft s d n x
+  whole-run x w =
+      record {
+        legal = w .sound .legal;
+        answers = w .answers;
+        worn-by = λ z.
+            ⊎-elim (λ e. inl (subst (λ (k : ℕ). k < s .geometry .logical + 2) (unfailed-same (roundFrom s q .progress .started)) e)) (λ e. inr (sym (unfailed-same (x .progress .started)) ∙ e)) (w .worn-by z);
+        worn-so = λ y less. w .worn-so y (subst (λ (k : ℕ). k < s .geometry .logical + 2) (sym (unfailed-same (roundFrom s q .progress .started))) less);
+        worn-out = λ y none. w .worn-out y (unfailed-same (x .progress .started) ∙ none);
+        spent-by = w .spent-by;
+        silent-by = w .silent-by;
+        used-up = w .used-up;
+        round-failed = w .round-failed;
+        failed-by = w .failed-by;
+        stopped-so = w .stopped-so;
+        marked-kept = λ b h m. w .marked-kept b h (ap (isMarked (s .geometry)) (block-same b) ∙ m) ∙ block-same b;
+        marks = λ z b h. w .marks z b h ∙ ap (isMarked (s .geometry)) (block-same b);
+        called = w .called;
+        formatted = w .formatted;
+        failures = w .failures;
+        spent = omega (arith, w .spent, few);
+      }
+
+  -- a round that does not begin erases nothing
+  none-erased : isPassed (q .outcome) ≡ false → roundFrom s q .progress ≡ q
+  unfolding erasedTo
+  none-erased f =
+      let marks : List ℕ = marksTo (s .geometry) (q .line .chip .array) (s .geometry .blocks) in
+      ap (λ (k : ℕ). erasedTo s marks k q .progress) (sym (add-zero (s .geometry .blocks))) ∙ round-stopped s marks 0 q f (s .geometry .blocks)
+
+  stop-run : isPassed (q .outcome) ≡ false → FormatLeft s d n (stopped q)
+  stop-run f =
+      let stop = stop-least (q .outcome) (same .ends) f in
+      let least = stop .1 in
+      record {
+        legal = same .sound .legal;
+        answers = stop .0;
+        worn-by = λ z. absurd (omega (arith, z, least));
+        worn-so = λ y. absurd (false≢true (sym (ap (λ (x : Progress). isPassed (x .outcome)) (none-erased f) ∙ f) ∙ y));
+        worn-out = λ y. absurd (false≢true (sym (ap (λ (x : Progress). isPassed (x .outcome)) (none-erased f) ∙ f) ∙ y));
+        spent-by = λ z. absurd (omega (arith, z, least));
+        silent-by = λ z. same .sound .silent-by (stop-silent (q .outcome) z);
+        used-up = λ z. same .sound .used-up (stop-cut (q .outcome) z);
+        round-failed = λ b h y. absurd (false≢true (sym (ap (λ (x : Progress). failedIn b (x .started)) (none-erased f) ∙ calm b) ∙ y));
+        failed-by = λ b h y. absurd (false≢true (sym (calm b) ∙ y));
+        stopped-so = λ y. refl;
+        marked-kept = λ b h m. block-same b;
+        marks = λ z. absurd (omega (arith, z, least));
+        called = λ z. absurd (omega (arith, z, least));
+        formatted = λ z. absurd (omega (arith, z, least));
+        failures = λ z. absurd (omega (arith, z, least));
+        spent = omega (arith, few);
+      }
+
+  abbrev rest : Tabled
+  rest = roundRun s (marksTo (s .geometry) (q .line .chip .array) (s .geometry .blocks)) q
+
+  pub format-leaves : FormatLeft s d n (formatRun s d n)
+  unfolding marksRun
+  format-leaves =
+      cases (isPassed (q .outcome))
+      (λ y. subst (FormatLeft s d n) {x = rest} (rw y) (whole-run rest (round-whole s fitted mask-bytes q (same .sound) (same .ends) calm)))
+      (λ f. subst (FormatLeft s d n) {x = stopped q} (rw f) (stop-run f))

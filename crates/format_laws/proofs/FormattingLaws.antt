@@ -1,0 +1,207 @@
+-- Every formatting ends as Formatting tells, and sends fewer cycles than the allowance that cuts nothing. Assumes nothing.
+use Prim.Native.Nat.{ℕ, _+_, _≤_, _<_}
+use mathlib.Core.Bool.{true, false}
+use mathlib.Core.List.{List, []}
+use mathlib.Core.Logic.{_⊎_, _↔_, inl, inr, ⊎-elim}
+use mathlib.Core.Path.{_≡_, refl, sym, ap, subst, _∙_}
+use native.Mathlib.Nat.{mul-le-mul}
+use native.Mathlib.Omega.{arith}
+use borrow.Table.Steps.{cases}
+use lib.ListN.{length}
+use Rattle.geometry.specs.declared.Geometry.{Geometry}
+use Rattle.geometry.specs.Limits.{Valid}
+use Rattle.geometry.specs.Sizes.{pageSize}
+use Rattle.geometry.proofs.SizeLaws.{page-size-most}
+use Rattle.cells.specs.Bytes.{Bytes}
+use Rattle.chip_array.specs.Device.{Device, Setting}
+use Rattle.bus_polling.specs.Outcomes.{isPassed}
+use Rattle.operations.specs.Trace.{ArrayOperation}
+use Rattle.bus_polling.specs.declared.Outcome.the-variants.{Passed}
+use Rattle.state.specs.State.{mounted}
+use Rattle.state.specs.declared.State.{State}
+use Rattle.scan_found.specs.Found.{marksTo}
+use Rattle.request.specs.Call.{sizedFor, callLine}
+use Rattle.request.proofs.CallLaws.{sizes, called-sized}
+use Rattle.progress.specs.Progress.{Progress, progress, resetOn}
+use Rattle.progress.specs.Kept.{Kept}
+use Rattle.progress.proofs.CountLaws.{allowance-kept}
+use Rattle.format_marks.specs.Marks.{marksRead}
+use Rattle.format_erase.specs.Round.{erasedTo}
+use Rattle.fill_tables.proofs.KeepLaws.{tables-keep}
+use Rattle.format.specs.Format.{tooFew, tablesRun, roundRun, marksRun, formatRun, endOfRun, formatting}
+use Rattle.format_marks.proofs.KeepLaws.{marks-keep}
+use Rattle.format_erase.proofs.KeepLaws.{round-keeps}
+use Rattle.damage.specs.Replay.{Replayed}
+use Rattle.damage.proofs.ReplayLaws.{leads-first, leads-kept, replayed, lengths-sized}
+use Rattle.damage.specs.Run.{readMost, Slow, Failing, failedIn, programMost, tableFillMost}
+use Rattle.format_laws.specs.Formatting.{blockMost, formatMost, Acknowledged, Formatting, unfailed, roundDone, FormatAnswer, is-done, is-worn, is-spent, is-silent, is-cut}
+use Rattle.format_laws.proofs.FormatLaws.{format-leaves, FormatLeft}
+use Rattle.mount_laws.proofs.StateLaws.{mounted-state}
+use Rattle.format_laws.proofs.CountLaws.{all-unfailed}
+
+-- what every operation keeps, a formatting keeps
+module _ (s : Setting) (P : Progress → Type 0) (k : Kept s P) where
+  tables-run-keeps : (marked invalid : List ℕ) (greatest : ℕ) (p : Progress) → P p → P (tablesRun s marked invalid greatest p .progress)
+  unfolding tablesRun
+  tables-run-keeps marked invalid greatest p h =
+      cases (tooFew (s .geometry) marked invalid) (λ t. rw t h) (λ t. rw t (tables-keep s P k _ _ _ p h))
+
+  round-run-keeps : (marked : List ℕ) (p : Progress) → P p → P (roundRun s marked p .progress)
+  unfolding roundRun
+  round-run-keeps marked p h =
+      let r = erasedTo s marked (s .geometry .blocks) p in
+      let here = round-keeps s P k marked (s .geometry .blocks) p h in
+      cases (isPassed (r .progress .outcome)) (λ t. rw t (tables-run-keeps marked (r .invalid) (r .numbers .greatest) (r .progress) here)) (λ t. rw t here)
+
+  marks-run-keeps : (p : Progress) → P p → P (marksRun s p .progress)
+  unfolding marksRun
+  marks-run-keeps p h =
+      let q = marksRead s (s .geometry .blocks) p in
+      let here = marks-keep s P k (s .geometry .blocks) p h in
+      cases (isPassed (q .outcome)) (λ t. rw t (round-run-keeps (marksTo (s .geometry) (q .line .chip .array) (s .geometry .blocks)) q here)) (λ t. rw t here)
+
+  pub format-keeps : (d : Device) (n : ℕ) → P (progress (callLine d n) Passed [] []) → P (formatRun s d n .progress)
+  format-keeps d n h = marks-run-keeps (resetOn s (progress (callLine d n) Passed [] [])) (k .reset (progress (callLine d n) Passed [] []) h)
+
+module _ (s : Setting) (d : Device) (n : ℕ) (mask-bytes : Bytes (s .mask)) (t : sizedFor s d ≡ true) where
+  counted : length (formatRun s d n .progress .cycles) + formatRun s d n .progress .line .left ≡ n
+  counted = format-keeps s _ (allowance-kept s n) d n (omega arith)
+
+  abbrev left : FormatLeft s d n (formatRun s d n)
+  left = format-leaves s d n t mask-bytes
+
+  acknowledged : formatRun s d n .answer ≡ 0 → Acknowledged s (endOfRun n (formatRun s d n))
+  acknowledged z =
+      let c = left .called z in
+      let f = left .formatted z in
+      record {
+        formatted = f;
+        counts-mounted = ap (λ (st : State). mounted st (s .geometry .blocks) (s .geometry .logical)) (f .state-is)
+            ∙ mounted-state (s .geometry) (c .is-valid) (formatRun s d n .progress .line .chip .array) (c .array-long) (f .mounts);
+        still-sized = called-sized s (formatRun s d n .progress .line) c;
+        still-ready = c .ready;
+      }
+
+  played : Replayed s (callLine d n .chip) (formatRun s d n .progress .line .chip) (formatRun s d n .progress .cycles)
+  played = replayed s (callLine d n .chip) (formatRun s d n .progress) (format-keeps s _ (leads-kept s (callLine d n .chip)) d n (leads-first s (callLine d n))) (left .legal)
+
+  run-ends : Formatting s d n (endOfRun n (formatRun s d n))
+  run-ends =
+      record {
+        legal = left .legal;
+        replayed = played;
+        sizes-kept = lengths-sized s (played .same-lengths) ∙ t;
+        answers = left .answers;
+        worn-by = left .worn-by;
+        worn-so = left .worn-so;
+        worn-out = left .worn-out;
+        spent-by = left .spent-by;
+        silent-by = left .silent-by;
+        marked-kept = left .marked-kept;
+        marks-same = left .marks;
+        acknowledged = acknowledged;
+        lists-failed = λ z b h. left .failures z b h ∙ sym (left .formatted z .lists-are b h);
+        sent-is = omega (arith, counted);
+        sent-most = omega (arith, left .spent);
+        cut-at = λ z. omega (arith, left .used-up z);
+        stopped-so = left .stopped-so;
+      }
+
+  pub format-ends : (state : State) → Formatting s d n (formatting s d n state)
+  unfolding formatting
+  format-ends state = subst (Formatting s d n) {x = endOfRun n (formatRun s d n)} (rw t) run-ends
+
+-- sizes that do not go together
+pub format-refused : (s : Setting) (d : Device) (n : ℕ) (state : State) → sizedFor s d ≡ false → formatting s d n state .answer ≡ 1
+unfolding formatting
+format-refused s d n state f = rw f
+
+-- of any chip, from any state, with any fates, mask and allowance
+pub format-acknowledged : (s : Setting) (d : Device) (n : ℕ) (state : State) → Bytes (s .mask) → formatting s d n state .answer ≡ 0 → Acknowledged s (formatting s d n state)
+format-acknowledged s d n state mask-bytes z =
+    cases (sizedFor s d)
+    (λ t. format-ends s d n mask-bytes t state .acknowledged z)
+    (λ f. absurd (omega (arith, z, format-refused s d n state f)))
+
+-- the largest geometry, every operation with 256 status reads
+pub format-fits : (g : Geometry) → Valid g → formatMost g ≤ 2424700931
+format-fits g v =
+    let size = page-size-most g v in
+    let read : readMost (pageSize g) ≤ 4617 = omega (arith, size) in
+    let reads = mul-le-mul (v .pages-most) read in
+    let block : blockMost g ≤ 295750 = omega (arith, reads) in
+    let blocks = mul-le-mul (v .blocks-most) block in
+    let page : programMost g ≤ 4616 = omega (arith, size) in
+    let pages = mul-le-mul (v .pages-most) page in
+    let fill : tableFillMost g ≤ 295686 = omega (arith, pages) in
+    let fills = mul-le-mul (v .blocks-most) fill in
+    omega (arith, v .blocks-most, blocks, fills)
+
+-- the largest allowance cuts nothing
+pub format-uncut : (s : Setting) (d : Device) (state : State) → Bytes (s .mask) → formatting s d 4294967295 state .answer ≡ 11 → ⊥
+format-uncut s d state mask-bytes z =
+    cases (sizedFor s d)
+    (λ t.
+    let f = format-ends s d 4294967295 mask-bytes t state in
+    let fits = format-fits (s .geometry) (sizes (s .geometry) (length (d .array)) (length (d .register)) (length (d .history)) (length (s .mask)) t .chip-fits .is-valid) in
+    omega (arith, f .cut-at z, f .sent-most, fits))
+    (λ f. absurd (omega (arith, z, format-refused s d 4294967295 state f)))
+
+-- every answer there is: 1 where the sizes do not go together, and else those of FormatAnswer
+pub format-answers : (s : Setting) (d : Device) (n : ℕ) (state : State) → Bytes (s .mask) → (formatting s d n state .answer ≡ 1) ⊎ FormatAnswer (formatting s d n state .answer)
+format-answers s d n state mask-bytes =
+    cases (sizedFor s d) (λ t. inr (format-ends s d n mask-bytes t state .answers)) (λ f. inl (format-refused s d n state f))
+
+not-one : {a : ℕ} → FormatAnswer a → a ≡ 1 → ⊥
+not-one is-done z = omega (arith, z)
+not-one is-worn z = omega (arith, z)
+not-one is-spent z = omega (arith, z)
+not-one is-silent z = omega (arith, z)
+not-one is-cut z = omega (arith, z)
+
+-- 1 comes exactly where they do not
+pub format-unsized : (s : Setting) (d : Device) (n : ℕ) (state : State) → Bytes (s .mask) → (formatting s d n state .answer ≡ 1) ↔ (sizedFor s d ≡ false)
+format-unsized s d n state mask-bytes =
+    (λ z. cases (sizedFor s d) (λ t. absurd (not-one (format-ends s d n mask-bytes t state .answers) z)) (λ f. f), format-refused s d n state)
+
+-- 10 comes only where some fate word of the call has 256 or more busy reads
+pub format-silent : (s : Setting) (d : Device) (n : ℕ) (state : State) → Bytes (s .mask) → formatting s d n state .answer ≡ 10 → Slow (s .fates)
+format-silent s d n state mask-bytes z =
+    cases (sizedFor s d)
+    (λ t. format-ends s d n mask-bytes t state .silent-by z)
+    (λ f. absurd (omega (arith, z, format-refused s d n state f)))
+
+by-answer : {a : ℕ} → FormatAnswer a → (a ≡ 8 → ⊥) → (a ≡ 9 → ⊥) → (a ≡ 10 → ⊥) → (a ≡ 11 → ⊥) → a ≡ 0
+by-answer is-done x y z w = refl
+by-answer is-worn x y z w = absurd (x refl)
+by-answer is-spent x y z w = absurd (y refl)
+by-answer is-silent x y z w = absurd (z refl)
+by-answer is-cut x y z w = absurd (w refl)
+
+module _ (s : Setting) (d : Device) (n : ℕ) (mask-bytes : Bytes (s .mask)) (t : sizedFor s d ≡ true) (passing : Failing (s .fates) → ⊥)
+    (enough : s .geometry .logical + 2 ≤ unfailed (s .geometry) (d .array) [] (s .geometry .blocks)) where
+  -- where no fate word fails, all unmarked blocks are left
+  all-left : (trace : List ArrayOperation) → ((b : ℕ) → b < s .geometry .blocks → failedIn b trace ≡ true → Failing (s .fates))
+      → s .geometry .logical + 2 ≤ unfailed (s .geometry) (d .array) trace (s .geometry .blocks)
+  all-left trace by =
+      let none : (b : ℕ) → b < s .geometry .blocks → failedIn b trace ≡ false = λ b h. cases (failedIn b trace) (λ y. absurd (passing (by b h y))) (λ f. f) in
+      omega (arith, enough, all-unfailed (s .geometry) (d .array) trace (s .geometry .blocks) none)
+
+  not-worn : formatRun s d n .answer ≡ 8 → ⊥
+  not-worn z =
+      let l = left s d n mask-bytes t in
+      ⊎-elim
+      (λ less. omega (arith, less, all-left (roundDone s d n .started) (l .round-failed)))
+      (λ none. omega (arith, none, all-left (formatRun s d n .progress .started) (l .failed-by)))
+      (l .worn-by z)
+
+-- with N + 2 unmarked blocks, no fate word that fails or is slow, and an allowance above the most that a formatting
+-- sends, it is acknowledged
+pub format-done : (s : Setting) (d : Device) (n : ℕ) (state : State) → Bytes (s .mask) → sizedFor s d ≡ true → (Slow (s .fates) → ⊥) → (Failing (s .fates) → ⊥)
+    → s .geometry .logical + 2 ≤ unfailed (s .geometry) (d .array) [] (s .geometry .blocks) → formatMost (s .geometry) < n → formatting s d n state .answer ≡ 0
+unfolding formatting
+format-done s d n state mask-bytes t fast passing enough h =
+    let f = run-ends s d n mask-bytes t in
+    rw t
+    (by-answer (f .answers) (not-worn s d n mask-bytes t passing enough) (λ z. passing (f .spent-by z)) (λ z. fast (f .silent-by z))
+    (λ z. omega (arith, f .cut-at z, f .sent-most, h)))

@@ -1,0 +1,41 @@
+-- The mark bytes of a chip, read block by block.
+use Prim.Native.Nat.{ℕ, zero, suc}
+use mathlib.Core.Bool.{true}
+use mathlib.Core.List.{List}
+use mathlib.Core.Path.{_≡_}
+use Rattle.geometry.specs.Sizes.{rowOf}
+use Rattle.chip_array.specs.Device.{Setting}
+use Rattle.bus_polling.specs.Outcomes.{isPassed}
+use Rattle.bus_polling.specs.declared.Outcome.{Outcome}
+use Rattle.bus_polling.specs.declared.Outcome.the-variants.{Passed}
+use Rattle.chip.specs.Chip.{Cycle}
+use Rattle.bus.specs.Line.{Line}
+use Rattle.operations.specs.Ends.{Called}
+use Rattle.operations.specs.Trace.{ArrayOperation}
+use Rattle.copies.specs.Blocks.{blockIn, markByte}
+use Rattle.progress.specs.Progress.{Progress, progress, readOn}
+use Rattle.scan_found.specs.Found.{marksTo}
+
+-- the mark bytes of pages 0 and 1 of the first n blocks, one byte each
+unfoldable pub marksRead : Setting → ℕ → Progress → Progress
+marksRead s zero p = p
+marksRead s (suc n) p =
+    readOn s (rowOf (s .geometry) n 1) (s .geometry .main) 1 (readOn s (rowOf (s .geometry) n 0) (s .geometry .main) 1 (marksRead s n p))
+
+-- the byte in the place of a factory mark was read
+pub record MarkRead (s : Setting) (l m : Line) (o : Outcome) (block place byte : ℕ) : Type 0 where
+  pub line-is : (cs : List Cycle) (os : List ArrayOperation) → m ≡ readOn s (rowOf (s .geometry) block place) (s .geometry .main) 1 (progress l Passed cs os) .line
+  pub outcome-is : (cs : List Cycle) (os : List ArrayOperation) → o ≡ readOn s (rowOf (s .geometry) block place) (s .geometry .main) 1 (progress l Passed cs os) .outcome
+  pub same-array : m .chip .array ≡ l .chip .array
+  pub same-history : m .chip .history ≡ l .chip .history
+  pub next : isPassed o ≡ true → Called s m
+  pub byte-is : isPassed o ≡ true → byte ≡ markByte (s .geometry) (blockIn (s .geometry) (l .chip .array) block) place
+
+-- the marks of all blocks were read
+pub record MarksFound (s : Setting) (l m : Line) (o : Outcome) (marked : List ℕ) : Type 0 where
+  pub line-is : (cs : List Cycle) (os : List ArrayOperation) → m ≡ marksRead s (s .geometry .blocks) (progress l Passed cs os) .line
+  pub outcome-is : (cs : List Cycle) (os : List ArrayOperation) → o ≡ marksRead s (s .geometry .blocks) (progress l Passed cs os) .outcome
+  pub same-array : m .chip .array ≡ l .chip .array
+  pub same-history : m .chip .history ≡ l .chip .history
+  pub next : isPassed o ≡ true → Called s m
+  pub marked-are : isPassed o ≡ true → marked ≡ marksTo (s .geometry) (l .chip .array) (s .geometry .blocks)

@@ -1,0 +1,25 @@
+-- The request that reads one logical page, in the order of the paper's table.
+use Prim.Native.Nat.{ℕ}
+use mathlib.Core.Bool.{cond}
+use mathlib.Core.List.{List}
+use lib.Dec.{eqb}
+use lib.ListN.{getD, replicate}
+use Rattle.chip_array.specs.Device.{Device, Setting}
+use Rattle.state.specs.State.{none}
+use Rattle.state.specs.declared.State.{State}
+use Rattle.request.specs.Call.{result}
+use Rattle.request_refusals.specs.Refusals.{refusalOf}
+use Rattle.read_page.specs.Fetching.{ReadResult, readResult, readingBlock}
+
+-- a logical block without a copy reads FFh
+unfoldable pub readingCopy : Setting → Device → ℕ → State → ℕ → ℕ → List ℕ → ReadResult
+readingCopy s d n state block page buffer =
+    cond (eqb block none) (readResult (result 0 state d 0) (replicate (s .geometry .main) 255))
+    (readingBlock s d n state block page buffer)
+
+-- n: the cycles allowed
+unfoldable pub readingPage : Setting → Device → ℕ → State → ℕ → ℕ → List ℕ → ReadResult
+readingPage s d n state logical page buffer =
+    cond (eqb (refusalOf s d state logical page buffer) 0)
+    (readingCopy s d n state (getD (state .map) logical 0) page buffer)
+    (readResult (result (refusalOf s d state logical page buffer) state d 0) buffer)

@@ -1,0 +1,101 @@
+// A page of a block read into a buffer that changes only if the read passed.
+use bus::Bus;
+use bus_polling::Done;
+use bus_polling::Outcome;
+use chip_interface::Interface;
+use geometry::Geometry;
+use request::Returned;
+use state::State;
+ghost use mathlib.Core.Path.{_≡_};
+ghost use Prim.Native.Nat.{_<_};
+ghost use Rattle.geometry.specs.Limits.{Valid};
+ghost use lib.ListN.{length};
+ghost use Rattle.chip_array.specs.Device.{device, setting};
+ghost use Rattle.bus.specs.Line.{line, sendAll};
+ghost use Rattle.bus_sequences.specs.Cycles.{readCycles, readOutcome};
+ghost use Rattle.request.specs.Call.{result};
+ghost use Rattle.read_page.specs.Fetching.{readResult, fetched, readingBlock};
+
+// Reads the main bytes of a row into `bytes`, and copies them to `buffer` if the read passed.
+fn fetch(
+    from: Bus,
+    g: Geometry,
+    array: &mut [u8],
+    register: &mut [u8],
+    history: &mut [u8],
+    mask: &[u8],
+    fates: &[u32],
+    row: usize,
+    bytes: &mut [u8],
+    buffer: &mut [u8],
+) -> Done
+    requires { ⌜ length (now bytes) ≡ g .main ⌝ }
+    requires { ⌜ length (now buffer) ≡ g .main ⌝ }
+    ensures { λ r. ⌜ line (r .bus) (now (array .exit)) (now (register .exit)) (now (history .exit)) ≡ sendAll (setting g (now (mask .entry)) (now (fates .entry))) (line from (now (array .entry)) (now (register .entry)) (now (history .entry))) (readCycles (setting g (now (mask .entry)) (now (fates .entry))) (line from (now (array .entry)) (now (register .entry)) (now (history .entry))) row 0 (g .main)) ⌝ }
+    ensures { λ r. ⌜ r .outcome ≡ readOutcome (setting g (now (mask .entry)) (now (fates .entry))) (line from (now (array .entry)) (now (register .entry)) (now (history .entry))) row 0 (g .main) ⌝ }
+    ensures { λ r. ⌜ now (buffer .exit) ≡ fetched (setting g (now (mask .entry)) (now (fates .entry))) (line from (now (array .entry)) (now (register .entry)) (now (history .entry))) row (now (buffer .entry)) ⌝ }
+{
+    let done = operations::read(
+        from,
+        g,
+        array,
+        register,
+        history,
+        mask,
+        fates,
+        row,
+        0,
+        bytes,
+    );
+    let ended = done.outcome;
+    let Outcome::Passed = ended else {
+        return done;
+    };
+    cells::copy(bytes, buffer);
+    done
+}
+
+// Reads a page of a block into a buffer of main bytes.
+pub fn read_block(
+    state: State,
+    g: Geometry,
+    interface: Interface,
+    array: &mut [u8],
+    register: &mut [u8],
+    history: &mut [u8],
+    mask: &[u8],
+    fates: &[u32],
+    allowed: u32,
+    block: usize,
+    page: usize,
+    buffer: &mut [u8],
+) -> Returned
+    requires { ⌜ Valid g ⌝ }
+    requires { ⌜ block < g .blocks ⌝ }
+    requires { ⌜ page < g .pages ⌝ }
+    requires { ⌜ length (now buffer) ≡ g .main ⌝ }
+    ensures { λ r. ⌜ readResult (result (r .answer) (r .state) (device (r .interface) (now (array .exit)) (now (register .exit)) (now (history .exit))) (r .sent)) (now (buffer .exit)) ≡ readingBlock (setting g (now (mask .entry)) (now (fates .entry))) (device interface (now (array .entry)) (now (register .entry)) (now (history .entry))) allowed state block page (now (buffer .entry)) ⌝ }
+{
+    let row = geometry::row_of(g, block, page);
+    let from = request::begin(interface, allowed);
+    let mut bytes = [0u8; 4096];
+    let main = g.main;
+    let done = fetch(
+        from,
+        g,
+        array,
+        register,
+        history,
+        mask,
+        fates,
+        row,
+        &mut bytes[0..main],
+        buffer,
+    );
+    let bus = done.bus;
+    let outcome = done.outcome;
+    let Outcome::Passed = outcome else {
+        return request::end(request::stop_answer(outcome), State::blank(2), bus, allowed);
+    };
+    request::end(0, state, bus, allowed)
+}

@@ -1,0 +1,98 @@
+-- No mount and no read, of any chip, sends a 10h or D0h cycle. Assumes nothing.
+use Prim.Native.Nat.{ℕ, zero, suc}
+use mathlib.Core.Bool.{cond}
+use mathlib.Core.List.{List, [], _∷_, _++_}
+use mathlib.Core.Logic.{⊎-elim}
+use mathlib.Core.Path.{subst}
+use native.Mathlib.Omega.{arith}
+use borrow.Table.Steps.{cases}
+use lib.ListN.{replicate}
+use Rattle.geometry.specs.Sizes.{pageSize, rowOf, columnBytes, rowBytes}
+use Rattle.chip_array.specs.Device.{Device, Setting}
+use Rattle.chip.specs.Chip.{Cycle}
+use Rattle.chip.specs.Chip.Cycle.{command, address, dataIn, dataOut, status}
+use Rattle.bus.specs.Line.{Line, sendAll, sent}
+use Rattle.bus_polling.specs.Outcomes.{isPassed}
+use Rattle.bus_polling.specs.Polling.{polls, outcomeOf, statusReads}
+use Rattle.bus_polling.specs.declared.Outcome.the-variants.{Passed}
+use Rattle.bus_sequences.specs.Cycles.{resetCycles, confirmCycles, readAddress, pageLine, readCycles}
+use Rattle.progress.specs.Progress.{Progress, progress, readOn, resetOn}
+use Rattle.scan_block.specs.Pages.{pagesRead}
+use Rattle.scan.specs.Scan.{blocksRead}
+use Rattle.read_page.specs.Fetching.{pageProgress}
+use Rattle.request.specs.Call.{callLine}
+use Rattle.mount.specs.Mount.{mountRun}
+use Rattle.recovery_cycles.specs.Starts.{Changes}
+use Rattle.recovery_cycles.specs.Spared.{OnlyReads}
+use Rattle.recovery_cycles.proofs.AllLaws.{All, all-append, all-mapped, all-repeated, all-sent, all-at}
+
+-- neither 10h nor D0h
+abbrev Harmless : Cycle → Type 0
+Harmless (command code) = Changes code → ⊥
+Harmless (address byte) = Unit {0}
+Harmless (dataIn byte) = Unit {0}
+Harmless dataOut = Unit {0}
+Harmless status = Unit {0}
+
+only-reads : (cycles : List Cycle) → All Harmless cycles → OnlyReads cycles
+only-reads cycles h xs ys code e k = all-at Harmless xs ys (command code) (subst (All Harmless) e h) k
+
+-- 00h, 30h, 70h and FFh
+harmless-00 : Changes 0 → ⊥
+harmless-00 k = ⊎-elim (λ e. omega (arith, e)) (λ e. omega (arith, e)) k
+
+harmless-30 : Changes 48 → ⊥
+harmless-30 k = ⊎-elim (λ e. omega (arith, e)) (λ e. omega (arith, e)) k
+
+harmless-70 : Changes 112 → ⊥
+harmless-70 k = ⊎-elim (λ e. omega (arith, e)) (λ e. omega (arith, e)) k
+
+harmless-ff : Changes 255 → ⊥
+harmless-ff k = ⊎-elim (λ e. omega (arith, e)) (λ e. omega (arith, e)) k
+
+module _ (s : Setting) where
+  read-cycles : (l : Line) (row column n : ℕ) → All Harmless (readCycles s l row column n)
+  unfolding readCycles
+  read-cycles l row column n =
+      let asked = sendAll s l (readAddress row column ++ confirmCycles 48) .chip in
+      let out = cond (isPassed (outcomeOf (pageLine s l row column))) (command 0 ∷ replicate n dataOut) [] in
+      all-append Harmless ((readAddress row column ++ confirmCycles 48) ++ statusReads s asked) out
+      (all-append Harmless (readAddress row column ++ confirmCycles 48) (statusReads s asked)
+      (all-append Harmless (readAddress row column) (confirmCycles 48) (harmless-00, all-mapped Harmless address (λ b. tt) (columnBytes column ++ rowBytes row)) (harmless-30, (harmless-70, tt)))
+      (all-repeated Harmless (polls s 256 asked) status tt))
+      (cases (isPassed (outcomeOf (pageLine s l row column))) (λ t. rw t (harmless-00, all-repeated Harmless n dataOut tt)) (λ t. rw t tt))
+
+  read-harmless : (row column n : ℕ) (p : Progress) → All Harmless (p .cycles) → All Harmless (readOn s row column n p .cycles)
+  unfolding readOn
+  read-harmless row column n p h =
+      cases (isPassed (p .outcome))
+      (λ t. rw t (all-append Harmless (p .cycles) (sent s (p .line) (readCycles s (p .line) row column n)) h (all-sent Harmless s (p .line) (readCycles s (p .line) row column n) (read-cycles (p .line) row column n))))
+      (λ t. rw t h)
+
+  reset-harmless : (p : Progress) → All Harmless (p .cycles) → All Harmless (resetOn s p .cycles)
+  unfolding resetOn
+  reset-harmless p h =
+      cases (isPassed (p .outcome))
+      (λ t. rw t (all-append Harmless (p .cycles) (sent s (p .line) resetCycles) h (all-sent Harmless s (p .line) resetCycles (harmless-ff, (harmless-70, (tt, tt))))))
+      (λ t. rw t h)
+
+  pages-harmless : (block n : ℕ) (p : Progress) → All Harmless (p .cycles) → All Harmless (pagesRead s block n p .cycles)
+  unfolding pagesRead
+  pages-harmless block zero p h = h
+  pages-harmless block (suc n) p h =
+      read-harmless (rowOf (s .geometry) block n) 0 (pageSize (s .geometry)) (pagesRead s block n p) (pages-harmless block n p h)
+
+  blocks-harmless : (n : ℕ) (p : Progress) → All Harmless (p .cycles) → All Harmless (blocksRead s n p .cycles)
+  unfolding blocksRead
+  blocks-harmless zero p h = h
+  blocks-harmless (suc n) p h = pages-harmless n (s .geometry .pages) (blocksRead s n p) (blocks-harmless n p h)
+
+  pub mount-only-reads : (l : Line) → OnlyReads (mountRun s l .cycles)
+  mount-only-reads l =
+      only-reads (mountRun s l .cycles)
+      (blocks-harmless (s .geometry .blocks) (resetOn s (progress l Passed [] [])) (reset-harmless (progress l Passed [] []) tt))
+
+  pub page-only-reads : (d : Device) (n block page : ℕ) → OnlyReads (pageProgress s d n block page .cycles)
+  page-only-reads d n block page =
+      only-reads (pageProgress s d n block page .cycles)
+      (read-harmless (rowOf (s .geometry) block page) 0 (s .geometry .main) (progress (callLine d n) Passed [] []) tt)

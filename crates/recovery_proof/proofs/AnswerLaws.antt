@@ -1,0 +1,67 @@
+-- How calls after every list are answered, so that no premise of the laws of lists is empty, and the cycles of writes and erases.
+-- Assumes nothing but the laws named.
+use mathlib.Core.Bool.{true}
+use mathlib.Core.Path.{_≡_, _∙_}
+use Rattle.geometry.specs.declared.Geometry.{Geometry}
+use Rattle.bools.proofs.BoolLaws.{clash}
+use Rattle.mount_laws.proofs.MountingLaws.{mount-unsized, mount-heard}
+use Rattle.state.specs.State.{mounted}
+use Rattle.recovery.specs.Calls.{Call, toMount, toRead, toWrite, toErase, Typed, Store, settingOf, afterMount, step}
+use Rattle.recovery.specs.Recovery.{Always}
+use Rattle.recovery_proof.specs.Answers.{RightlyCalled, ComesBack, ReadsAnswered, WritesAnswered, ErasesAnswered}
+use Rattle.recovery_proof.specs.Cycles.{WritesSent, ErasesSent}
+use Rattle.recovery_proof.specs.Acknowledged.{answerOf, DoneReads}
+use Rattle.recovery_proof.specs.Invariant.{Inv}
+use Rattle.recovery_proof.proofs.InvariantLaws.{fit-sizes}
+use Rattle.recovery_proof.proofs.MountSteps.{mount-mounted}
+use Rattle.recovery_proof.proofs.ReadSteps.{read-mounted, reads-back, read-told}
+use Rattle.recovery_proof.proofs.ChangeSteps.{write-answers, write-sent, write-mounted, erase-answers, erase-sent, erase-mounted}
+use Rattle.recovery_proof.proofs.RecoveryLaws.{step-inv, by-inv}
+
+pub rightly-called : Always RightlyCalled
+rightly-called =
+    by-inv RightlyCalled
+    (λ g y i a long z.
+    let s = settingOf g a in
+    clash (fit-sizes s (y .chip) (i .fits) long) (mount-unsized s (y .chip) (a .allowed) (y .state) .0 z))
+
+pub comes-back : Always ComesBack
+comes-back =
+    by-inv ComesBack
+    (λ g y i a long fast h.
+    let s = settingOf g a in
+    mount-heard s (y .chip) (a .allowed) (y .state) (fit-sizes s (y .chip) (i .fits) long) fast h ∙ i .stored .mounts)
+
+pub reads-answered : Always ReadsAnswered
+reads-answered = by-inv ReadsAnswered read-told
+
+pub writes-answered : Always WritesAnswered
+writes-answered =
+    by-inv WritesAnswered
+    (λ g y i a logical page bytes m b. write-answers g y i a m logical page bytes b)
+
+pub erases-answered : Always ErasesAnswered
+erases-answered =
+    by-inv ErasesAnswered (λ g y i a logical m. erase-answers g y i a m logical)
+
+pub writes-sent : Always WritesSent
+writes-sent =
+    by-inv WritesSent
+    (λ g y i a logical page bytes m b. write-sent g y i a m logical page bytes b)
+
+pub erases-sent : Always ErasesSent
+erases-sent =
+    by-inv ErasesSent (λ g y i a logical m. erase-sent g y i a m logical)
+
+-- a call answered 0 leaves a state that counts as mounted
+done-mounted : (g : Geometry) (y : Store) → Inv g y → (c : Call) → Typed c → answerOf g c y ≡ 0 → mounted (step g c y .state) (g .blocks) (g .logical) ≡ true
+unfolding step afterMount answerOf
+done-mounted g y i (toMount a) t z = mount-mounted g y i a z
+done-mounted g y i (toRead a logical page buffer) t z = read-mounted g y i a logical page buffer z
+done-mounted g y i (toWrite a logical page bytes) t z = write-mounted g y i a (t .0) logical page bytes (t .1) z
+done-mounted g y i (toErase a logical) t z = erase-mounted g y i a t logical z
+
+pub done-reads : Always DoneReads
+done-reads =
+    by-inv DoneReads
+    (λ g y i c t z. reads-back g (step g c y) (step-inv g c t y i) (done-mounted g y i c t z))

@@ -1,0 +1,120 @@
+-- What a mount after a list gives back. Assumes nothing.
+use Prim.Native.Nat.{ℕ, _<_}
+use mathlib.Core.Bool.{true, false, cond}
+use mathlib.Core.List.{List, []}
+use mathlib.Core.Option.{Option, none, some}
+use mathlib.Core.Path.{_≡_, refl, sym, ap, subst, _∙_}
+use native.Mathlib.Omega.{arith}
+use borrow.Table.Steps.{cases}
+use lib.ListN.{replicate, length-replicate}
+use Rattle.geometry.specs.declared.Geometry.{Geometry}
+use Rattle.geometry.specs.Sizes.{blockSize}
+use Rattle.chip_interface.specs.Interface.{fateWord}
+use Rattle.chip_array.specs.Device.{Setting, setting}
+use Rattle.copies.specs.Current.{reading}
+use Rattle.request.specs.Call.{Result, sizedFor}
+use Rattle.mount_laws.proofs.MountingLaws.{mount-refused}
+use Rattle.read.proofs.ReadingLaws.{Gives}
+use Rattle.request_laws.specs.Reads.{ReadsAs, MountRead}
+use Rattle.request_laws.proofs.JoinedLaws.{mount-then-read}
+use Rattle.recovery.specs.Book.{Book, Same, Note, entered, settled}
+use Rattle.recovery.specs.Copy.{hasCopy}
+use Rattle.recovery.specs.Calls.{Lent, Store, underWay, settingOf, mountOn, copyOfNote}
+use Rattle.recovery.specs.Recovery.{plainRead, readingBy, Unaffected, none-under-way, no-copy, no-byte, Recovered}
+use Rattle.recovery_proof.specs.Invariant.{dueOf, Inv}
+use Rattle.recovery_proof.proofs.InvariantLaws.{due-quiet}
+use Rattle.recovery_proof.proofs.MountSteps.{same-at, mount-done}
+
+-- the note of a store, by its cases
+by-note : {P : Type 0} (o : Option Note) → (o ≡ none → P) → ((t : Note) → o ≡ some t → P) → P
+by-note none f h = f refl
+by-note (some t) f h = h t refl
+
+-- the book that is due where a request is noted
+module _ (g : Geometry) (y : Store) (t : Note) (e : underWay y ≡ some t) where
+  due-noted : dueOf g (y .chip .array) (y .account) ≡ cond (hasCopy g (y .chip .array) (t .started)) (entered g (t .change) (y .account .book)) (y .account .book)
+  unfolding settled copyOfNote
+  due-noted =
+      subst (λ (o : Option Note). settled g (copyOfNote g (y .chip .array) o) o (y .account .book) .book ≡ cond (hasCopy g (y .chip .array) (t .started)) (entered g (t .change) (y .account .book)) (y .account .book)) (sym e) refl
+
+  due-entered : hasCopy g (y .chip .array) (t .started) ≡ true → dueOf g (y .chip .array) (y .account) ≡ entered g (t .change) (y .account .book)
+  due-entered c = due-noted ∙ rw c
+
+  due-kept : hasCopy g (y .chip .array) (t .started) ≡ false → dueOf g (y .chip .array) (y .account) ≡ y .account .book
+  due-kept c = due-noted ∙ rw c
+
+-- a mount that is not answered 1, 10 or 11
+module _ (g : Geometry) (y : Store) (i : Inv g y) (a : Lent) (x₁ : mountOn g a y .answer ≡ 1 → ⊥) (x₁₀ : mountOn g a y .answer ≡ 10 → ⊥) (x₁₁ : mountOn g a y .answer ≡ 11 → ⊥) where
+  abbrev r : Result
+  r = mountOn g a y
+
+  abbrev s : Setting
+  s = settingOf g a
+
+  abbrev array : List ℕ
+  array = y .chip .array
+
+  fits : sizedFor s (y .chip) ≡ true
+  fits = cases (sizedFor s (y .chip)) (λ t. t) (λ f. absurd (x₁ (mount-refused s (y .chip) (a .allowed) (y .state) f)))
+
+  done : r .answer ≡ 0
+  done = mount-done g y i a fits x₁₀ x₁₁
+
+  joined : MountRead g array r
+  joined = mount-then-read s (y .chip) (a .allowed) (y .state) done
+
+  -- a read that is uncut and not silent
+  abbrev plainSetting : Setting
+  plainSetting = setting g (replicate (blockSize g) 0) []
+
+  plain : (l p : ℕ) → l < g .logical → p < g .pages → ReadsAs plainSetting (r .chip) 4294967295 (r .state) (reading g array (r .state .table) l p) (plainRead g r l p)
+  plain l p h k =
+      joined .reads (replicate (blockSize g) 0) [] 4294967295 l p (replicate (g .main) 0) (length-replicate (blockSize g) 0) h k (length-replicate (g .main) 0)
+
+  plain-gives : (l p : ℕ) → (h : l < g .logical) → (k : p < g .pages) → Gives plainSetting (r .chip) (r .state) (reading g array (r .state .table) l p) (plainRead g r l p)
+  unfolding fateWord
+  plain-gives l p h k =
+      let q = plain l p h k in
+      q .gives (λ e. omega (arith, q .silent-by e)) (λ e. omega (arith, q .cut-at e, q .sent-most, i .stored .is-valid .main-most))
+
+  -- the mount's reading is the book that is due
+  reads-due : Same g (readingBy g r) (dueOf g array (y .account))
+  reads-due l p h k =
+      plain-gives l p h k .bytes-are
+      ∙ ap (λ (t : ℕ). reading g array t l p) (same-at (sym (joined .table-is) ∙ i .table-is))
+      ∙ i .reads l p h k
+
+  due-is : {b : Book} → dueOf g array (y .account) ≡ b → Same g (readingBy g r) b
+  due-is {b} e l p h k = reads-due l p h k ∙ ap (λ (x : Book). x l p) e
+
+  equal-so : Same g (readingBy g r) (y .account .book) → Unaffected g y
+  equal-so same =
+      by-note (underWay y) none-under-way
+      (λ t e.
+      cases (hasCopy g array (t .started))
+      (λ c. no-byte t e (λ l p h k. sym (due-is (due-entered g y t e c) l p h k) ∙ same l p h k))
+      (λ c. no-copy t e c))
+
+  so-equal : Unaffected g y → Same g (readingBy g r) (y .account .book)
+  so-equal (none-under-way e) = due-is (due-quiet g array (y .account) e)
+  so-equal (no-copy t e c) = due-is (due-kept g y t e c)
+  so-equal (no-byte t e same) =
+      cases (hasCopy g array (t .started))
+      (λ c l p h k. due-is (due-entered g y t e c) l p h k ∙ same l p h k)
+      (λ c. due-is (due-kept g y t e c))
+
+  affected : (t : Note) → underWay y ≡ some t → (Unaffected g y → ⊥) → Same g (readingBy g r) (entered g (t .change) (y .account .book))
+  affected t e x =
+      cases (hasCopy g array (t .started)) (λ c. due-is (due-entered g y t e c)) (λ c. absurd (x (no-copy t e c)))
+
+  pub inv-recovered : Recovered g y r
+  inv-recovered =
+      record {
+        done = done;
+        heard = λ l p h k. plain-gives l p h k .done;
+        equal = (equal-so, so-equal);
+        otherwise = affected;
+        any-read = λ b l p buffer h k mask-long buffer-long x x'.
+            let gives = joined .reads (b .mask) (b .fates) (b .allowed) l p buffer mask-long h k buffer-long .gives x x' in
+            (gives .done, gives .bytes-are ∙ sym (plain-gives l p h k .bytes-are));
+      }

@@ -1,0 +1,55 @@
+-- The cycles of writes and erases, and that they keep all sizes, on any chip, from any state and however they end. Assumes nothing.
+use Prim.Native.Nat.{ℕ}
+use mathlib.Core.List.{List, []}
+use mathlib.Core.Path.{_≡_, refl, subst}
+use native.Mathlib.Omega.{arith}
+use borrow.Table.Steps.{cases}
+use lib.Dec.{eqb}
+use lib.ListN.{length}
+use Rattle.chip_array.specs.Device.{Device, Setting}
+use Rattle.chip_laws.specs.Lengths.{SameLengths}
+use Rattle.chip_laws.proofs.LengthLaws.{run-lengths}
+use Rattle.bus_polling.specs.declared.Outcome.the-variants.{Passed}
+use Rattle.progress.specs.Progress.{progress}
+use Rattle.progress.proofs.CountLaws.{allowance-kept}
+use Rattle.state.specs.declared.State.{State}
+use Rattle.request.specs.Call.{sizedFor, callLine}
+use Rattle.request_refusals.specs.Refusals.{refusalOf}
+use Rattle.write_changes.specs.Changes.{Update, changeRun, changing, writing, eraseRefusal, erasingLogical}
+use Rattle.write_changes.proofs.KeepLaws.{change-keeps}
+use Rattle.damage.proofs.ReplayLaws.{Leads, leads-first, leads-kept, lengths-sized}
+
+same : (d : Device) → SameLengths d d
+same d = record { array = refl; register = refl; history = refl }
+
+module _ (s : Setting) (d : Device) (n : ℕ) (st : State) where
+  -- the cycles lead to the chip that is left, and are counted
+  pub change-leads : (u : Update) → Leads s (callLine d n .chip) (changeRun s st u (progress (callLine d n) Passed [] []) .progress)
+  change-leads u =
+      change-keeps s (Leads s (callLine d n .chip)) (leads-kept s (callLine d n .chip)) st u (progress (callLine d n) Passed [] []) (leads-first s (callLine d n))
+
+  pub change-counts : (u : Update) → changing s d n st u .sent ≡ length (changeRun s st u (progress (callLine d n) Passed [] []) .progress .cycles)
+  change-counts u =
+      omega (arith, change-keeps s _ (allowance-kept s n) st u (progress (callLine d n) Passed [] []) (omega arith))
+
+  pub change-lengths : (u : Update) → SameLengths d (changing s d n st u .chip)
+  change-lengths u =
+      let run = changeRun s st u (progress (callLine d n) Passed [] []) in
+      let l = subst (SameLengths (callLine d n .chip)) (change-leads u) (run-lengths s (callLine d n .chip) (run .progress .cycles)) in
+      record { array = l .array; register = l .register; history = l .history }
+
+  write-lengths : (logical page : ℕ) (bytes : List ℕ) → SameLengths d (writing s d n st logical page bytes .chip)
+  unfolding writing
+  write-lengths logical page bytes =
+      cases (eqb (refusalOf s d st logical page bytes) 0) (λ t. rw t (change-lengths _)) (λ f. rw f (same d))
+
+  erase-lengths : (logical : ℕ) → SameLengths d (erasingLogical s d n st logical .chip)
+  unfolding erasingLogical
+  erase-lengths logical =
+      cases (eqb (eraseRefusal s d st logical) 0) (λ t. rw t (change-lengths _)) (λ f. rw f (same d))
+
+  pub write-sized : (logical page : ℕ) (bytes : List ℕ) → sizedFor s (writing s d n st logical page bytes .chip) ≡ sizedFor s d
+  write-sized logical page bytes = lengths-sized s (write-lengths logical page bytes)
+
+  pub erase-sized : (logical : ℕ) → sizedFor s (erasingLogical s d n st logical .chip) ≡ sizedFor s d
+  erase-sized logical = lengths-sized s (erase-lengths logical)

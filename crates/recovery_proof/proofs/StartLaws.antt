@@ -1,0 +1,63 @@
+-- The invariant holds after every acknowledged formatting. Assumes nothing but the law named.
+use Prim.Native.Nat.{ℕ, _<_}
+use mathlib.Core.Bool.{true}
+use mathlib.Core.Path.{_≡_, refl, sym, subst, _∙_}
+use native.Mathlib.Omega.{arith}
+use borrow.Table.Steps.{cases}
+use Rattle.geometry.specs.declared.Geometry.{Geometry}
+use Rattle.bitmaps.specs.Bitmap.{bitAt}
+use Rattle.cells.specs.Bytes.{Bytes}
+use Rattle.chip_array.specs.Device.{Device, Setting}
+use Rattle.state.specs.declared.State.{State}
+use Rattle.request.specs.Call.{Result, sizedFor}
+use Rattle.format.specs.Format.{formatRun}
+use Rattle.format_laws.specs.Formatting.{Formatting, Acknowledged, Formatted}
+use Rattle.format_laws.proofs.FormattingLaws.{format-ends, format-refused}
+use Rattle.damage.specs.Run.{failedIn}
+use Rattle.recovery_stored.specs.Stored.{Stored}
+use Rattle.recovery_stored.specs.Knows.{Knows}
+use Rattle.recovery_stored.proofs.StoredLaws.{acknowledged-stored}
+use Rattle.recovery_stored.proofs.KnowsLaws.{mounted-knows}
+use Rattle.recovery.specs.Calls.{Lent, settingOf, formatOn, begun}
+use Rattle.recovery_proof.specs.Invariant.{Inv}
+use Rattle.recovery_proof.proofs.InvariantLaws.{sizes-fit, up-inv}
+
+module _ (g : Geometry) (a : Lent) (d : Device) (st : State) (mask-bytes : Bytes (a .mask)) (z : formatOn g a d st .answer ≡ 0) where
+  abbrev s : Setting
+  s = settingOf g a
+
+  abbrev r : Result
+  r = formatOn g a d st
+
+  fits : sizedFor s d ≡ true
+  fits = cases (sizedFor s d) (λ t. t) (λ f. absurd (omega (arith, z, format-refused s d (a .allowed) st f)))
+
+  ends : Formatting s d (a .allowed) r
+  ends = format-ends s d (a .allowed) mask-bytes fits st
+
+  done : Acknowledged s r
+  done = ends .acknowledged z
+
+  f : Formatted g (r .chip .array) (r .state)
+  f = done .formatted
+
+  stored : Stored g (r .chip .array)
+  stored = acknowledged-stored s r done
+
+  knows : Knows g (r .chip .array) (r .state)
+  knows =
+      subst (Knows g (r .chip .array)) (sym (f .state-is))
+      (mounted-knows g (stored .is-valid) (r .chip .array) (stored .array-long) (f .mounts))
+
+  failed-listed : (b : ℕ) → b < g .blocks → failedIn b (formatRun s d (a .allowed) .progress .started) ≡ true → bitAt (r .state .invalid) b ≡ true
+  failed-listed b h e = sym (f .lists-are b h) ∙ sym (ends .lists-failed z b h) ∙ e
+
+  pub start-inv : Inv g (begun g a d st)
+  unfolding begun
+  start-inv =
+      up-inv g (begun g a d st) (sizes-fit s (r .chip) (done .still-sized)) (ends .marks-same z)
+      (record {
+        agrees = record { stored = stored; knows = knows; reads = λ l p h k. f .reads-blank l p; failed-listed = failed-listed };
+        ready = done .still-ready;
+        quiet = refl;
+      })

@@ -1,0 +1,118 @@
+-- After every list on a chip of bytes each write and erase that is not refused ends as on any chip. Assumes nothing.
+use Prim.Native.Nat.{ℕ, _≤_}
+use mathlib.Core.Bool.{true, false}
+use mathlib.Core.List.{List, [], _∷_}
+use mathlib.Core.Path.{_≡_, refl, sym, ap, subst, _∙_}
+use native.Mathlib.Omega.{arith}
+use borrow.Table.Steps.{cases}
+use lib.Dec.{eqb}
+use lib.ListN.{length}
+use Rattle.geometry.specs.declared.Geometry.{Geometry}
+use Rattle.cells.specs.Bytes.{Bytes}
+use Rattle.chip_array.specs.Device.{Device, Setting}
+use Rattle.chip.specs.Chip.{Cycle}
+use Rattle.chip_laws.proofs.ByteLaws.{run-bytes}
+use Rattle.bus.specs.Line.{run}
+use Rattle.state.specs.State.{mounted}
+use Rattle.state.specs.declared.State.{State}
+use Rattle.request.specs.Call.{Result, result, callLine, sizedFor}
+use Rattle.request_refusals.specs.Refusals.{refusalOf}
+use Rattle.request_refusals.proofs.RefusalLaws.{accepts}
+use Rattle.mount.specs.Mount.{mounting}
+use Rattle.mount_laws.proofs.MountingLaws.{mount-ends}
+use Rattle.mount_laws.proofs.StateLaws.{map-long}
+use Rattle.format_laws.proofs.FormattingLaws.{format-ends, format-refused}
+use Rattle.request_laws.proofs.UnreadyLaws.{read-array-kept}
+use Rattle.write_changes.specs.Changes.{Update, writeUpdate, eraseUpdate, changing, writing, eraseRefusal, erasingLogical}
+use Rattle.write_laws.specs.Changing.{InRange}
+use Rattle.write_laws.proofs.ChangingLaws.{write-ends, erase-ends}
+use Rattle.recovery_stored.proofs.KnowsLaws.{knows-bits}
+use Rattle.recovery.specs.Calls.{Lent, Call, toMount, toRead, toWrite, toErase, Typed, AllTyped, Store, settingOf, formatOn, afterMount, step, after, begun}
+use Rattle.recovery_proof.specs.Invariant.{Up, Inv}
+use Rattle.recovery_proof.specs.Told.{AlwaysOfBytes, WritesTold, ErasesTold}
+use Rattle.recovery_proof.proofs.InvariantLaws.{is-up}
+use Rattle.recovery_proof.proofs.SizeLaws.{change-leads}
+use Rattle.recovery_proof.proofs.RecoveryLaws.{always}
+
+mount-unchanged : (s : Setting) (d : Device) (n : ℕ) (st : State) → sizedFor s d ≡ false → mounting s d n st ≡ result 1 st d 0
+unfolding mounting
+mount-unchanged s d n st f = rw f
+
+-- the array stays bytes: mounts and reads leave it, the cycles of other requests change it as programs and erases do
+module _ (s : Setting) (d : Device) (n : ℕ) (st : State) (h : Bytes (d .array)) where
+  mount-bytes : Bytes (mounting s d n st .chip .array)
+  mount-bytes =
+      cases (sizedFor s d)
+      (λ t. subst Bytes (sym (mount-ends s d n t st .same-array)) h)
+      (λ f. subst (λ (x : Device). Bytes (x .array)) (sym (unchanged f)) h)
+    where
+      unchanged : sizedFor s d ≡ false → mounting s d n st .chip ≡ d
+      unchanged f = ap (λ (x : Result). x .chip) (mount-unchanged s d n st f)
+
+  module _ (mask-bytes : Bytes (s .mask)) where
+    run-kept : (cs : List Cycle) (e : Device) → run s (callLine d n .chip) cs ≡ e → Bytes (e .array)
+    run-kept cs e leads = subst (λ (x : Device). Bytes (x .array)) leads (run-bytes s mask-bytes (callLine d n .chip) cs h)
+
+    change-bytes : (u : Update) → Bytes (changing s d n st u .chip .array)
+    change-bytes u = run-kept _ _ (change-leads s d n st u)
+
+    write-bytes : (logical page : ℕ) (bytes : List ℕ) → Bytes (writing s d n st logical page bytes .chip .array)
+    unfolding writing
+    write-bytes logical page bytes =
+        cases (eqb (refusalOf s d st logical page bytes) 0) (λ t. rw t (change-bytes (writeUpdate st logical page bytes))) (λ f. rw f h)
+
+    erase-bytes : (logical : ℕ) → Bytes (erasingLogical s d n st logical .chip .array)
+    unfolding erasingLogical
+    erase-bytes logical = cases (eqb (eraseRefusal s d st logical) 0) (λ t. rw t (change-bytes (eraseUpdate logical))) (λ f. rw f h)
+
+step-bytes : (g : Geometry) (c : Call) → Typed c → (y : Store) → Bytes (y .chip .array) → Bytes (step g c y .chip .array)
+unfolding step afterMount
+step-bytes g (toMount a) t y h = mount-bytes (settingOf g a) (y .chip) (a .allowed) (y .state) h
+step-bytes g (toRead a logical page buffer) t y h =
+    subst Bytes (sym (read-array-kept (settingOf g a) (y .chip) (y .state) logical page buffer (a .allowed) .same-array)) h
+step-bytes g (toWrite a logical page bytes) t y h = write-bytes (settingOf g a) (y .chip) (a .allowed) (y .state) h (t .0) logical page bytes
+step-bytes g (toErase a logical) t y h = erase-bytes (settingOf g a) (y .chip) (a .allowed) (y .state) h t logical
+
+after-bytes : (g : Geometry) (cs : List Call) → AllTyped cs → (y : Store) → Bytes (y .chip .array) → Bytes (after g cs y .chip .array)
+unfolding after AllTyped
+after-bytes g [] t y h = h
+after-bytes g (c ∷ cs) t y h = after-bytes g cs (t .1) (step g c y) (step-bytes g c (t .0) y h)
+
+begun-bytes : (g : Geometry) (a : Lent) (d : Device) (st : State) → Bytes (a .mask) → Bytes (d .array) → formatOn g a d st .answer ≡ 0 → Bytes (begun g a d st .chip .array)
+unfolding begun
+begun-bytes g a d st mask-bytes h z =
+    let s = settingOf g a in
+    let t : sizedFor s d ≡ true = cases (sizedFor s d) (λ t. t) (λ f. absurd (omega (arith, z, format-refused s d (a .allowed) st f))) in
+    run-kept s d (a .allowed) st h mask-bytes _ _ (format-ends s d (a .allowed) mask-bytes t st .replayed .leads)
+
+-- a mounted store is as the types of the code have it
+ranged : (g : Geometry) (y : Store) → Up g y → Bytes (y .chip .array) → (a : Lent) → Bytes (a .mask) → InRange (settingOf g a) (y .chip) (y .state)
+ranged g y u h a mask-bytes =
+    let bits = knows-bits g (y .chip .array) (y .state) (u .agrees .stored) (u .agrees .knows) in
+    record {
+      array-bytes = h;
+      mask-bytes = mask-bytes;
+      invalid-long = bits .long;
+      invalid-bytes = bits .bytes;
+      map-long = ap length (u .agrees .knows .map-is) ∙ map-long g (y .chip .array) (y .state .table);
+    }
+
+of-bytes : (P : Geometry → Store → Type 0) → ((g : Geometry) (y : Store) → Inv g y → Bytes (y .chip .array) → P g y) → AlwaysOfBytes P
+of-bytes P f g a d st mask-bytes h z cs t =
+    f g (after g cs (begun g a d st)) (always g a d st mask-bytes z cs t) (after-bytes g cs t (begun g a d st) (begun-bytes g a d st mask-bytes h z))
+
+pub writes-told : AlwaysOfBytes WritesTold
+writes-told =
+    of-bytes WritesTold
+    (λ g y i h a logical page bytes m b z.
+    let s = settingOf g a in
+    let u = is-up g y i (accepts g (sizedFor s (y .chip)) (y .state) logical page (length bytes) z .is-mounted) in
+    write-ends s (y .chip) (a .allowed) (y .state) (ranged g y u h a m) (u .ready) logical page bytes z b)
+
+pub erases-told : AlwaysOfBytes ErasesTold
+erases-told =
+    of-bytes ErasesTold
+    (λ g y i h a logical m z.
+    let s = settingOf g a in
+    let u = is-up g y i (accepts g (sizedFor s (y .chip)) (y .state) logical 0 (g .main) z .is-mounted) in
+    erase-ends s (y .chip) (a .allowed) (y .state) (ranged g y u h a m) (u .ready) logical z)

@@ -1,0 +1,52 @@
+-- How a further call is answered after a list.
+use Prim.Native.Nat.{ℕ, _<_}
+use mathlib.Core.List.{List}
+use mathlib.Core.Path.{_≡_}
+use lib.ListN.{length}
+use Rattle.geometry.specs.declared.Geometry.{Geometry}
+use Rattle.geometry.specs.Sizes.{blockSize}
+use Rattle.cells.specs.Bytes.{Bytes}
+use Rattle.request.specs.Call.{Result}
+use Rattle.mount_laws.specs.Mounting.{mountMost}
+use Rattle.damage.specs.Run.{Slow}
+use Rattle.request_laws.specs.Reads.{ReadAnswer}
+use Rattle.recovery.specs.Calls.{Lent, Store, mountOn, readOf, writeOn, eraseOf}
+
+-- a mount whose mask is as long as a block is not answered 1
+abbrev pub RightlyCalled : Geometry → Store → Type 0
+RightlyCalled g y = (a : Lent) → length (a .mask) ≡ blockSize g → mountOn g a y .answer ≡ 1 → ⊥
+
+-- with no slow fate word and an allowance above the most that a mount sends it is answered 0
+abbrev pub ComesBack : Geometry → Store → Type 0
+ComesBack g y =
+    (a : Lent) → length (a .mask) ≡ blockSize g → (Slow (a .fates) → ⊥) → mountMost g < a .allowed → mountOn g a y .answer ≡ 0
+
+-- a read has no other answer than on a chip that is ready, so never 255
+abbrev pub ReadsAnswered : Geometry → Store → Type 0
+ReadsAnswered g y =
+    (a : Lent) (logical page : ℕ) (buffer : List ℕ) → ReadAnswer (readOf g a logical page buffer y .returned .answer)
+
+-- the answers of a write or an erase, refusals included
+pub data AnyChangeAnswer : ℕ → Type 0 where
+  is-done : AnyChangeAnswer 0
+  is-geometry : AnyChangeAnswer 1
+  is-address : AnyChangeAnswer 2
+  is-length : AnyChangeAnswer 3
+  is-unmounted : AnyChangeAnswer 7
+  is-worn : AnyChangeAnswer 8
+  is-spent : AnyChangeAnswer 9
+  is-silent : AnyChangeAnswer 10
+  is-cut : AnyChangeAnswer 11
+
+-- no other comes; it is silent only where a fate word is slow, and cut only where all cycles allowed were sent
+pub record ChangeAnswered (a : Lent) (r : Result) : Type 0 where
+  pub answers : AnyChangeAnswer (r .answer)
+  pub silent-by : r .answer ≡ 10 → Slow (a .fates)
+  pub cut-at : r .answer ≡ 11 → r .sent ≡ a .allowed
+
+abbrev pub WritesAnswered : Geometry → Store → Type 0
+WritesAnswered g y =
+    (a : Lent) (logical page : ℕ) (bytes : List ℕ) → Bytes (a .mask) → Bytes bytes → ChangeAnswered a (writeOn g a logical page bytes y)
+
+abbrev pub ErasesAnswered : Geometry → Store → Type 0
+ErasesAnswered g y = (a : Lent) (logical : ℕ) → Bytes (a .mask) → ChangeAnswered a (eraseOf g a logical y)

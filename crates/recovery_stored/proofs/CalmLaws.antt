@@ -1,0 +1,266 @@
+-- What stays as it was where one block was filled and nothing new is complete. Assumes nothing.
+use Prim.Native.Nat.{ℕ, _+_, _<_}
+use mathlib.Core.Bool.{Bool, true, false, cond}
+use mathlib.Core.List.{List}
+use mathlib.Core.Path.{_≡_, refl, sym, ap, subst, _∙_}
+use native.Mathlib.Omega.{arith}
+use borrow.Table.Steps.{cases}
+use borrow.Author.Tests.{eqb-true, eqb-false, not-true}
+use lib.Dec.{eqb}
+use Rattle.geometry.specs.declared.Geometry.{Geometry}
+use Rattle.geometry.specs.Limits.{Valid}
+use Rattle.bools.proofs.BoolLaws.{both, clash}
+use Rattle.copies.specs.Blocks.{blockIn, pageIn, mainIn, labelIn, isMarked, isComplete, isTable, isData, isCopyOf}
+use Rattle.copies.specs.Pick.{Pick, nothing, at, pick, Best, Picked}
+use Rattle.copies.specs.Table.{bitmapOf, lists, rightTable}
+use Rattle.copies.specs.Current as current
+use Rattle.copies.specs.Current.{currentTable, currentCopy, numberAt, counts, unlisted, reading}
+use Rattle.copies.proofs.PickLaws.{pick-is, picked-is, pick-fewer, pick-same}
+use Rattle.damage.proofs.CompleteLaws.{SamePages, complete-pages, table-complete, data-complete, copy-data, number-same, label-same, complete-same, table-same, data-same, copy-same}
+use Rattle.mount_laws.proofs.StateLaws.{Right, right-at, right-parts, mounts-by, clear-picked, picked-clear}
+use Rattle.recovery_stored.specs.Stored.{Left, Stored}
+use Rattle.recovery_stored.specs.After.{After, Below, Free, MarksSame, Calm}
+use Rattle.recovery_stored.proofs.StoredLaws.{same-at}
+use Rattle.recovery_stored.proofs.ApartLaws.{Apart, clash-apart, apart-clash}
+
+-- fewer blocks pass, with the numbers they had, and the picked one still does
+pub pick-less : (test fewer : ℕ → Bool) (number count : ℕ → ℕ) (n : ℕ) → ((k : ℕ) → k < n → fewer k ≡ true → (test k ≡ true) × (count k ≡ number k))
+    → ((m : ℕ) → pick test number n ≡ at m → fewer m ≡ true) → pick fewer count n ≡ pick test number n
+pick-less test fewer number count n within still =
+    pick-same fewer fewer count number n (λ k h. refl) (λ k h t. within k h t .1) ∙ pick-fewer test fewer number n (λ k h t. within k h t .0) still
+
+-- the picked block is the best
+pub picked-best : (test : ℕ → Bool) (number : ℕ → ℕ) (n m : ℕ) → pick test number n ≡ at m → Best test number n m
+picked-best test number n m e = subst (Picked test number n) e (pick-is test number n)
+
+module _ (g : Geometry) (before after : List ℕ) (t b : ℕ) (y : ℕ → List ℕ) (s : Stored g before) (e : currentTable g before ≡ at t) (f : Free g before t b) (r : After g before after b y) where
+  abbrev old : ℕ → List ℕ
+  old c = blockIn g before c
+
+  abbrev new : ℕ → List ℕ
+  new c = blockIn g after c
+
+  v : Valid g
+  v = s .is-valid
+
+  found : Right g before t
+  found = right-at g before t e (s .mounts)
+
+  pub apart : Apart g before t
+  apart = clash-apart g before t (found .unclashed)
+
+  pub pages-kept : (c : ℕ) → c < g .blocks → (c ≡ b → ⊥) → SamePages g (new c) (old c)
+  pages-kept c h x = λ i k. ap (λ (z : List ℕ). pageIn g z i) (r .others c h x)
+
+  pub table-row : new t ≡ old t
+  table-row = r .others t (found .below) (λ x. f .off-table (sym x))
+
+  pub marks : MarksSame g before after
+  marks c h =
+      cases (eqb c b)
+      (λ q. let at-b = eqb-true c b q in ap (λ (k : ℕ). isMarked g (new k)) at-b ∙ r .unmarked ∙ sym (ap (λ (k : ℕ). isMarked g (old k)) at-b ∙ f .unmarked))
+      (λ q. ap (isMarked g) (r .others c h (eqb-false c b q)))
+
+  -- numbers: those of the other blocks, and of all where block b bears the next one
+  lower : (n : ℕ) → Below g before n → (c : ℕ) → c < g .blocks → (c ≡ b → ⊥) → isComplete g (new c) ≡ true → numberAt g after c < n
+  lower n low c h x w =
+      let p = pages-kept c h x in
+      omega (arith, low c h (sym (complete-same g v (new c) (old c) p) ∙ w), number-same g v (new c) (old c) p)
+
+  module _ (n : ℕ) (low : Below g before n) (is-n : numberAt g after b ≡ n) where
+    pub below-new : Below g after (n + 1)
+    below-new c h w =
+        cases (eqb c b)
+        (λ q. omega (arith, ap (numberAt g after) (eqb-true c b q), is-n))
+        (λ q. omega (arith, lower n low c h (eqb-false c b q) w))
+
+    -- it is picked wherever it passes
+    pub best-new : (test : ℕ → Bool) → ((c : ℕ) → c < g .blocks → test c ≡ true → isComplete g (new c) ≡ true) → test b ≡ true → pick test (numberAt g after) (g .blocks) ≡ at b
+    best-new test complete passes =
+        sym (picked-is test (numberAt g after) (g .blocks) (at b)
+        (record {
+          below = f .below;
+          passes = passes;
+          greatest = λ c h w. omega (arith, below-new c h (complete c h w), is-n);
+          lowest = λ c h w.
+              let below : c < g .blocks = omega (arith, h, f .below) in
+              omega (arith, lower n low c below (λ q. omega (arith, q, h)) (complete c below w), is-n);
+        }))
+
+  -- the table, where no other block has become one
+  pub table-stays : ((c : ℕ) → c < g .blocks → isTable g (new c) ≡ true → SamePages g (new c) (old c)) → currentTable g after ≡ at t
+  unfolding currentTable
+  table-stays kept =
+      pick-less (λ c. isTable g (old c)) (λ c. isTable g (new c)) (numberAt g before) (numberAt g after) (g .blocks)
+      (λ c h u. (sym (table-same g v (new c) (old c) (kept c h u)) ∙ u, number-same g v (new c) (old c) (kept c h u)))
+      (λ m q. subst (λ (k : ℕ). isTable g (new k) ≡ true) (same-at (sym e ∙ q)) (ap (isTable g) table-row ∙ found .is-table))
+      ∙ e
+
+  -- under a table that lists as many blocks or more
+  module _ (u : ℕ) (more : (c : ℕ) → c < g .blocks → lists g (new u) c ≡ false → lists g (old t) c ≡ false) where
+    copy-test : (l c : ℕ) → c < g .blocks → cond (unlisted g after u c) (isCopyOf g l (new c)) false ≡ true → SamePages g (new c) (old c) → cond (unlisted g before t c) (isCopyOf g l (old c)) false ≡ true
+    copy-test l c h w p =
+        let parts = both (unlisted g after u c) (isCopyOf g l (new c)) w in
+        rw (more c h (not-true (lists g (new u) c) (parts .0)), ← copy-same g v (new c) (old c) p l) (parts .1)
+
+    -- the copies of a logical block that has no new one, if the current one is not listed
+    pub copy-stays : (l : ℕ) → l < g .logical → ((c : ℕ) → c < g .blocks → isCopyOf g l (new c) ≡ true → SamePages g (new c) (old c))
+        → ((c : ℕ) → c < g .blocks → currentCopy g before t l ≡ at c → lists g (new u) c ≡ false) → currentCopy g after u l ≡ currentCopy g before t l
+    unfolding currentCopy
+    copy-stays l low kept clear =
+        let test : ℕ → Bool = λ c. cond (unlisted g before t c) (isCopyOf g l (old c)) false in
+        pick-less (λ c. cond (unlisted g before t c) (isCopyOf g l (old c)) false) (λ c. cond (unlisted g after u c) (isCopyOf g l (new c)) false) (numberAt g before) (numberAt g after) (g .blocks)
+        (λ c h w.
+        let p = kept c h (both (unlisted g after u c) (isCopyOf g l (new c)) w .1) in
+        (copy-test l c h w p, number-same g v (new c) (old c) p))
+        (λ m q.
+        let best = picked-best test (numberAt g before) (g .blocks) m q in
+        let row : new m ≡ old m = r .others m (best .below) (λ x. f .off-copies l low (q ∙ ap at x)) in
+        rw (clear m (best .below) q, row) (both (unlisted g before t m) (isCopyOf g l (old m)) (best .passes) .1))
+
+    counts-old : (c : ℕ) → c < g .blocks → SamePages g (new c) (old c) → counts g after u c ≡ true → counts g before t c ≡ true
+    counts-old c h p w =
+        let parts = both (unlisted g after u c) (isComplete g (new c)) w in
+        rw (more c h (not-true (lists g (new u) c) (parts .0)), ← complete-same g v (new c) (old c) p) (parts .1)
+
+    logical-old : (c : ℕ) → c < g .blocks → SamePages g (new c) (old c) → counts g after u c ≡ true → isData g (new c) ≡ true → labelIn g (new c) 0 .logical < g .logical
+    logical-old c h p w d =
+        rw (label-same g v (new c) (old c) p) (apart .logical-below c h (counts-old c h p w) (sym (data-same g v (new c) (old c) p) ∙ d))
+
+    differ-old : (c d : ℕ) → c < g .blocks → d < c → SamePages g (new c) (old c) → SamePages g (new d) (old d) → counts g after u c ≡ true → counts g after u d ≡ true → numberAt g after d ≡ numberAt g after c → ⊥
+    differ-old c d h k p q w z x =
+        apart .numbers-differ c d h k (counts-old c h p w) (counts-old d (omega (arith, h, k)) q z)
+        (sym (number-same g v (new d) (old d) q) ∙ x ∙ number-same g v (new c) (old c) p)
+
+    -- no clash: where all that counts did before, and where block b bears a number above those of the others
+    pub apart-kept : ((c : ℕ) → c < g .blocks → isComplete g (new c) ≡ true → SamePages g (new c) (old c)) → Apart g after u
+    apart-kept kept =
+        let same : (c : ℕ) → c < g .blocks → counts g after u c ≡ true → SamePages g (new c) (old c) =
+        λ c h w. kept c h (both (unlisted g after u c) (isComplete g (new c)) w .1) in
+        record {
+          logical-below = λ c h w. logical-old c h (same c h w) w;
+          numbers-differ = λ c d h k w z. differ-old c d h k (same c h w) (same d (omega (arith, h, k)) z) w z;
+        }
+
+    pub apart-new : (n : ℕ) → Below g before n → numberAt g after b ≡ n → (isData g (new b) ≡ true → labelIn g (new b) 0 .logical < g .logical) → Apart g after u
+    apart-new n low is-n fits =
+        let other : (c : ℕ) → c < g .blocks → (c ≡ b → ⊥) → counts g after u c ≡ true → numberAt g after c ≡ numberAt g after b → ⊥ =
+        λ c h x w q. omega (arith, lower n low c h x (both (unlisted g after u c) (isComplete g (new c)) w .1), q, is-n) in
+        record {
+          logical-below = λ c h w d.
+              cases (eqb c b)
+              (λ q. subst (λ (k : ℕ). labelIn g (new k) 0 .logical < g .logical) (sym (eqb-true c b q)) (fits (subst (λ (k : ℕ). isData g (new k) ≡ true) (eqb-true c b q) d)))
+              (λ q. logical-old c h (pages-kept c h (eqb-false c b q)) w d);
+          numbers-differ = λ c d h k w z x.
+              let hd : d < g .blocks = omega (arith, h, k) in
+              cases (eqb c b)
+              (λ q. let at-b = eqb-true c b q in other d hd (λ i. omega (arith, i, at-b, k)) z (x ∙ ap (numberAt g after) at-b))
+              (λ q.
+              cases (eqb d b)
+              (λ o. let at-b = eqb-true d b o in other c h (eqb-false c b q) w (sym x ∙ ap (numberAt g after) at-b))
+              (λ o. differ-old c d h k (pages-kept c h (eqb-false c b q)) (pages-kept d hd (eqb-false d b o)) w z x));
+        }
+
+    -- what is left of every block, once this table is current
+    pub stored-by : currentTable g after ≡ at u → rightTable g (λ c. isMarked g (new c)) (new u) ≡ true → lists g (new u) u ≡ false → Apart g after u → Stored g after
+    stored-by is-u right own a =
+        record {
+          is-valid = v;
+          array-long = r .long;
+          mounts = mounts-by g after u is-u right own (apart-clash g after u a);
+          left = λ k c i q h j m l.
+              let free : lists g (new u) c ≡ false = ap (λ (z : ℕ). lists g (new z) c) (same-at (sym is-u ∙ q)) ∙ l in
+              cases (eqb c b)
+              (λ o. subst (λ (z : ℕ). Left g (pageIn g (new z) i)) (sym (eqb-true c b o)) (r .left i j))
+              (λ o.
+              subst (λ (z : List ℕ). Left g (pageIn g z i)) (sym (r .others c h (eqb-false c b o)))
+              (s .left t c i e h j (sym (marks c h) ∙ m) (more c h free)));
+        }
+
+  -- a page of the picked block, which is not b
+  page-stays : (p : ℕ) (o : Pick) → ((c : ℕ) → o ≡ at c → (c < g .blocks) × (c ≡ b → ⊥)) → current.pageOf g after p o ≡ current.pageOf g before p o
+  unfolding current.pageOf
+  page-stays p nothing there = refl
+  page-stays p (at c) there = ap (λ (z : List ℕ). mainIn g z p) (r .others c (there c refl .0) (there c refl .1))
+
+  -- readings of a logical block whose current copy stays
+  pub reads-stay : (u l p : ℕ) → l < g .logical → currentCopy g after u l ≡ currentCopy g before t l → reading g after u l p ≡ reading g before t l p
+  unfolding currentCopy
+  reads-stay u l p low q =
+      ap (current.pageOf g after p) q
+      ∙ page-stays p (currentCopy g before t l)
+      (λ c o. (picked-best (λ k. cond (unlisted g before t k) (isCopyOf g l (old k)) false) (numberAt g before) (g .blocks) c o .below, λ x. f .off-copies l low (o ∙ ap at x)))
+
+  -- under the same table
+  pub lists-old : (c : ℕ) → c < g .blocks → lists g (new t) c ≡ false → lists g (old t) c ≡ false
+  lists-old c h l = sym (ap (λ (z : List ℕ). lists g z c) table-row) ∙ l
+
+  pub copy-free : (l c : ℕ) → c < g .blocks → currentCopy g before t l ≡ at c → lists g (new t) c ≡ false
+  unfolding currentCopy
+  copy-free l c h q =
+      let best = picked-best (λ k. cond (unlisted g before t k) (isCopyOf g l (old k)) false) (numberAt g before) (g .blocks) c q in
+      ap (λ (z : List ℕ). lists g z c) table-row ∙ not-true (lists g (old t) c) (both (unlisted g before t c) (isCopyOf g l (old c)) (best .passes) .0)
+
+  table-right : rightTable g (λ c. isMarked g (new c)) (new t) ≡ true
+  unfolding rightTable
+  table-right =
+      let parts = right-parts g v before (s .array-long) t found in
+      rw (table-row, parts .0)
+      (picked-clear (λ c. isMarked g (new c)) (bitmapOf (g .blocks) (mainIn g (old t) 0)) (g .blocks)
+      (λ c h m. clear-picked (λ k. isMarked g (old k)) (bitmapOf (g .blocks) (mainIn g (old t) 0)) (g .blocks) (parts .1) c h (sym (marks c h) ∙ m)))
+
+  pub stored-same : currentTable g after ≡ at t → Apart g after t → Stored g after
+  stored-same is-t a = stored-by t lists-old is-t table-right (ap (λ (z : List ℕ). lists g z t) table-row ∙ found .own) a
+
+  -- block b is complete only if its pages are as they were
+  module _ (kept : isComplete g (new b) ≡ true → (i : ℕ) → i < g .pages → pageIn g (new b) i ≡ pageIn g (old b) i) where
+    all-kept : (c : ℕ) → c < g .blocks → isComplete g (new c) ≡ true → SamePages g (new c) (old c)
+    all-kept c h w =
+        cases (eqb c b)
+        (λ q. subst (λ (k : ℕ). SamePages g (new k) (old k)) (sym (eqb-true c b q)) (kept (subst (λ (k : ℕ). isComplete g (new k) ≡ true) (eqb-true c b q) w)))
+        (λ q. pages-kept c h (eqb-false c b q))
+
+    table-is : currentTable g after ≡ at t
+    table-is = table-stays (λ c h w. all-kept c h (table-complete g (new c) w))
+
+    copies-are : (l : ℕ) → l < g .logical → currentCopy g after t l ≡ currentCopy g before t l
+    copies-are l low =
+        copy-stays t lists-old l low (λ c h w. all-kept c h (data-complete g (new c) (copy-data g l (new c) w .0))) (copy-free l)
+
+    pub near-calm : Calm g before after t
+    near-calm =
+        record {
+          stored = stored-same table-is (apart-kept t lists-old all-kept);
+          marks = marks;
+          table-is = table-is;
+          table-same = table-row;
+          copies = copies-are;
+          reads = λ l p low h. reads-stay t l p low (copies-are l low);
+        }
+
+    pub below-calm : (n : ℕ) → Below g before n → Below g after n
+    below-calm n low c h w =
+        let p = all-kept c h w in
+        omega (arith, low c h (sym (complete-same g v (new c) (old c) p) ∙ w), number-same g v (new c) (old c) p)
+
+-- block b is as it was, or erased in part
+module _ (g : Geometry) (before after : List ℕ) (t b : ℕ) where
+  abbrev own : ℕ → List ℕ
+  own i = pageIn g (blockIn g before b) i
+
+  own-pages : After g before after b own → isComplete g (blockIn g after b) ≡ true → (i : ℕ) → i < g .pages → pageIn g (blockIn g after b) i ≡ own i
+  own-pages r w i h = r .only i h (complete-pages g (blockIn g after b) w .is-whole i h)
+
+  pub old-calm : Stored g before → currentTable g before ≡ at t → Free g before t b → After g before after b own → Calm g before after t
+  old-calm s e f r = near-calm g before after t b own s e f r (own-pages r)
+
+  pub old-below : (n : ℕ) → Stored g before → currentTable g before ≡ at t → Free g before t b → After g before after b own → Below g before n → Below g after n
+  old-below n s e f r = below-calm g before after t b own s e f r (own-pages r) n
+
+-- block b is not complete
+module _ (g : Geometry) (before after : List ℕ) (t b : ℕ) where
+  pub new-calm : (y : ℕ → List ℕ) → Stored g before → currentTable g before ≡ at t → Free g before t b → After g before after b y → isComplete g (blockIn g after b) ≡ false → Calm g before after t
+  new-calm y s e f r not = near-calm g before after t b y s e f r (λ w. clash w not)
+
+  pub new-below : (n : ℕ) (y : ℕ → List ℕ) → Stored g before → currentTable g before ≡ at t → Free g before t b → After g before after b y → isComplete g (blockIn g after b) ≡ false → Below g before n → Below g after n
+  new-below n y s e f r not = below-calm g before after t b y s e f r (λ w. clash w not) n

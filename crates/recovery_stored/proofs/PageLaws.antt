@@ -1,0 +1,67 @@
+-- Pages that this store can leave: a partial erase keeps them so, and makes none of them whole. Assumes nothing.
+use Prim.Native.Nat.{ℕ, zero, suc, _*_}
+use mathlib.Core.Bool.{true}
+use mathlib.Core.List.{List, [], _∷_}
+use mathlib.Core.Path.{_≡_, refl, sym, ap, subst, _∙_}
+use native.Mathlib.Omega.{arith}
+use lib.Bits.{bitOr}
+use lib.ListN.{getD, take, drop}
+use Rattle.geometry.specs.declared.Geometry.{Geometry}
+use Rattle.geometry.specs.Sizes.{pageSize}
+use Rattle.cells.specs.Bytes.{Bytes}
+use Rattle.cells.specs.Cells.{raised}
+use Rattle.pages.specs.Check.{zeroBits}
+use Rattle.pages.specs.Layout.{whole}
+use Rattle.pages.specs.Over.{Over}
+use Rattle.pages.proofs.OverLaws.{over-refl, over-bytes-to, zeroBits-over, zeroBits-same, raised-over}
+use Rattle.pages.proofs.LayoutLaws.{whole-over-any}
+use Rattle.copies.specs.Blocks.{pageIn}
+use Rattle.recovery_stored.specs.Stored.{Left}
+
+-- two pages, each with bits raised over the other, are the same
+pub over-both : {xs ys : List ℕ} → Over xs ys → Over ys xs → ys ≡ xs
+over-both {xs} {ys} o q =
+    let same : zeroBits ys ≡ zeroBits xs = omega (arith, zeroBits-over o, zeroBits-over q) in
+    zeroBits-same o same
+
+-- a page of a block that was erased in part is its page, erased in part
+pub take-raised : (n : ℕ) (xs ms : List ℕ) → take n (raised xs ms) ≡ raised (take n xs) ms
+unfolding raised
+take-raised zero xs ms = refl
+take-raised (suc n) [] ms = refl
+take-raised (suc n) (x ∷ xs) ms = ap (λ (l : List ℕ). bitOr x (getD ms 0 0) ∷ l) (take-raised n xs (drop 1 ms))
+
+drop-nil : (n : ℕ) → drop n (drop {A = ℕ} 1 []) ≡ []
+drop-nil zero = refl
+drop-nil (suc n) = refl
+
+drop-one : (n : ℕ) (ms : List ℕ) → drop n (drop 1 ms) ≡ drop (suc n) ms
+drop-one n [] = drop-nil n
+drop-one n (m ∷ ms) = refl
+
+pub drop-raised : (n : ℕ) (xs ms : List ℕ) → drop n (raised xs ms) ≡ raised (drop n xs) (drop n ms)
+unfolding raised
+drop-raised zero xs ms = refl
+drop-raised (suc n) [] ms = refl
+drop-raised (suc n) (x ∷ xs) ms = drop-raised n xs (drop 1 ms) ∙ ap (raised (drop n xs)) (drop-one n ms)
+
+pub page-raised : (g : Geometry) (row ms : List ℕ) (i : ℕ) → pageIn g (raised row ms) i ≡ raised (pageIn g row i) (drop (i * pageSize g) ms)
+page-raised g row ms i =
+    ap (take (pageSize g)) (drop-raised (i * pageSize g) row ms) ∙ take-raised (pageSize g) (drop (i * pageSize g) row) (drop (i * pageSize g) ms)
+
+module _ (g : Geometry) (x ms : List ℕ) (l : Left g x) (bytes : Bytes ms) where
+  -- with more bits raised it is still such a page
+  pub left-raised : Left g (raised x ms)
+  left-raised = record { page = l .page; is-whole = l .is-whole; is-over = raised-over ms (l .is-over) bytes }
+
+  -- and whole only if no bit was raised
+  pub whole-kept : whole (g .main) (raised x ms) ≡ true → raised x ms ≡ x
+  whole-kept t =
+      let up = raised-over ms (over-refl x (over-bytes-to (l .is-over))) bytes in
+      let back : raised x ms ≡ l .page = whole-over-any (g .main) (raised-over ms (l .is-over) bytes) (l .is-whole) t in
+      let down : Over (raised x ms) x = subst (λ (y : List ℕ). Over y x) (sym back) (l .is-over) in
+      over-both up down
+
+-- a page that is whole is the one it was meant to be
+pub left-whole : (g : Geometry) (x : List ℕ) (l : Left g x) → whole (g .main) x ≡ true → x ≡ l .page
+left-whole g x l t = whole-over-any (g .main) (l .is-over) (l .is-whole) t

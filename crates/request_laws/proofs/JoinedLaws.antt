@@ -1,0 +1,96 @@
+-- A read after a mount or a formatting that was answered 0. Assumes nothing.
+use Prim.Native.Nat.{ℕ, _≤_}
+use mathlib.Core.Bool.{true}
+use mathlib.Core.List.{List}
+use mathlib.Core.Path.{_≡_, refl, sym, ap, subst, _∙_}
+use native.Mathlib.Omega.{arith}
+use borrow.Table.Steps.{cases}
+use borrow.Author.Tests.{eq-eqb}
+use lib.ListN.{length, replicate}
+use Rattle.geometry.specs.declared.Geometry.{Geometry}
+use Rattle.geometry.specs.Sizes.{blockSize}
+use Rattle.bools.proofs.BoolLaws.{both}
+use Rattle.cells.specs.Bytes.{Bytes}
+use Rattle.chip_array.specs.Device.{Device, Setting, setting, fitting}
+use Rattle.copies.specs.Current.{currentTable, mountAnswer, reading}
+use Rattle.copies.specs.Pick.{at}
+use Rattle.state.specs.State.{mounted}
+use Rattle.state.specs.declared.State.{State}
+use Rattle.scan_found.specs.Contents.{mapOf}
+use Rattle.request.specs.Call.{Result, sized, sizedFor}
+use Rattle.mount.specs.Mount.{mountedState, stateAfter, mounting}
+use Rattle.mount_laws.specs.Mounting.{Mounting}
+use Rattle.mount_laws.proofs.StateLaws.{right-table}
+use Rattle.mount_laws.proofs.MountingLaws.{mount-ends, mount-refused}
+use Rattle.format.specs.Format.{formatting}
+use Rattle.format_laws.proofs.FormattingLaws.{format-acknowledged}
+use Rattle.read.specs.Reading.{readingPage}
+use Rattle.request_laws.specs.Reads.{ReadsAs, Readable, MountRead}
+use Rattle.request_laws.proofs.PageReadLaws.{reads-as}
+
+-- a chip keeps its sizes under another mask of the right length
+sized-again : (s : Setting) (d : Device) (mask fates : List ℕ) → sizedFor s d ≡ true → length mask ≡ blockSize (s .geometry) → sizedFor (setting (s .geometry) mask fates) d ≡ true
+unfolding sized
+sized-again s d mask fates t e =
+    let fits = both (fitting (s .geometry) (length (d .array)) (length (d .register)) (length (d .history))) _ t .0 in
+    rw (fits, eq-eqb (length mask) (blockSize (s .geometry)) e)
+
+-- reads from a mounted state whose map is that of the array's current copies
+pub reads-after : (s : Setting) (r : Result) → mounted (r .state) (s .geometry .blocks) (s .geometry .logical) ≡ true → sizedFor s (r .chip) ≡ true → r .chip .interface .phase ≤ 2
+    → r .state .map ≡ mapOf (s .geometry) (r .chip .array) (r .state .table) → Readable (s .geometry) r (reading (s .geometry) (r .chip .array) (r .state .table))
+reads-after s r m t ready map-is mask fates n logical page buffer mask-long l p long =
+    reads-as (setting (s .geometry) mask fates) (r .chip) n (r .state) logical page buffer
+    (record { sizes-fit = sized-again s (r .chip) mask fates t mask-long; is-mounted = m; logical-below = l; page-below = p; buffer-long = long })
+    ready (r .state .table) map-is
+
+-- the map of a mounted state is that of the array
+map-of-state : (g : Geometry) (array : List ℕ) (st : State) → st ≡ mountedState g array → st .map ≡ mapOf g array (st .table)
+unfolding mountedState
+map-of-state g array st e = subst (λ (x : State). x .map ≡ mapOf g array (x .table)) (sym e) refl
+
+table-of-state : (g : Geometry) (array : List ℕ) (st : State) → st ≡ mountedState g array → mountAnswer g array ≡ 0 → currentTable g array ≡ at (st .table)
+unfolding mountedState
+table-of-state g array st e z = right-table g array z .is-current ∙ ap at (sym (ap (λ (x : State). x .table) e))
+
+module _ (s : Setting) (d : Device) (n : ℕ) (state : State) (z : mounting s d n state .answer ≡ 0) where
+  abbrev r : Result
+  r = mounting s d n state
+
+  sizes-fit : sizedFor s d ≡ true
+  sizes-fit = cases (sizedFor s d) (λ t. t) (λ f. absurd (omega (arith, z, mount-refused s d n state f)))
+
+  m : Mounting s d n r
+  m = mount-ends s d n sizes-fit state
+
+  not-ten : r .answer ≡ 10 → ⊥
+  not-ten e = omega (arith, e, z)
+
+  not-eleven : r .answer ≡ 11 → ⊥
+  not-eleven e = omega (arith, e, z)
+
+  answer-zero : mountAnswer (s .geometry) (d .array) ≡ 0
+  answer-zero = sym (m .answer-is not-ten not-eleven) ∙ z
+
+  state-is : r .state ≡ mountedState (s .geometry) (d .array)
+  unfolding stateAfter
+  state-is = m .state-is not-ten not-eleven ∙ rw (eq-eqb (mountAnswer (s .geometry) (d .array)) 0 answer-zero)
+
+  -- from the state and the chip of every mount answered 0, reads give what the array's definitions say
+  pub mount-then-read : MountRead (s .geometry) (d .array) r
+  mount-then-read =
+      record {
+        table-is = table-of-state (s .geometry) (d .array) (r .state) state-is answer-zero;
+        reads = subst (λ (a : List ℕ). Readable (s .geometry) r (reading (s .geometry) a (r .state .table))) (m .same-array)
+            (reads-after s r (m .counts-mounted z) (m .sizes-kept) (m .still-ready z)
+            (map-of-state (s .geometry) (d .array) (r .state) state-is ∙ ap (λ (a : List ℕ). mapOf (s .geometry) a (r .state .table)) (sym (m .same-array))));
+      }
+
+-- after every acknowledged formatting every logical page reads FFh
+pub format-then-read : (s : Setting) (d : Device) (n : ℕ) (state : State) → Bytes (s .mask) → formatting s d n state .answer ≡ 0
+    → Readable (s .geometry) (formatting s d n state) (λ logical page. replicate (s .geometry .main) 255)
+format-then-read s d n state mask-bytes z mask fates k logical page buffer mask-long l p long =
+    let r = formatting s d n state in
+    let a = format-acknowledged s d n state mask-bytes z in
+    let f = a .formatted in
+    subst (λ (bytes : List ℕ). ReadsAs (setting (s .geometry) mask fates) (r .chip) k (r .state) bytes (readingPage (setting (s .geometry) mask fates) (r .chip) k (r .state) logical page buffer)) (f .reads-blank logical page)
+    (reads-after s r (a .counts-mounted) (a .still-sized) (a .still-ready) (map-of-state (s .geometry) (r .chip .array) (r .state) (f .state-is)) mask fates k logical page buffer mask-long l p long)

@@ -1,0 +1,62 @@
+-- `scan_found::contents::note_copy` meets its contract. Assumes nothing.
+use mathlib.Core.Path.{sym, _∙_}
+use borrow.Author.Tests.{not-true, not-false}
+use Rattle.scan_found.specs.Contents.{copyNoted}
+use borrow.Author.Needs.{needs}
+use Rattle.scan_found.proofs.contents.note_copy.Statement.{statement}
+use Rattle.scan_found.proofs.contents.note_copy.Tie as tie
+
+is-complete-requires : tie.Need-is-complete-requires
+is-complete-requires c κs = search needs
+
+returns : tie.Need-returns
+unfolding copyNoted
+returns c = rw (sym (c .before .is-complete .ensures) ∙ not-true _ (c .if1 .taken))
+
+mul-kinds : tie.Need-mul-kinds
+mul-kinds c = search needs
+
+slice-write-kinds : tie.Need-slice-write-kinds
+slice-write-kinds c = search needs
+
+mul-logicals : tie.Need-mul-logicals
+mul-logicals c = search needs
+
+slice-write-logicals : tie.Need-slice-write-logicals
+slice-write-logicals c = search needs
+
+mul-numbers : tie.Need-mul-numbers
+mul-numbers c = search needs
+
+slice-write-numbers : tie.Need-slice-write-numbers
+slice-write-numbers c = search needs
+
+same-length : tie.Need-same-length
+same-length c = search needs
+
+same-length-2 : tie.Need-same-length-2
+same-length-2 c = search needs
+
+same-length-3 : tie.Need-same-length-3
+same-length-3 c = search needs
+
+returns-2 : tie.Need-returns-2
+unfolding copyNoted
+returns-2 c = rw (sym (c .before .is-complete .ensures) ∙ not-false _ (c .if1 .left))
+
+pub note-copy-spec : {M : Type 1} → statement M
+note-copy-spec =
+    tie.close
+    (tie.spec
+    is-complete-requires
+    returns
+    mul-kinds
+    slice-write-kinds
+    mul-logicals
+    slice-write-logicals
+    mul-numbers
+    slice-write-numbers
+    same-length
+    same-length-2
+    same-length-3
+    returns-2)

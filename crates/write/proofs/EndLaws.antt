@@ -1,0 +1,95 @@
+-- How the code ends a write and an erase, told by the definitions: refused, or run to the end. Assumes nothing.
+use Prim.Native.Nat.{ℕ, _≤_, _<_}
+use mathlib.Core.Bool.{true}
+use mathlib.Core.List.{List, []}
+use mathlib.Core.Path.{_≡_, refl, sym, ap, subst, _∙_}
+use native.Mathlib.Omega.{arith}
+use borrow.Author.Tests.{eq-eqb, ne-eqb}
+use lib.ListN.{length, getD}
+use Rattle.geometry.specs.Limits.{Valid}
+use Rattle.chip_array.specs.Device.{Device, Setting}
+use Rattle.bus.specs.Line.{Line}
+use Rattle.bus_polling.specs.declared.Outcome.the-variants.{Passed}
+use Rattle.operations.specs.Ends.{Lent}
+use Rattle.progress.specs.Progress.{progress}
+use Rattle.state.specs.declared.State.{State}
+use Rattle.state.proofs.MountedLaws.{mounted-facts}
+use Rattle.request.specs.Call.{Result, result, sizedFor, callLine, endAt}
+use Rattle.request.proofs.CallLaws.{sizes}
+use Rattle.request_refusals.specs.Refusals.{refusal, refusalOf}
+use Rattle.request_refusals.proofs.RefusalLaws.{Accepted, accepts}
+use Rattle.write_changes.specs.Changes.{Update, eraseUpdate, eraseRefusal, changing, writing, erasingLogical}
+use Rattle.fill_cursor.specs.Cursor.{running}
+use Rattle.fill_cursor.specs.declared.Cursor.{Cursor}
+use Rattle.fill_cursor.specs.declared.Running.{Running}
+use Rattle.fill_driver.specs.Driver.{Ran, RanAs}
+use Rattle.fill_laws.proofs.ChangeLaws.{updateCursor, change-ran}
+use Rattle.fill_laws.proofs.KeepLaws.{run-left}
+use Rattle.write.specs.Update.{update}
+
+-- the chip of a call that is not refused
+module _ (s : Setting) (d : Device) (n : ℕ) (fits : sizedFor s d ≡ true) where
+  pub call-lent : Lent s (callLine d n)
+  call-lent =
+      let z = sizes (s .geometry) (length (d .array)) (length (d .register)) (length (d .history)) (length (s .mask)) fits in
+      record {
+        is-valid = z .chip-fits .is-valid;
+        array-long = z .chip-fits .array-long;
+        register-long = z .chip-fits .register-long;
+        history-long = z .chip-fits .history-long;
+        mask-long = z .mask-long;
+        legal = refl;
+        uncut = refl;
+      }
+
+-- its run to the end, from the line where the call begins
+module _ (s : Setting) (d : Device) (n : ℕ) (st : State) (u : Update) (c : Cursor) (start : c ≡ updateCursor u) (l m : Line) (begins : l ≡ callLine d n) (r : Running) (most : ℕ) (run : RanAs s (u .bytes) most (running c st) l m r) where
+  pub change-left : m .left ≤ n
+  change-left = omega (arith, run-left s (u .bytes) most (running c st) l m r run, ap (λ (x : Line). x .left) begins)
+
+  pub change-ends : Valid (s .geometry) → 549755813888 < most → endAt n (r .cursor .answer) (r .state) m ≡ changing s d n st u
+  change-ends v enough =
+      let whole = change-ran s v u st (progress (callLine d n) Passed [] []) most enough in
+      let from = subst (λ (x : Line). RanAs s (u .bytes) most (running (updateCursor u) st) x m r) begins (subst (λ (x : Cursor). RanAs s (u .bytes) most (running x st) l m r) start run) in
+      let line-is = from .line-is [] [] ∙ ap (λ (x : Ran). x .progress .line) whole in
+      let running-is = from .running-is [] [] ∙ ap (λ (x : Ran). x .running) whole in
+      λ i. endAt n (running-is i .cursor .answer) (running-is i .state) (line-is i)
+
+-- what holds where there is no refusal
+module _ (s : Setting) (d : Device) (st : State) (logical page long : ℕ) (none : refusal (s .geometry) (sizedFor s d) st logical page long ≡ 0) where
+  pub not-refused : Accepted (s .geometry) (sizedFor s d) st logical page long
+  not-refused = accepts (s .geometry) (sizedFor s d) st logical page long none
+
+  is-valid : Valid (s .geometry)
+  is-valid = sizes (s .geometry) (length (d .array)) (length (d .register)) (length (d .history)) (length (s .mask)) (not-refused .sizes-fit) .chip-fits .is-valid
+
+  pub last-below : st .last < s .geometry .blocks
+  last-below =
+      mounted-facts st (s .geometry .blocks) (s .geometry .logical) (is-valid .blocks-most) (not-refused .is-mounted) .last-below
+
+  pub in-map : logical < 4096
+  in-map = omega (arith, not-refused .logical-below, is-valid .logical-most, is-valid .blocks-most)
+
+module _ (s : Setting) (d : Device) (n : ℕ) (st : State) (logical page : ℕ) (bytes : List ℕ) (k : ℕ) (told : k ≡ refusalOf s d st logical page bytes) where
+  pub write-refused : {r : Result} → (k ≡ 0 → ⊥) → r ≡ result k st d 0 → r ≡ writing s d n st logical page bytes
+  unfolding writing
+  write-refused x f =
+      rw (ne-eqb (refusalOf s d st logical page bytes) 0 (λ z. x (told ∙ z)))
+      (f ∙ ap (λ (y : ℕ). result y st d 0) told)
+
+  pub write-ends : {r : Result} → k ≡ 0 → (old : ℕ) → old ≡ getD (st .map) logical 0 → r ≡ changing s d n st (update logical old page 1 bytes) → r ≡ writing s d n st logical page bytes
+  unfolding writing
+  write-ends z old e f =
+      rw (eq-eqb (refusalOf s d st logical page bytes) 0 (sym told ∙ z))
+      (f ∙ ap (λ (b : ℕ). changing s d n st (update logical b page 1 bytes)) e)
+
+module _ (s : Setting) (d : Device) (n : ℕ) (st : State) (logical : ℕ) (k : ℕ) (told : k ≡ eraseRefusal s d st logical) where
+  pub erase-refused : {r : Result} → (k ≡ 0 → ⊥) → r ≡ result k st d 0 → r ≡ erasingLogical s d n st logical
+  unfolding erasingLogical
+  erase-refused x f =
+      rw (ne-eqb (eraseRefusal s d st logical) 0 (λ z. x (told ∙ z)))
+      (f ∙ ap (λ (y : ℕ). result y st d 0) told)
+
+  pub erase-ends : {r : Result} → k ≡ 0 → r ≡ changing s d n st (eraseUpdate logical) → r ≡ erasingLogical s d n st logical
+  unfolding erasingLogical
+  erase-ends z f = rw (eq-eqb (eraseRefusal s d st logical) 0 (sym told ∙ z)) f

@@ -1,0 +1,167 @@
+// The requests that write one page and erase one logical block.
+use chip_interface::Interface;
+use fill_cursor::Cursor;
+use fill_cursor::Running;
+use geometry::Geometry;
+use request::Returned;
+use state::State;
+ghost use mathlib.Core.Path.{_≡_};
+ghost use Prim.Native.Nat.{_*_, _<_};
+ghost use lib.ListN.{length};
+ghost use Rattle.chip_array.specs.Device.{device, setting};
+ghost use Rattle.operations.specs.Ends.{Lent};
+ghost use Rattle.request.specs.Call.{result, callLine};
+ghost use Rattle.write_changes.specs.Changes.{changing, writing, erasingLogical};
+ghost use Rattle.write.specs.Update.{update};
+
+fn wide(x: u16) -> usize
+    ensures { λ r. ⌜ r ≡ x ⌝ }
+{
+    x as usize
+}
+
+// The new copy of a logical block: so many pages from the first on are given, the others are kept from the old copy.
+fn change(
+    state: State,
+    g: Geometry,
+    interface: Interface,
+    array: &mut [u8],
+    register: &mut [u8],
+    history: &mut [u8],
+    mask: &[u8],
+    fates: &[u32],
+    allowed: u32,
+    logical: usize,
+    first: usize,
+    count: usize,
+    old: usize,
+    bytes: &[u8],
+) -> Returned
+    requires { ⌜ Lent (setting g (now mask) (now fates)) (callLine (device interface (now array) (now register) (now history)) allowed) ⌝ }
+    requires { ⌜ state .last < g .blocks ⌝ }
+    requires { ⌜ logical < g .logical ⌝ }
+    requires { ⌜ length (now bytes) ≡ count * g .main ⌝ }
+    ensures { λ r. ⌜ result (r .answer) (r .state) (device (r .interface) (now (array .exit)) (now (register .exit)) (now (history .exit))) (r .sent) ≡ changing (setting g (now (mask .entry)) (now (fates .entry))) (device interface (now (array .entry)) (now (register .entry)) (now (history .entry))) allowed state (update logical old first count (now (bytes .entry))) ⌝ }
+{
+    let from = request::begin(interface, allowed);
+    let mut page = [0u8; 4352];
+    let size = geometry::page_size(g);
+    let cursor = Cursor::begin(0, logical, first, count, old);
+    let start = Running { cursor, state };
+    let ran = fill_driver::run(
+        from,
+        g,
+        array,
+        register,
+        history,
+        mask,
+        fates,
+        start,
+        bytes,
+        &mut page[0..size],
+        fill_driver::PROGRAMS,
+    );
+    let c = ran.cursor;
+    let bus = ran.bus;
+    let next = ran.state;
+    request::end(c.answer, next, bus, allowed)
+}
+
+// Writes a page of a logical block.
+pub fn write(
+    state: State,
+    g: Geometry,
+    interface: Interface,
+    array: &mut [u8],
+    register: &mut [u8],
+    history: &mut [u8],
+    mask: &[u8],
+    fates: &[u32],
+    allowed: u32,
+    logical: usize,
+    page: usize,
+    bytes: &[u8],
+) -> Returned
+    ensures { λ r. ⌜ result (r .answer) (r .state) (device (r .interface) (now (array .exit)) (now (register .exit)) (now (history .exit))) (r .sent) ≡ writing (setting g (now (mask .entry)) (now (fates .entry))) (device interface (now (array .entry)) (now (register .entry)) (now (history .entry))) allowed state logical page (now (bytes .entry)) ⌝ }
+{
+    let refused = request_refusals::refusal(
+        state,
+        g,
+        array.len(),
+        register.len(),
+        history.len(),
+        mask.len(),
+        logical,
+        page,
+        bytes.len(),
+    );
+    if refused != 0 {
+        return request_refusals::unchanged(refused, state, interface);
+    }
+    let map = state.map;
+    let old = wide(map[logical]);
+    change(
+        state,
+        g,
+        interface,
+        array,
+        register,
+        history,
+        mask,
+        fates,
+        allowed,
+        logical,
+        page,
+        1,
+        old,
+        bytes,
+    )
+}
+
+// Erases a logical block: every page of its new copy is FFh.
+pub fn erase(
+    state: State,
+    g: Geometry,
+    interface: Interface,
+    array: &mut [u8],
+    register: &mut [u8],
+    history: &mut [u8],
+    mask: &[u8],
+    fates: &[u32],
+    allowed: u32,
+    logical: usize,
+) -> Returned
+    ensures { λ r. ⌜ result (r .answer) (r .state) (device (r .interface) (now (array .exit)) (now (register .exit)) (now (history .exit))) (r .sent) ≡ erasingLogical (setting g (now (mask .entry)) (now (fates .entry))) (device interface (now (array .entry)) (now (register .entry)) (now (history .entry))) allowed state logical ⌝ }
+{
+    let refused = request_refusals::refusal(
+        state,
+        g,
+        array.len(),
+        register.len(),
+        history.len(),
+        mask.len(),
+        logical,
+        0,
+        g.main,
+    );
+    if refused != 0 {
+        return request_refusals::unchanged(refused, state, interface);
+    }
+    let none = [0u8; 0];
+    change(
+        state,
+        g,
+        interface,
+        array,
+        register,
+        history,
+        mask,
+        fates,
+        allowed,
+        logical,
+        0,
+        0,
+        65535,
+        &none,
+    )
+}
