@@ -1,25 +1,10 @@
 // Runs the requests on the small chip: a word for each case, then answer, cycles sent and free blocks.
 mod writes;
 
-use chip_interface::Interface;
-use geometry::Geometry;
+use demo_store::Ended;
+use demo_store::Store;
+use demo_store::UNCUT;
 use libc::STDOUT_FILENO;
-use request::Returned;
-use state::State;
-ghost use Prim.Native.Nat.{_≤_};
-
-// The allowance that cuts nothing.
-pub const UNCUT: u32 = 4294967295;
-
-pub(crate) fn small(logical: usize) -> Geometry {
-    Geometry {
-        main: 32,
-        spare: 16,
-        pages: 4,
-        blocks: 4,
-        logical,
-    }
-}
 
 fn print_number(x: usize) {
     io::write_all(STDOUT_FILENO, b" ");
@@ -27,91 +12,46 @@ fn print_number(x: usize) {
 }
 
 // Prints how a request ended.
-pub(crate) fn show(label: &[u8], logical: usize, returned: Returned)
-    requires { ⌜ logical ≤ 4096 ⌝ }
-{
-    let next = returned.state;
+pub(crate) fn show(label: &[u8], ended: Ended) {
+    let store = ended.store;
+    let state = store.state;
     io::write_all(STDOUT_FILENO, label);
-    print_number(returned.answer);
-    print_number(returned.sent);
-    print_number(next.free_blocks(4, logical));
+    print_number(ended.answer);
+    print_number(ended.sent);
+    print_number(state.free_blocks(4, 2));
     io::write_all(STDOUT_FILENO, b"\n");
 }
 
 // Formats a new chip, but for the byte in page 1 of block 2 where a factory mark would stand.
-fn show_format(label: &[u8], logical: usize, mark: u8, fates: &[u32], allowed: u32)
-    requires { ⌜ logical ≤ 4096 ⌝ }
-{
-    let mut array = [0xffu8; 768];
-    let mut register = [0xffu8; 48];
-    let mut history = [0u8; 4];
+fn show_format(label: &[u8], logical: usize, mark: u8, fates: &[u32], allowed: u32) {
     let mask = [0u8; 192];
-    array[464] = mark;
-    let returned = format::format(
-        State::blank(0),
-        small(logical),
-        Interface::power_on(),
-        &mut array,
-        &mut register,
-        &mut history,
-        &mask,
-        fates,
-        allowed,
-    );
-    show(label, logical, returned);
-}
-
-// Reads a logical page into a buffer of zeros, and shows its first byte.
-fn show_read(before: Returned, array: &mut [u8], register: &mut [u8], history: &mut [u8]) {
-    let mask = [0u8; 192];
-    let fates = [0u32; 0];
-    let mut buffer = [0u8; 32];
-    let state = before.state;
-    let interface = before.interface;
-    let returned = read::read(
-        state,
-        small(2),
-        interface,
-        array,
-        register,
-        history,
-        &mask,
-        &fates,
-        UNCUT,
-        1,
-        3,
-        &mut buffer,
-    );
-    show(b"read-1-3", 2, returned);
-    io::write_all(STDOUT_FILENO, b"  first byte ");
-    io::print_hex(STDOUT_FILENO, wide(buffer[0]), 2);
-    io::write_all(STDOUT_FILENO, b"\n");
+    let mut store = demo_store::new_store(logical);
+    store.array[464] = mark;
+    show(label, demo_store::format(store, &mask, fates, allowed));
 }
 
 fn wide(x: u8) -> u64 {
     x as u64
 }
 
-// A new chip formatted and read.
-fn show_first_read() {
-    let mut array = [0xffu8; 768];
-    let mut register = [0xffu8; 48];
-    let mut history = [0u8; 4];
+// Reads a logical page, and shows its first byte.
+fn show_read(store: Store) {
     let mask = [0u8; 192];
     let fates = [0u32; 0];
-    let formatted = format::format(
-        State::blank(0),
-        small(2),
-        Interface::power_on(),
-        &mut array,
-        &mut register,
-        &mut history,
-        &mask,
-        &fates,
-        UNCUT,
-    );
-    show(b"format", 2, formatted);
-    show_read(formatted, &mut array, &mut register, &mut history);
+    let read = demo_store::read(store, &mask, &fates, UNCUT, 1, 3);
+    show(b"read-1-3", read.ended);
+    io::write_all(STDOUT_FILENO, b"  first byte ");
+    io::print_hex(STDOUT_FILENO, wide(read.page[0]), 2);
+    io::write_all(STDOUT_FILENO, b"\n");
+}
+
+// A new chip formatted and read.
+fn show_first_read() {
+    let mask = [0u8; 192];
+    let fates = [0u32; 0];
+    let formatted = demo_store::format(demo_store::new_store(2), &mask, &fates, UNCUT);
+    show(b"format", formatted);
+    show_read(formatted.store);
 }
 
 fn main() {

@@ -1,7 +1,7 @@
 // A write over an old copy, cut at every cycle: what comes back, and what the block being filled holds.
-use crate::requests;
+use demo_store::Store;
+use demo_store::UNCUT;
 use libc::STDOUT_FILENO;
-use request::Returned;
 ghost use Prim.Native.Nat.{_≤_};
 
 // What the old copy has in page 0.
@@ -24,13 +24,6 @@ struct Seen {
     block: usize,
 }
 
-// A logical page that was read.
-struct Page {
-    returned: Returned,
-    // The byte that fills it, 256 if it was refused or has two different bytes.
-    byte: usize,
-}
-
 fn wide(x: u8) -> usize {
     x as usize
 }
@@ -50,35 +43,18 @@ fn only_byte(buffer: &[u8]) -> usize {
     wide(buffer[0])
 }
 
-fn read_page(
-    before: Returned,
-    array: &mut [u8],
-    register: &mut [u8],
-    history: &mut [u8],
-    block: usize,
-    page: usize,
-) -> Page {
-    let mut buffer = [0u8; 32];
-    let returned = requests::read(
-        before,
-        array,
-        register,
-        history,
-        requests::UNCUT,
-        block,
-        page,
-        &mut buffer,
-    );
-    if returned.answer != 0 {
-        return Page {
-            returned,
-            byte: 256,
-        };
+// The byte that fills a logical page, 256 if it was refused or has two different bytes. A read changes nothing that a later one
+// depends on, so each starts from the store as the mount left it.
+fn page_byte(store: Store, block: usize, page: usize) -> usize {
+    let mask = [0u8; 192];
+    let fates = [0u32; 0];
+    let read = demo_store::read(store, &mask, &fates, UNCUT, block, page);
+    let ended = read.ended;
+    if ended.answer != 0 {
+        return 256;
     }
-    Page {
-        returned,
-        byte: only_byte(&buffer),
-    }
+    let bytes = read.page;
+    only_byte(&bytes)
 }
 
 // What page k of all logical pages is before the write.
@@ -98,15 +74,12 @@ fn new_byte(k: usize) -> usize {
 }
 
 // Reads all logical pages: 0 old, 1 new, 2 anything else.
-fn read_all(mounted: Returned, array: &mut [u8], register: &mut [u8], history: &mut [u8]) -> usize {
-    let mut last = mounted;
+fn read_all(store: Store) -> usize {
     let mut not_old = 0;
     let mut not_new = 0;
     let mut k = 0;
     while k < 8 {
-        let page = read_page(last, array, register, history, k / 4, k % 4);
-        let byte = page.byte;
-        last = page.returned;
+        let byte = page_byte(store, k / 4, k % 4);
         not_old = not_old | (byte ^ old_byte(k));
         not_new = not_new | (byte ^ new_byte(k));
         k += 1;
@@ -121,18 +94,12 @@ fn read_all(mounted: Returned, array: &mut [u8], register: &mut [u8], history: &
 }
 
 // What a block holds: 0 all bytes FFh, 1 what it held before, 2 anything else.
-fn look_at(before: &[u8], array: &[u8], block: usize) -> usize {
+fn look_at(before: &[u8; 768], array: &[u8; 768], block: usize) -> usize {
     if 3 < block {
         return 2;
     }
     let start = block * 192;
     let end = start + 192;
-    if before.len() < end {
-        return 2;
-    }
-    if array.len() < end {
-        return 2;
-    }
     let mut not_erased: u8 = 0;
     let mut changed: u8 = 0;
     let mut i = start;
@@ -150,63 +117,39 @@ fn look_at(before: &[u8], array: &[u8], block: usize) -> usize {
     2
 }
 
-// Formats the chip, and writes older copies of logical block 0 and then the old one.
-fn prepare(older: usize, array: &mut [u8], register: &mut [u8], history: &mut [u8]) -> Returned {
+// Writes page 0 of logical block 0.
+fn written(store: Store, byte: u8) -> Store {
     let mask = [0u8; 192];
-    let mut last = requests::format(array, register, history);
+    let fates = [0u32; 0];
+    let ended = demo_store::write(store, &mask, &fates, UNCUT, 0, 0, byte);
+    ended.store
+}
+
+// Formats a chip, and writes older copies of logical block 0 and then the old one.
+fn prepare(older: usize) -> Store {
+    let mask = [0u8; 192];
+    let fates = [0u32; 0];
+    let formatted = demo_store::format(demo_store::new_store(2), &mask, &fates, UNCUT);
+    let mut store = formatted.store;
     let mut left = older;
     while 0 < left {
         left -= 1;
-        last = requests::write(
-            last,
-            array,
-            register,
-            history,
-            &mask,
-            requests::UNCUT,
-            0,
-            0,
-            OLDER,
-        );
+        store = written(store, OLDER);
     }
-    requests::write(
-        last,
-        array,
-        register,
-        history,
-        &mask,
-        requests::UNCUT,
-        0,
-        0,
-        OLD,
-    )
+    written(store, OLD)
 }
 
 // One run: the write is cut at a cycle, the chip is mounted, and all pages are read.
-fn cut_at(older: usize, block: usize, mask: &[u8], allowed: u32) -> Seen {
-    let mut array = [0xffu8; 768];
-    let mut register = [0xffu8; 48];
-    let mut history = [0u8; 4];
-    let before = prepare(older, &mut array, &mut register, &mut history);
-    let was = array;
-    let cut = requests::write(
-        before,
-        &mut array,
-        &mut register,
-        &mut history,
-        mask,
-        allowed,
-        0,
-        1,
-        NEW,
-    );
-    let looks = look_at(&was, &array, block);
-    let none = [0u32; 0];
-    let mounted = requests::mount(cut, &mut array, &mut register, &mut history, mask, &none);
-    let reading = read_all(mounted, &mut array, &mut register, &mut history);
+fn cut_at(before: Store, block: usize, mask: &[u8], allowed: u32) -> Seen {
+    let fates = [0u32; 0];
+    let was = before.array;
+    let cut = demo_store::write(before, mask, &fates, allowed, 0, 1, NEW);
+    let left = cut.store;
+    let array = left.array;
+    let mounted = demo_store::mount(left, mask, &fates, UNCUT);
     Seen {
-        reading: acknowledged(cut.answer, reading),
-        block: looks,
+        reading: acknowledged(cut.answer, read_all(mounted.store)),
+        block: look_at(&was, &array, block),
     }
 }
 
@@ -294,9 +237,10 @@ pub(crate) fn sweep(label: &[u8], name: &[u8], older: usize, block: usize, mask:
         reading: 3,
         block: 3,
     };
+    let before = prepare(older);
     let mut allowed: u32 = 0;
     while allowed <= FULL {
-        let seen = cut_at(older, block, mask, allowed);
+        let seen = cut_at(before, block, mask, allowed);
         if differ(seen, shown) {
             show_from(label, name, allowed, seen);
         }

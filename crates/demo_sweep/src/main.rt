@@ -1,7 +1,6 @@
 // A power-cut sweep: a write cut at every cycle with several masks, then a mount and a reading; and lists of calls.
 mod cuts;
 mod lists;
-mod requests;
 
 use libc::STDOUT_FILENO;
 

@@ -19,23 +19,17 @@ mul-start c = search needs
 add-end : tie.Need-add-end Inv-loop μ-loop
 add-end c = search needs
 
-returns-2 : tie.Need-returns-2 Inv-loop μ-loop
-returns-2 c = search needs
-
-returns-3 : tie.Need-returns-3 Inv-loop μ-loop
-returns-3 c = search needs
-
 loop-holds : tie.Need-loop-holds Inv-loop μ-loop
 loop-holds c = search needs
 
-shared-slice-read-not-erased : tie.Need-shared-slice-read-not-erased Inv-loop μ-loop
-shared-slice-read-not-erased c = search needs
+element-copy-out-not-erased : tie.Need-element-copy-out-not-erased Inv-loop μ-loop
+element-copy-out-not-erased c = search needs
 
-shared-slice-read-changed : tie.Need-shared-slice-read-changed Inv-loop μ-loop
-shared-slice-read-changed c = search needs
+element-copy-out-changed : tie.Need-element-copy-out-changed Inv-loop μ-loop
+element-copy-out-changed c = search needs
 
-shared-slice-read-changed-2 : tie.Need-shared-slice-read-changed-2 Inv-loop μ-loop
-shared-slice-read-changed-2 c = search needs
+element-copy-out-changed-2 : tie.Need-element-copy-out-changed-2 Inv-loop μ-loop
+element-copy-out-changed-2 c = search needs
 
 add-i : tie.Need-add-i Inv-loop μ-loop
 add-i c = search needs
@@ -46,14 +40,14 @@ loop-less c = search needs
 loop-again : tie.Need-loop-again Inv-loop μ-loop
 loop-again c = search needs
 
+returns-2 : tie.Need-returns-2 Inv-loop μ-loop
+returns-2 c = search needs
+
+returns-3 : tie.Need-returns-3 Inv-loop μ-loop
+returns-3 c = search needs
+
 returns-4 : tie.Need-returns-4 Inv-loop μ-loop
 returns-4 c = search needs
-
-returns-5 : tie.Need-returns-5 Inv-loop μ-loop
-returns-5 c = search needs
-
-returns-6 : tie.Need-returns-6 Inv-loop μ-loop
-returns-6 c = search needs
 
 pub look-at-spec : {M : Type 1} → statement M
 look-at-spec =
@@ -64,15 +58,13 @@ look-at-spec =
     returns
     mul-start
     add-end
-    returns-2
-    returns-3
     loop-holds
-    shared-slice-read-not-erased
-    shared-slice-read-changed
-    shared-slice-read-changed-2
+    element-copy-out-not-erased
+    element-copy-out-changed
+    element-copy-out-changed-2
     add-i
     loop-less
     loop-again
-    returns-4
-    returns-5
-    returns-6)
+    returns-2
+    returns-3
+    returns-4)

@@ -1,15 +1,22 @@
--- `demo_sweep::cuts::prepare` is safe and ends: each slice keeps its length. Assumes nothing.
-use mathlib.Core.Path.{_≡_}
+-- `demo_sweep::cuts::prepare` is safe and ends. Assumes nothing.
 use borrow.Author.Needs.{needs}
-use lib.ListN.{length}
 use Rattle.demo_sweep.proofs.cuts.prepare.Statement.{statement}
 use Rattle.demo_sweep.proofs.cuts.prepare.Tie as tie
 
 abbrev Inv-loop : tie.InvT-loop
-Inv-loop older array₀ register₀ history₀ mask last₀ left₀ array register history last left = (length array ≡ length array₀) × (length register ≡ length register₀) × (length history ≡ length history₀)
+Inv-loop older store₀ left₀ store left = Unit {0}
 
 abbrev μ-loop : tie.MeasureT-loop
-μ-loop older array₀ register₀ history₀ mask last₀ left₀ array register history last left = left
+μ-loop older store₀ left₀ store left = left
+
+new-store-requires : tie.Need-new-store-requires Inv-loop μ-loop
+new-store-requires c κs = search needs
+
+slice-aggregate-format : tie.Need-slice-aggregate-format Inv-loop μ-loop
+slice-aggregate-format c = search needs
+
+slice-aggregate-format-2 : tie.Need-slice-aggregate-format-2 Inv-loop μ-loop
+slice-aggregate-format-2 c = search needs
 
 format-requires : tie.Need-format-requires Inv-loop μ-loop
 format-requires c κs = search needs
@@ -20,11 +27,8 @@ loop-holds c = search needs
 sub-left : tie.Need-sub-left Inv-loop μ-loop
 sub-left c = search needs
 
-slice-aggregate-write : tie.Need-slice-aggregate-write Inv-loop μ-loop
-slice-aggregate-write c = search needs
-
-write-requires : tie.Need-write-requires Inv-loop μ-loop
-write-requires c κs = search needs
+written-requires : tie.Need-written-requires Inv-loop μ-loop
+written-requires c κs = search needs
 
 loop-less : tie.Need-loop-less Inv-loop μ-loop
 loop-less c = search needs
@@ -32,20 +36,8 @@ loop-less c = search needs
 loop-again : tie.Need-loop-again Inv-loop μ-loop
 loop-again c = search needs
 
-slice-aggregate-write-2 : tie.Need-slice-aggregate-write-2 Inv-loop μ-loop
-slice-aggregate-write-2 c = search needs
-
-write-requires-2 : tie.Need-write-requires-2 Inv-loop μ-loop
-write-requires-2 c κs = search needs
-
-same-length : tie.Need-same-length Inv-loop μ-loop
-same-length c = search needs
-
-same-length-2 : tie.Need-same-length-2 Inv-loop μ-loop
-same-length-2 c = search needs
-
-same-length-3 : tie.Need-same-length-3 Inv-loop μ-loop
-same-length-3 c = search needs
+written-requires-2 : tie.Need-written-requires-2 Inv-loop μ-loop
+written-requires-2 c κs = search needs
 
 returns : tie.Need-returns Inv-loop μ-loop
 returns c = search needs
@@ -56,16 +48,14 @@ prepare-spec =
     (tie.spec
     Inv-loop
     μ-loop
+    new-store-requires
+    slice-aggregate-format
+    slice-aggregate-format-2
     format-requires
     loop-holds
     sub-left
-    slice-aggregate-write
-    write-requires
+    written-requires
     loop-less
     loop-again
-    slice-aggregate-write-2
-    write-requires-2
-    same-length
-    same-length-2
-    same-length-3
+    written-requires-2
     returns)

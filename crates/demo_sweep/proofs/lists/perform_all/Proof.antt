@@ -1,16 +1,24 @@
--- `demo_sweep::lists::perform_all` is safe and ends: each slice keeps its length. Assumes nothing.
-use mathlib.Core.Path.{_≡_}
+-- `demo_sweep::lists::perform_all` is safe and ends. Assumes nothing.
 use Prim.Native.Nat.{_-_}
-use borrow.Author.Needs.{needs}
 use lib.ListN.{length}
+use borrow.Author.Needs.{needs}
 use Rattle.demo_sweep.proofs.lists.perform_all.Statement.{statement}
 use Rattle.demo_sweep.proofs.lists.perform_all.Tie as tie
 
 abbrev Inv-loop : tie.InvT-loop
-Inv-loop calls array₀ register₀ history₀ last₀ i₀ array register history last i = (length array ≡ length array₀) × (length register ≡ length register₀) × (length history ≡ length history₀)
+Inv-loop calls store₀ i₀ store i = Unit {0}
 
 abbrev μ-loop : tie.MeasureT-loop
-μ-loop calls array₀ register₀ history₀ last₀ i₀ array register history last i = length calls - i
+μ-loop calls store₀ i₀ store i = length calls - i
+
+new-store-requires : tie.Need-new-store-requires Inv-loop μ-loop
+new-store-requires c κs = search needs
+
+slice-aggregate-format : tie.Need-slice-aggregate-format Inv-loop μ-loop
+slice-aggregate-format c = search needs
+
+slice-aggregate-format-2 : tie.Need-slice-aggregate-format-2 Inv-loop μ-loop
+slice-aggregate-format-2 c = search needs
 
 format-requires : tie.Need-format-requires Inv-loop μ-loop
 format-requires c κs = search needs
@@ -36,15 +44,6 @@ loop-less c = search needs
 loop-again : tie.Need-loop-again Inv-loop μ-loop
 loop-again c = search needs
 
-same-length : tie.Need-same-length Inv-loop μ-loop
-same-length c = search needs
-
-same-length-2 : tie.Need-same-length-2 Inv-loop μ-loop
-same-length-2 c = search needs
-
-same-length-3 : tie.Need-same-length-3 Inv-loop μ-loop
-same-length-3 c = search needs
-
 returns : tie.Need-returns Inv-loop μ-loop
 returns c = search needs
 
@@ -54,6 +53,9 @@ perform-all-spec =
     (tie.spec
     Inv-loop
     μ-loop
+    new-store-requires
+    slice-aggregate-format
+    slice-aggregate-format-2
     format-requires
     loop-holds
     shared-slice-read-call
@@ -62,7 +64,4 @@ perform-all-spec =
     show-call-requires
     loop-less
     loop-again
-    same-length
-    same-length-2
-    same-length-3
     returns)

@@ -1,0 +1,2 @@
+-- The definitions of the small chip.
+pub mod Small
