@@ -82,7 +82,7 @@ pages-same g b xs ys zero e = refl
 pages-same g b xs ys (suc n) e = rw (e n, pages-same g b xs ys n e)
 
 -- the operations of one fill of block b added to a trace
-module _ (g : Geometry) (v : Valid g) (before after : List ℕ) (b : ℕ) (below : b < g .blocks) (others : (c : ℕ) → c < g .blocks → (c ≡ b → ⊥) → blockIn g after c ≡ blockIn g before c)
+module _ (g : Geometry) (v : Valid g) (before after : List ℕ) (b : ℕ) (others : (c : ℕ) → c < g .blocks → (c ≡ b → ⊥) → blockIn g after c ≡ blockIn g before c)
     (os adds : List ArrayOperation) (elsewhere : (c : ℕ) → (c ≡ b → ⊥) → Each (λ o. o .kind ≡ 2 → o .block ≡ c → ⊥) adds) where
   pub sent-elsewhere : (c : ℕ) → (c ≡ b → ⊥) → sentPages g c (os ++ adds) (g .pages) ≡ sentPages g c os (g .pages)
   sent-elsewhere c x =

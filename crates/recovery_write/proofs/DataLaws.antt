@@ -399,7 +399,7 @@ module _ (s : Setting) (mask-bytes : Bytes (s .mask)) (first : Line) (called : C
         (λ l i h j. k .calm .reads l i h j ∙ r .reads l i h j ∙ ap (λ (z : Bool). cond z (entered g c book) book l i) (sym same-has))
       where
         same-has : hasCopy g after (os ++ adds) ≡ hasCopy g before os
-        same-has = has-still g v before after b below (try .leaves .others) os adds (try .elsewhere) (r .untried b (is .valid)) (k .unsent)
+        same-has = has-still g v before after b (try .leaves .others) os adds (try .elsewhere) (r .untried b (is .valid)) (k .unsent)
 
     -- the block is complete
     module _ (k : tries.Made g before after b pages adds) where
@@ -410,7 +410,7 @@ module _ (s : Setting) (mask-bytes : Bytes (s .mask)) (first : Line) (called : C
       )
 
       sent : sentPages g b (os ++ adds) (g .pages) ≡ true
-      sent = sent-here g v before after b below (try .leaves .others) os adds (try .elsewhere) pages kinds (k .sent)
+      sent = sent-here g v before after b (try .leaves .others) os adds (try .elsewhere) pages kinds (k .sent)
 
       has : hasCopy g after (os ++ adds) ≡ true
       has = has-some g after (os ++ adds) b below sent (k .complete)

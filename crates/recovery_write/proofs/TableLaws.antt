@@ -372,7 +372,7 @@ module _ (s : Setting) (mask-bytes : Bytes (s .mask)) (first : Line) (called : C
           apart = λ k h y. still-clear (g .blocks) invalid b few below (r .bits) k (off-marked k h y) (r .apart k h y);
           reads = λ l i h j. reads l i h j ∙ r .reads l i h j;
           complete = ap (isComplete g) (try .leaves .others (d .block) (d .below) off-block) ∙ r .complete;
-          sent = sent-elsewhere g v before after b below (try .leaves .others) os adds (try .elsewhere) (d .block) off-block ∙ r .sent;
+          sent = sent-elsewhere g v before after b (try .leaves .others) os adds (try .elsewhere) (d .block) off-block ∙ r .sent;
           failures = failures-next;
           spared = spared-next;
         }
