@@ -1,11 +1,11 @@
 // Pages byte by byte: the check, whether a page is whole, its label, and the spare bytes of a new page.
 ghost use mathlib.Core.Path.{_≡_};
-ghost use Prim.Native.Nat.{_+_, _-_, _≤_, _<_, _^_};
+ghost use Prim.Native.Nat.{ℕ, _+_, _-_, _≤_, _<_, _^_};
 ghost use lib.Count.{ones};
-ghost use lib.ListN.{length, take, drop, replicate};
+ghost use lib.ListN.{length, getD, take, drop, replicate};
 ghost use mathlib.Core.List.{_++_};
 ghost use Rattle.cells.specs.Part.{put};
-ghost use Rattle.pages.specs.Check.{zeroBits};
+ghost use Rattle.pages.specs.Check.{zeroBits, total};
 ghost use Rattle.pages.specs.Layout.{isDataKind, isTableKind, numberWidth, allOnes, bytesOf, numberOf, kindOf, whole, labelOf, label, encoded, Sized};
 
 // The kind byte of a data page, and of a table's.
@@ -19,25 +19,81 @@ fn wide(x: u8) -> usize
     x as usize
 }
 
-// The set bits of a byte.
-fn ones_of(x: u8) -> u16
-    ensures { λ r. ⌜ (r ≡ ones x) × (r ≤ 8) ⌝ }
+// A byte as a part of a sum: a page's zero bits fit 16 bits.
+fn wide_sum(x: u8) -> u16
+    ensures { λ r. ⌜ (r ≡ x) × (r ≤ 255) ⌝ }
 {
-    u8::count_ones(x) as u16
+    x as u16
 }
 
-// The zero bits of some bytes: eight less the ones of each. The sum has 16 bits, so that more bytes are counted at once.
-pub fn zero_bits(bytes: &[u8]) -> usize
-    requires { ⌜ length (now bytes) ≤ 8191 ⌝ }
+// The set bits of a byte.
+fn ones_of(x: u8) -> u8
+    ensures { λ r. ⌜ (r ≡ ones x) × (r ≤ 8) ⌝ }
+{
+    u8::count_ones(x) as u8
+}
+
+// Adds the zero bits of each byte of a row, eight less its ones, to the count at its place. A count is a byte, so that no byte is
+// widened to be counted.
+fn add_zeros(counts: &mut [u8; 256], row: &[u8])
+    requires { ⌜ length (now row) ≡ 256 ⌝ }
+    requires { ⌜ length (now counts) ≡ 256 ⌝ }
+    requires { ⌜ ((j : ℕ) → getD (now counts) j 0 ≤ 247) ⌝ }
+    ensures { λ _. ⌜ length (now (counts .exit)) ≡ 256 ⌝ }
+    ensures { λ _. ⌜ total (now (counts .exit)) ≡ total (now (counts .entry)) + zeroBits (now (row .entry)) ⌝ }
+    ensures { λ _. ⌜ ((j : ℕ) → getD (now (counts .exit)) j 0 ≤ getD (now (counts .entry)) j 0 + 8) ⌝ }
+{
+    let mut i = 0;
+    while i < 256 {
+        counts[i] = counts[i] + (8 - ones_of(row[i]));
+        i += 1;
+    }
+}
+
+// The sum of the counts.
+fn total(counts: &[u8; 256]) -> u16
+    requires { ⌜ length (now counts) ≡ 256 ⌝ }
+    ensures { λ r. ⌜ r ≡ total (now (counts .entry)) ⌝ }
+{
+    let mut sum: u16 = 0;
+    let mut i = 0;
+    while i < 256 {
+        sum += wide_sum(counts[i]);
+        i += 1;
+    }
+    sum
+}
+
+// The zero bits of bytes that make no row: eight less the ones of each, summed.
+fn rest_zero_bits(bytes: &[u8]) -> u16
+    requires { ⌜ length (now bytes) ≤ 255 ⌝ }
     ensures { λ r. ⌜ r ≡ zeroBits (now (bytes .entry)) ⌝ }
 {
     let mut sum: u16 = 0;
     let mut i = 0;
     while i < bytes.len() {
-        sum += 8 - ones_of(bytes[i]);
+        sum += wide_sum(8 - ones_of(bytes[i]));
         i += 1;
     }
-    sum as usize
+    sum
+}
+
+// The zero bits of some bytes: eight less the ones of each, summed by places in rows of 256, then over the places. At most 31 rows
+// add to a place, and 31 times eight fit its byte.
+pub fn zero_bits(bytes: &[u8]) -> usize
+    requires { ⌜ length (now bytes) ≤ 8191 ⌝ }
+    ensures { λ r. ⌜ r ≡ zeroBits (now (bytes .entry)) ⌝ }
+{
+    let mut counts = [0u8; 256];
+    let mut at = 0;
+    while 256 <= bytes.len() - at {
+        let end = at + 256;
+        add_zeros(&mut counts, &bytes[at..end]);
+        at = end;
+    }
+    let rows = total(&counts) as usize;
+    let rest = rest_zero_bits(&bytes[at..]) as usize;
+    rows + rest
 }
 
 // Whether every byte is FFh.
