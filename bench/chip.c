@@ -5,6 +5,8 @@
 #include <string.h>
 #include <time.h>
 
+#include "table.h"
+
 enum { PAGE = 2176, PAGES = 64, BLOCKS = 4096, ROUNDS = 200000, REPEATS = 7 };
 
 size_t chip_bench_read(uint8_t *array, size_t array_len, uint8_t *reg, size_t reg_len, uint8_t *history,
@@ -16,7 +18,7 @@ size_t chip_bench_program(uint8_t *array, size_t array_len, uint8_t *reg, size_t
 
 static double now_ns(void) {
     struct timespec t;
-    clock_gettime(CLOCK_MONOTONIC, &t);
+    clock_gettime(CLOCK_PROCESS_CPUTIME_ID, &t);
     return t.tv_sec * 1e9 + t.tv_nsec;
 }
 
@@ -61,8 +63,11 @@ int main(void) {
         }
         program = least(program, (now_ns() - t) / ROUNDS);
     }
-    printf("copy    %8.1f ns\n", plain);
-    printf("read    %8.1f ns, %zu cycles, %.1f times the copy\n", read, read_cycles, read / plain);
-    printf("program %8.1f ns, %zu cycles, %.1f times the copy\n", program, program_cycles, program / plain);
+    printf("\n| Operation | Cycles | Time | Times the copy |\n|---|---|---|---|\n");
+    printf("| copy of a page | 0 | %.1f ns | 1.0 |\n", plain);
+    print_row_of("read of a page", read_cycles);
+    printf(" | %.1f ns | %.1f |\n", read, read / plain);
+    print_row_of("program of a page", program_cycles);
+    printf(" | %.1f ns | %.1f |\n", program, program / plain);
     return read_cycles == PAGE + 10 && program_cycles == PAGE + 9 && array[3 * PAGE] == 0x5a ? 0 : 1;
 }

@@ -5,6 +5,7 @@
 #include <time.h>
 
 #include "../c/flash_store.h"
+#include "table.h"
 
 enum { MAIN = 2048, SPARE = 128, PAGE = MAIN + SPARE, PAGES = 64, BLOCK = PAGE * PAGES, MOST = 4096, REPEATS = 5 };
 
@@ -14,7 +15,7 @@ static const uint32_t fates[1]; /* none is lent: every operation passes */
 
 static double now(void) {
     struct timespec t;
-    clock_gettime(CLOCK_MONOTONIC, &t);
+    clock_gettime(CLOCK_PROCESS_CPUTIME_ID, &t);
     return t.tv_sec + t.tv_nsec * 1e-9;
 }
 
@@ -95,8 +96,11 @@ static int measure(const char *name, uint8_t *array, size_t blocks, size_t expec
         by_words = zero_bits_of_words((const uint64_t *)array, size / 8);
         words_time = least(words_time, now() - t);
     }
-    printf("%-11s %5zu blocks  answer %zu  %9zu cycles  mount %.3f s  bytes %.3f s, %.1f times  words %.3f s, %.1f times\n",
-           name, blocks, answer, sent[0], mount, bytes_time, mount / bytes_time, words_time, mount / words_time);
+    print_row_of(name, blocks);
+    printf(" | %zu | ", answer);
+    print_number(sent[0]);
+    printf(" | %.3f s | %.3f s | %.1f | %.3f s | %.1f |\n", mount, bytes_time, mount / bytes_time, words_time,
+           mount / words_time);
     return answer != expected || sent[0] != cycles || by_bytes != by_words;
 }
 
@@ -106,6 +110,8 @@ int main(void) {
     if (!array) {
         return 1;
     }
+    printf("\n| Chip | Blocks | Answer | Cycles | Mount | Count by bytes | Times | Count by words | Times |\n");
+    printf("|---|---|---|---|---|---|---|---|---|\n");
     for (size_t blocks = MOST / 8; blocks <= MOST; blocks *= 2) {
         fill(array, blocks);
         differs |= measure("whole pages", array, blocks, FLASH_STORE_DONE);

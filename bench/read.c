@@ -5,6 +5,7 @@
 #include <time.h>
 
 #include "../c/flash_store.h"
+#include "table.h"
 
 enum {
     MAIN = 2048,
@@ -55,8 +56,10 @@ static int measure(const char *name, size_t logical, uint8_t status, size_t bloc
         t = (now() - t) / CALLS * 1e6;
         best = t < best ? t : best;
     }
-    printf("%5zu logical blocks  %-22s answer %zu  %4zu cycles  %6.2f us%s\n", logical, name, expected, cycles, best,
-           differs ? "  not as expected" : "");
+    print_row_of(name, logical);
+    printf(" | %zu | ", expected);
+    print_number(cycles);
+    printf(" | %.2f µs |%s\n", best, differs ? " not as expected" : "");
     return differs;
 }
 
@@ -72,12 +75,13 @@ int main(void) {
     store.page_register_len = PAGE;
     store.history = history;
     store.history_len = BLOCKS;
+    printf("\n| Call | Logical blocks | Answer | Cycles | Time |\n|---|---|---|---|---|\n");
     for (int i = 0; i < 2; i++) {
         size_t n = logical[i];
-        differs |= measure("with a copy", n, 1, 0, FLASH_STORE_DONE, MAIN + 10);
-        differs |= measure("without a copy", n, 1, n - 1, FLASH_STORE_DONE, 0);
+        differs |= measure("read with a copy", n, 1, 0, FLASH_STORE_DONE, MAIN + 10);
+        differs |= measure("read without a copy", n, 1, n - 1, FLASH_STORE_DONE, 0);
         differs |= measure("no such logical block", n, 1, n, FLASH_STORE_ADDRESS, 0);
-        differs |= measure("not mounted", n, 0, 0, FLASH_STORE_MOUNT_FIRST, 0);
+        differs |= measure("state not mounted", n, 0, 0, FLASH_STORE_MOUNT_FIRST, 0);
     }
     free(store.array);
     return differs;

@@ -1,9 +1,11 @@
-/* The stack that each call of the library takes: the call runs on a painted stack, and the paint that is left is counted. */
+/* The stack that each call of the library takes: the call runs on a painted stack, and the paint that is left is counted. Then the
+   sizes of what a caller keeps between calls. */
 #include <stdio.h>
 #include <string.h>
 #include <ucontext.h>
 
 #include "../c/flash_store.h"
+#include "table.h"
 
 enum {
     MAIN = 32,
@@ -60,7 +62,8 @@ static size_t used(void (*function)(void)) {
 /* One row; 1 where the answer or the cycles are not the expected ones. */
 static int measure(const char *name, void (*function)(void), size_t cycles) {
     size_t bytes = used(function) - used(nothing);
-    printf("%-40s %6zu bytes of stack\n", name, bytes);
+    print_row_of(name, bytes);
+    printf(" |\n");
     return answer != FLASH_STORE_DONE || call.sent != cycles;
 }
 
@@ -69,6 +72,7 @@ int main(void) {
     /* 8 reads of mark bytes, the erase of block 0 (fails), 4 reads of its pages, 3 erases, the erase of a fill, its first program (fails). */
     static const uint32_t failing[18] = {[8] = 1 << 16, [17] = 1 << 16};
     int differs = 0;
+    printf("\n| Call | Bytes of stack |\n|---|---|\n");
     memset(array, 0xff, sizeof array);
     differs |= measure("format", format, 354);
     differs |= measure("mount", mount, 931);
@@ -83,5 +87,10 @@ int main(void) {
     call.fates = failing;
     call.fates_len = 18;
     differs |= measure("format, an erase and a program fail", format, 650);
+    printf("\n| Kept by the caller | Bytes |\n|---|---|\n");
+    print_row_of("state", sizeof store.state);
+    printf(" |\n");
+    print_row_of("interface", sizeof store.interface);
+    printf(" |\n");
     return differs;
 }

@@ -1,0 +1,254 @@
+// Times the library against the second implementation in differential/store.rs: the same calls on equal buffers, in turn,
+// on the part with 2,048 + 128 bytes a page, 64 pages a block and 4,096 blocks. Prints two tables in Markdown. The exit
+// status is 1 where an answer, the cycles sent or a byte differ, or an answer is not 0.
+
+#[allow(dead_code)]
+#[path = "../differential/store.rs"]
+mod store;
+
+use store::*;
+
+// ---- the library ----
+
+type Lent<T> = *mut T;
+
+macro_rules! library_call {
+    ($name:ident $(, $extra:ident : $kind:ty)*) => {
+        fn $name(
+            main: usize, spare: usize, pages: usize, blocks: usize, logical: usize,
+            state: Lent<u8>, state_len: usize, interface: Lent<u64>, interface_len: usize,
+            array: Lent<u8>, array_len: usize, page_register: Lent<u8>, page_register_len: usize,
+            history: Lent<u8>, history_len: usize, mask: *const u8, mask_len: usize,
+            fates: *const u32, fates_len: usize, allowed: u32, sent: Lent<u64>, sent_len: usize
+            $(, $extra: $kind)*
+        ) -> usize;
+    };
+}
+
+extern "C" {
+    library_call!(flash_store_format);
+    library_call!(flash_store_mount);
+    library_call!(flash_store_read, block: usize, page: usize, buffer: Lent<u8>, buffer_len: usize);
+    library_call!(flash_store_write, block: usize, page: usize, bytes: *const u8, bytes_len: usize);
+    library_call!(flash_store_erase, block: usize);
+    fn clock_gettime(clock: i32, time: *mut [i64; 2]) -> i32;
+}
+
+// What one side holds before and after a call.
+#[derive(Clone)]
+struct Side {
+    state: Vec<u8>,
+    chip: Chip,
+    buffer: Vec<u8>,
+    sent: Vec<u64>,
+}
+
+macro_rules! lend {
+    ($function:ident, $g:expr, $s:expr, $c:expr $(, $extra:expr)*) => {
+        $function(
+            $g.main, $g.spare, $g.pages, $g.blocks, $g.logical,
+            $s.state.as_mut_ptr(), $s.state.len(), $s.chip.interface.as_mut_ptr(), $s.chip.interface.len(),
+            $s.chip.array.as_mut_ptr(), $s.chip.array.len(), $s.chip.register.as_mut_ptr(), $s.chip.register.len(),
+            $s.chip.history.as_mut_ptr(), $s.chip.history.len(), $c.mask.as_ptr(), $c.mask.len(),
+            $c.fates.as_ptr(), $c.fates.len(), $c.allowed, $s.sent.as_mut_ptr(), $s.sent.len()
+            $(, $extra)*
+        )
+    };
+}
+
+fn library(geometry: &Geometry, request: &Request, side: &mut Side, call: &Call) -> usize {
+    let buffer = side.buffer.as_mut_ptr();
+    let length = side.buffer.len();
+    // The buffers are as long as said and none overlaps another.
+    unsafe {
+        match request {
+            Request::Format => lend!(flash_store_format, geometry, side, call),
+            Request::Mount => lend!(flash_store_mount, geometry, side, call),
+            Request::Read { block, page } => {
+                lend!(flash_store_read, geometry, side, call, *block, *page, buffer, length)
+            }
+            Request::Write { block, page } => {
+                lend!(flash_store_write, geometry, side, call, *block, *page, buffer as *const u8, length)
+            }
+            Request::Erase { block } => lend!(flash_store_erase, geometry, side, call, *block),
+        }
+    }
+}
+
+fn second(geometry: &Geometry, request: &Request, side: &mut Side, call: &Call) -> usize {
+    let (state, chip, buffer, sent) = (&mut side.state, &mut side.chip, &mut side.buffer, &mut side.sent);
+    store::call(geometry, request, state, chip, call, buffer, sent, &mut Watch::default())
+}
+
+// ---- one chip under both ----
+
+const MAIN: usize = 2048;
+const SPARE: usize = 128;
+const PAGES: usize = 64;
+const MOST: usize = 4096;
+
+const PROCESS_TIME: i32 = 2;
+
+// Processor time in seconds.
+fn now() -> f64 {
+    let mut time = [0; 2];
+    // Two 64-bit numbers, seconds and nanoseconds, on x86-64 Linux.
+    unsafe { clock_gettime(PROCESS_TIME, &mut time) };
+    time[0] as f64 + time[1] as f64 * 1e-9
+}
+
+fn geometry(blocks: usize) -> Geometry {
+    Geometry { main: MAIN, spare: SPARE, pages: PAGES, blocks, logical: blocks - 2 }
+}
+
+// Block 0 holds the table, with no invalid block; every other block a complete copy of random bytes.
+fn whole_pages(geometry: &Geometry, array: &mut [u8]) {
+    let mut random = 1u64;
+    let table = table_main(geometry, &[0; MOST / 8]);
+    for (row, page) in array.chunks_exact_mut(geometry.page_bytes()).enumerate() {
+        let (block, place) = (row / PAGES, row % PAGES);
+        let mut main = vec![0xFF; MAIN];
+        let mut label = table_label(place, 1);
+        if block > 0 {
+            for part in main.chunks_exact_mut(8) {
+                random = random.wrapping_mul(6364136223846793005).wrapping_add(1442695040888963407);
+                part.copy_from_slice(&random.to_le_bytes());
+            }
+            label = data_label((block - 1) % geometry.logical, place, block as u32 + 1);
+        } else if place == 0 {
+            main.copy_from_slice(&table);
+        }
+        page.copy_from_slice(&encode_page(geometry, &main, &label));
+    }
+}
+
+// The time of a call on each side, best of the rounds, and what it answered.
+struct Figures {
+    library: f64,
+    second: f64,
+    answer: usize,
+    cycles: u64,
+}
+
+struct Both {
+    geometry: Geometry,
+    call: Call,
+    library: Side,
+    second: Side,
+    differs: bool,
+}
+
+impl Both {
+    fn new(geometry: Geometry, array: Vec<u8>) -> Both {
+        let register = vec![0; geometry.page_bytes()];
+        let chip = Chip { interface: vec![0; INTERFACE_WORDS], array, register, history: vec![0; geometry.blocks] };
+        let side = Side { state: vec![0; STATE_BYTES], chip, buffer: vec![0x5A; MAIN], sent: vec![0] };
+        let call = Call { mask: vec![0; geometry.block_bytes()], fates: Vec::new(), allowed: u32::MAX };
+        Both { geometry, call, library: side.clone(), second: side, differs: false }
+    }
+
+    // Whether the sides differ in anything but the array.
+    fn parted(&self) -> bool {
+        let (a, b) = (&self.library, &self.second);
+        let chips = a.chip.interface != b.chip.interface || a.chip.register != b.chip.register || a.chip.history != b.chip.history;
+        chips || a.state != b.state || a.buffer != b.buffer || a.sent != b.sent
+    }
+
+    // The calls of each round on both sides, the library first.
+    fn measure(&mut self, rounds: usize, requests: impl Fn(usize) -> Vec<Request>) -> Figures {
+        let mut figures = Figures { library: f64::MAX, second: f64::MAX, answer: 0, cycles: 0 };
+        for round in 0..rounds {
+            let requests = requests(round);
+            let count = requests.len() as f64;
+            let mut answers = (0, 0);
+            let start = now();
+            for request in &requests {
+                answers.0 = answers.0.max(library(&self.geometry, request, &mut self.library, &self.call));
+            }
+            let middle = now();
+            for request in &requests {
+                answers.1 = answers.1.max(second(&self.geometry, request, &mut self.second, &self.call));
+            }
+            let end = now();
+            figures.library = figures.library.min((middle - start) / count);
+            figures.second = figures.second.min((end - middle) / count);
+            figures.answer = answers.0;
+            figures.cycles = self.library.sent[0];
+            self.differs |= answers != (0, 0) || self.parted();
+        }
+        self.differs |= self.library.chip.array != self.second.chip.array;
+        figures
+    }
+
+    fn row(&mut self, name: &str, rounds: usize, requests: impl Fn(usize) -> Vec<Request>) {
+        let f = self.measure(rounds, requests);
+        print_row(name, &f);
+    }
+}
+
+fn grouped(number: u64) -> String {
+    let digits = number.to_string();
+    let parts: Vec<&str> = digits.as_bytes().rchunks(3).rev().map(|part| std::str::from_utf8(part).unwrap()).collect();
+    parts.join(",")
+}
+
+fn shown(seconds: f64) -> String {
+    match seconds {
+        s if s < 1e-4 => format!("{:.2} µs", s * 1e6),
+        s if s < 1e-2 => format!("{:.0} µs", s * 1e6),
+        s => format!("{s:.3} s"),
+    }
+}
+
+fn print_row(name: &str, f: &Figures) {
+    let ratio = f.second / f.library;
+    let (library, second) = (shown(f.library), shown(f.second));
+    println!("| {name} | {} | {} | {library} | {second} | {ratio:.1} |", f.answer, grouped(f.cycles));
+}
+
+fn print_head(first: &str) {
+    println!("| {first} | Answer | Cycles | Library | Second implementation | Times faster |");
+    println!("|---|---|---|---|---|---|");
+}
+
+// Calls on a chip that was all FFh before it was formatted.
+fn requests() -> bool {
+    let geometry = geometry(MOST);
+    let mut both = Both::new(geometry, vec![0xFF; geometry.chip_bytes()]);
+    let last = geometry.logical - 1;
+    let writes = |round: usize| (0..20).map(|k| Request::Write { block: 20 * round + k, page: 3 }).collect();
+    let erases = |round: usize| (0..20).map(|k| Request::Erase { block: 20 * round + k }).collect();
+    print_head("Call");
+    both.row("format", 3, |_| vec![Request::Format]);
+    both.row("write of a page without an old copy", 10, writes);
+    both.row("write of a page over an old copy", 10, writes);
+    both.row("read of a page with a copy", 10, |_| (0..1000).map(|_| Request::Read { block: 0, page: 3 }).collect());
+    both.row("read of a page without a copy", 10, |_| (0..1000).map(|_| Request::Read { block: last, page: 3 }).collect());
+    both.row("erase of a logical block", 10, erases);
+    both.row("mount, most blocks erased", 3, |_| vec![Request::Mount]);
+    both.differs
+}
+
+// Mounts of chips whose pages are all whole, as the blocks double.
+fn mounts() -> bool {
+    let mut differs = false;
+    println!();
+    print_head("Blocks");
+    for blocks in [MOST / 8, MOST / 4, MOST / 2, MOST] {
+        let geometry = geometry(blocks);
+        let mut array = vec![0xFF; geometry.chip_bytes()];
+        whole_pages(&geometry, &mut array);
+        let mut both = Both::new(geometry, array);
+        both.row(&grouped(blocks as u64), 3, |_| vec![Request::Mount]);
+        differs |= both.differs;
+    }
+    differs
+}
+
+fn main() {
+    let differs = requests() | mounts();
+    if differs {
+        println!("\nThe two differ, or an answer is not 0.");
+        std::process::exit(1);
+    }
+}
