@@ -8,7 +8,7 @@ ghost use Rattle.bitmaps.specs.Bitmap.{byteOf, placeOf, bitAt, withBit, 
 pub fn byte_of(block: usize) -> usize
     ensures { λ r. ⌜ r ≡ byteOf block ⌝ }
 {
-    block / 8
+    block >> 3
 }
 
 // The bit of a block, alone in its byte.

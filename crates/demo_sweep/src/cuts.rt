@@ -79,7 +79,7 @@ fn read_all(store: Store) -> usize {
     let mut not_new = 0;
     let mut k = 0;
     while k < 8 {
-        let byte = page_byte(store, k / 4, k % 4);
+        let byte = page_byte(store, k >> 2, k & 3);
         not_old = not_old | (byte ^ old_byte(k));
         not_new = not_new | (byte ^ new_byte(k));
         k += 1;

@@ -1,9 +1,9 @@
 // The chip's geometry: its limits, its sizes, and the row and column addresses as bytes.
 ghost use mathlib.Core.Path.{_≡_};
-ghost use Prim.Native.Nat.{_+_, _*_, _/_, _%_, _<_};
+ghost use Prim.Native.Nat.{_+_, _*_, _/_, _%_, _<_, _≤_};
 ghost use mathlib.Core.Bool.{true};
 ghost use Rattle.geometry.specs.Limits.{pageCount, blockShape, valid, Valid};
-ghost use Rattle.geometry.specs.Sizes.{pageSize, blockSize, chipSize, rowCount, rowOf};
+ghost use Rattle.geometry.specs.Sizes.{pageSize, blockSize, chipSize, rowCount, rowOf, pageShift};
 
 // Numbers of one chip. `main` and `spare` are the bytes of a page; `pages` those of a block.
 pub struct Geometry {
@@ -121,12 +121,31 @@ pub fn row_of(g: Geometry, block: usize, page: usize) -> usize
     block * g.pages + page
 }
 
+// The binary logarithm of the pages of a block: rows are split by shifts, not by dividing.
+fn page_shift(pages: usize) -> u32
+    ensures { λ r. ⌜ (r ≡ pageShift pages) × (r ≤ 6) ⌝ }
+{
+    if pages == 4 {
+        return 2;
+    }
+    if pages == 8 {
+        return 3;
+    }
+    if pages == 16 {
+        return 4;
+    }
+    if pages == 32 {
+        return 5;
+    }
+    6
+}
+
 // The block that a row lies in.
 pub fn block_of_row(g: Geometry, row: usize) -> usize
     requires { ⌜ Valid g ⌝ }
     ensures { λ r. ⌜ r ≡ row / g .pages ⌝ }
 {
-    row / g.pages
+    row >> page_shift(g.pages)
 }
 
 // The page of a row within its block.
@@ -134,7 +153,7 @@ pub fn page_of_row(g: Geometry, row: usize) -> usize
     requires { ⌜ Valid g ⌝ }
     ensures { λ r. ⌜ r ≡ row % g .pages ⌝ }
 {
-    row % g.pages
+    row & (g.pages - 1)
 }
 
 // Where the bytes of a row begin in the array.

@@ -14,7 +14,7 @@ pub fn bitmap_bytes(blocks: usize) -> usize
     requires { ⌜ blocks ≤ 4096 ⌝ }
     ensures { λ r. ⌜ r ≡ bitmapBytes blocks ⌝ }
 {
-    (blocks + 7) / 8
+    (blocks + 7) >> 3
 }
 
 // Whether the main bytes of page 0 have the layout, their counts and the given geometry.
