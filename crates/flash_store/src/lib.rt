@@ -1,4 +1,6 @@
 // The store for programs in C: format, mount, read, write and erase, on numbers and lent buffers.
+mod prices;
+
 use geometry::Geometry;
 ghost use mathlib.Core.Path.{_≡_};
 ghost use Rattle.chip_array.specs.Device.{setting};

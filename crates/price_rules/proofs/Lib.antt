@@ -1,0 +1,9 @@
+pub mod RuleLaws
+pub mod FaultLaws
+pub mod CountLaws
+pub mod VerdictLaws
+pub mod SearchLaws
+pub mod CheckLaws
+pub mod PriceLaws
+pub mod WrongLaws
+pub mod RuleTests
