@@ -1,3 +1,4 @@
 pub mod KeptLaws
 pub mod LibraryLaws
 pub mod PriceLaws
+pub mod SalesLaws

@@ -1,2 +1,3 @@
 pub mod Library
 pub mod Prices
+pub mod Sales

@@ -1,5 +1,7 @@
-// The store for programs in C: format, mount, read, write and erase, on numbers and lent buffers.
+// The library for programs in C: format, mount, read, write and erase, on numbers and lent buffers; price rules; sales held against
+// each other.
 mod prices;
+mod sales;
 
 use geometry::Geometry;
 ghost use mathlib.Core.Path.{_≡_};
@@ -7,8 +9,8 @@ ghost use Rattle.chip_array.specs.Device.{setting};
 ghost use Rattle.c_buffers.specs.Buffers.{geometryOf, lent, handed, PassedOn};
 ghost use Rattle.flash_store.specs.Library.{formatResult, mountResult, readPage, writeResult, eraseResult, formattingLent, mountingLent, readHanded, readingLent, writingLent, erasingLent};
 
-// A buffer of the state, the interface or the cycles sent has the wrong length.
-const BAD_BUFFER: usize = 100;
+// A lent buffer has a length that the call cannot use.
+pub(crate) const BAD_BUFFER: usize = 100;
 
 // Formats the chip. c/flash_store.h says what is lent.
 #[no_mangle]

@@ -1,0 +1,4 @@
+pub mod Sales
+pub mod Totals
+pub mod Balance
+pub mod Next
