@@ -1,11 +1,14 @@
 // Times the library against the second implementation in differential/store.rs: the same calls on equal buffers, in turn,
-// on the part with 2,048 + 128 bytes a page, 64 pages a block and 4,096 blocks. Prints two tables in Markdown. The exit
+// on the part with 2,048 + 128 bytes a page, 64 pages a block and 4,096 blocks. Prints three tables in Markdown. The exit
 // status is 1 where an answer, the cycles sent or a byte differ, or an answer is not 0.
 
+#[path = "../differential/draws.rs"]
+mod draws;
 #[allow(dead_code)]
 #[path = "../differential/store.rs"]
 mod store;
 
+use draws::*;
 use store::*;
 
 // ---- the library ----
@@ -31,6 +34,7 @@ extern "C" {
     library_call!(flash_store_read, block: usize, page: usize, buffer: Lent<u8>, buffer_len: usize);
     library_call!(flash_store_write, block: usize, page: usize, bytes: *const u8, bytes_len: usize);
     library_call!(flash_store_erase, block: usize);
+    fn test_load_draw(last: u32) -> u32;
     fn clock_gettime(clock: i32, time: *mut [i64; 2]) -> i32;
 }
 
@@ -73,6 +77,11 @@ fn library(geometry: &Geometry, request: &Request, side: &mut Side, call: &Call)
             Request::Erase { block } => lend!(flash_store_erase, geometry, side, call, *block),
         }
     }
+}
+
+fn library_draw(last: u32) -> u32 {
+    // It takes a number and gives one; nothing is lent.
+    unsafe { test_load_draw(last) }
 }
 
 fn second(geometry: &Geometry, request: &Request, side: &mut Side, call: &Call) -> usize {
@@ -245,8 +254,67 @@ fn mounts() -> bool {
     differs
 }
 
+// ---- the test load ----
+
+const SEED: u32 = 2026;
+const LOAD_REQUESTS: usize = 10_000;
+
+// Answer and cycles of each request of a load, and the seconds that they took together.
+struct Run {
+    answered: Vec<(usize, u64)>,
+    seconds: f64,
+}
+
+impl Run {
+    fn cycles(&self) -> u64 {
+        self.answered.iter().map(|(_, cycles)| cycles).sum()
+    }
+
+    fn passed(&self) -> bool {
+        self.answered.iter().all(|(answer, _)| *answer == 0)
+    }
+
+    fn shown(&self) -> String {
+        let each_second = self.answered.len() as f64 / self.seconds;
+        format!("{} a second", grouped(each_second as u64))
+    }
+}
+
+type Perform = fn(&Geometry, &Request, &mut Side, &Call) -> usize;
+
+fn run_load(geometry: &Geometry, side: &mut Side, call: &Call, mut load: Load, perform: Perform) -> Run {
+    let mut answered = Vec::with_capacity(LOAD_REQUESTS);
+    let start = now();
+    for _ in 0..LOAD_REQUESTS {
+        let request = load.request(geometry, &mut side.buffer);
+        let answer = perform(geometry, &request, side, call);
+        answered.push((answer, side.sent[0]));
+    }
+    Run { answered, seconds: now() - start }
+}
+
+fn print_load(library: &Run, second: &Run) {
+    let ratio = second.seconds / library.seconds;
+    let (requests, cycles) = (grouped(LOAD_REQUESTS as u64), grouped(library.cycles()));
+    println!("\n| Seed | Requests | Cycles | Library | Second implementation | Times faster |");
+    println!("|---|---|---|---|---|---|");
+    println!("| {SEED} | {requests} | {cycles} | {} | {} | {ratio:.1} |", library.shown(), second.shown());
+}
+
+// The test load on a chip that was all FFh before it was formatted, each side with its own draws.
+fn loads() -> bool {
+    let geometry = geometry(MOST);
+    let mut both = Both::new(geometry, vec![0xFF; geometry.chip_bytes()]);
+    both.measure(1, |_| vec![Request::Format]);
+    let first = run_load(&geometry, &mut both.library, &both.call, Load::new(SEED, library_draw), library);
+    let other = run_load(&geometry, &mut both.second, &both.call, Load::new(SEED, drawn), second);
+    print_load(&first, &other);
+    let parted = both.parted() || both.library.chip.array != both.second.chip.array;
+    both.differs || parted || first.answered != other.answered || !first.passed()
+}
+
 fn main() {
-    let differs = requests() | mounts();
+    let differs = requests() | mounts() | loads();
     if differs {
         println!("\nThe two differ, or an answer is not 0.");
         std::process::exit(1);

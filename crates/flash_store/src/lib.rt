@@ -1,5 +1,6 @@
 // The library for programs in C: format, mount, read, write and erase, on numbers and lent buffers; price rules; sales held against
-// each other.
+// each other; the draws of the test load.
+mod load;
 mod prices;
 mod sales;
 
