@@ -1,0 +1,4 @@
+pub mod CrcLaws
+pub mod CrcTests
+pub mod PageLaws
+pub mod PageTests
