@@ -1,6 +1,8 @@
 // A test load that can be repeated: draws from a 32-bit seed, and the requests that they make.
 ghost use mathlib.Core.Path.{_≡_};
 ghost use Prim.Native.Nat.{_<_};
+ghost use mathlib.Core.Bool.{true};
+ghost use Rattle.geometry.specs.Limits.{pageCount};
 ghost use Rattle.test_load.specs.Draws.{drawn};
 ghost use Rattle.test_load.specs.Requests.{requestFrom};
 
@@ -31,7 +33,7 @@ pub fn draw(last: u32) -> u32
 // The next request of the load on a chip with this many logical blocks and pages a block.
 pub fn choose(last: u32, logical: usize, pages: usize) -> Chosen
     requires { ⌜ 0 < logical ⌝ }
-    requires { ⌜ 0 < pages ⌝ }
+    requires { ⌜ pageCount pages ≡ true ⌝ }
     ensures { λ r. ⌜ r ≡ requestFrom last logical pages ⌝ }
 {
     let kind = draw(last);
@@ -44,7 +46,7 @@ pub fn choose(last: u32, logical: usize, pages: usize) -> Chosen
         };
     }
     let third = draw(place);
-    let page = third as usize % pages;
+    let page = third as usize & (pages - 1);
     if kind & 7 < 4 {
         return Chosen {
             request: Request::Read(block, page),

@@ -1,9 +1,13 @@
 -- `test_load::choose` meets its contract. Assumes nothing.
-use Prim.Native.Nat.{ℕ, _/_, _%_, _<_, _≤_}
+use Prim.Native.Nat.{ℕ, _-_, _/_, _%_, _<_, _≤_}
+use mathlib.Core.Bool.{true}
 use mathlib.Core.Path.{_≡_, sym, ap, _∙_}
 use native.Mathlib.Omega.{arith}
 use borrow.Author.Tests.{eq-eqb, ne-eqb, lt-ltb, le-ltb}
 use lib.Bits.{bitAnd, and-mask}
+use Rattle.geometry.specs.Limits.{pageCount}
+use Rattle.geometry.proofs.LimitLaws.{page-count-bounds}
+use Rattle.geometry.proofs.ShiftLaws.{mask-remainder}
 use Rattle.test_load.specs.Draws.{drawn}
 use Rattle.test_load.specs.Requests.{chosen, requestFrom}
 use Rattle.test_load.specs.declared.Request.the-variants.{Erase, Read, Write}
@@ -24,19 +28,19 @@ module _ (last logical pages k p : ℕ) (first : k ≡ drawn last) (second : p �
   erases e =
       rw (eq-eqb (drawn last % 8) 0 (sym low ∙ e)) (ap (λ (x : ℕ). chosen (Erase (x % logical)) x) place)
 
-  module _ (t : ℕ) (third : t ≡ drawn p) where
+  module _ (count : pageCount pages ≡ true) (t : ℕ) (third : t ≡ drawn p) where
     page : t ≡ drawn (drawn (drawn last))
     page = third ∙ ap drawn place
 
-    reads : (bitAnd k 7 ≡ 0 → ⊥) → bitAnd k 7 < 4 → chosen (Read (p % logical) (t % pages)) t ≡ requestFrom last logical pages
+    reads : (bitAnd k 7 ≡ 0 → ⊥) → bitAnd k 7 < 4 → chosen (Read (p % logical) (bitAnd t (pages - 1))) t ≡ requestFrom last logical pages
     unfolding requestFrom
     reads x h =
-        rw (ne-eqb (drawn last % 8) 0 (λ e. x (low ∙ e)), lt-ltb (drawn last % 8) 4 (omega (arith, low, h)), sym page, sym place)
+        rw (ne-eqb (drawn last % 8) 0 (λ e. x (low ∙ e)), lt-ltb (drawn last % 8) 4 (omega (arith, low, h)), mask-remainder pages count t, sym page, sym place)
 
-    writes : (bitAnd k 7 ≡ 0 → ⊥) → 4 ≤ bitAnd k 7 → chosen (Write (p % logical) (t % pages) (t / 16777216)) t ≡ requestFrom last logical pages
+    writes : (bitAnd k 7 ≡ 0 → ⊥) → 4 ≤ bitAnd k 7 → chosen (Write (p % logical) (bitAnd t (pages - 1)) (t / 16777216)) t ≡ requestFrom last logical pages
     unfolding requestFrom
     writes x h =
-        rw (ne-eqb (drawn last % 8) 0 (λ e. x (low ∙ e)), le-ltb (drawn last % 8) 4 (omega (arith, low, h)), sym page, sym place)
+        rw (ne-eqb (drawn last % 8) 0 (λ e. x (low ∙ e)), le-ltb (drawn last % 8) 4 (omega (arith, low, h)), mask-remainder pages count t, sym page, sym place)
 
 draw-requires : tie.Need-draw-requires
 draw-requires c κs = search needs
@@ -61,13 +65,13 @@ draw-requires-3 c κs = search needs
 cast-page : tie.Need-cast-page
 cast-page c = search needs
 
-rem-page : tie.Need-rem-page
-rem-page c = search needs
+sub-page : tie.Need-sub-page
+sub-page c = omega (arith, page-count-bounds (c .before .before .before .before .args .pages) (c .before .before .before .before .pre .1) .0)
 
 returns-2 : tie.Need-returns-2
 returns-2 c =
     let s = c .before .before .before .before .before in
-    reads (s .args .last) (s .args .logical) (s .args .pages) _ _ (c .before .before .before .before .draw .ensures) (c .before .before .before .draw2 .ensures) _ (c .before .draw3 .ensures) (c .before .before .if1 .left) (c .if2 .taken)
+    reads (s .args .last) (s .args .logical) (s .args .pages) _ _ (c .before .before .before .before .draw .ensures) (c .before .before .before .draw2 .ensures) (s .pre .1) _ (c .before .draw3 .ensures) (c .before .before .if1 .left) (c .if2 .taken)
 
 cast-byte : tie.Need-cast-byte
 cast-byte c = search needs
@@ -75,7 +79,7 @@ cast-byte c = search needs
 returns-3 : tie.Need-returns-3
 returns-3 c =
     let s = c .before .before .before .before .before in
-    writes (s .args .last) (s .args .logical) (s .args .pages) _ _ (c .before .before .before .before .draw .ensures) (c .before .before .before .draw2 .ensures) _ (c .before .draw3 .ensures) (c .before .before .if1 .left) (c .if2 .left)
+    writes (s .args .last) (s .args .logical) (s .args .pages) _ _ (c .before .before .before .before .draw .ensures) (c .before .before .before .draw2 .ensures) (s .pre .1) _ (c .before .draw3 .ensures) (c .before .before .if1 .left) (c .if2 .left)
 
 pub choose-spec : {M : Type 1} → statement M
 choose-spec =
@@ -88,7 +92,7 @@ choose-spec =
     returns
     draw-requires-3
     cast-page
-    rem-page
+    sub-page
     returns-2
     cast-byte
     returns-3)
