@@ -1,5 +1,5 @@
 -- The signature of a copy, its numbers of four bytes, and what its sizes are judged as. Assumes nothing.
-use Prim.Native.Nat.{ℕ, _+_, _*_, _≤_}
+use Prim.Native.Nat.{ℕ, _+_, _-_, _*_, _≤_}
 use mathlib.Core.Bool.{Bool, true, false≢true}
 use mathlib.Core.List.{List, [], _∷_}
 use mathlib.Core.Path.{_≡_, refl, sym, ap, ap₂, _∙_}
@@ -9,9 +9,10 @@ use borrow.Table.Steps.{cases}
 use lib.Dec.{eqb}
 use lib.ListN.{length, getD, take, drop}
 use Rattle.bools.proofs.BoolLaws.{both}
+use Rattle.cells.specs.Part.{part}
 use Rattle.pages.specs.Layout.{numberOf}
 use Rattle.pages.proofs.ByteLaws.{pair-is, four-is}
-use Rattle.parameters.specs.Page.{signature, startsWith, signed, sizesIn, judged}
+use Rattle.parameters.specs.Page.{signature, startsWith, signed, sizesIn, firstGood, judged}
 use Rattle.parameters.specs.declared.Sizes.{Sizes}
 use Rattle.parameters.specs.declared.Told.{Told}
 
@@ -46,6 +47,12 @@ four-bytes at a b c d xs h p q r s =
     ap₂ (λ (u v : ℕ). u + 256 * v) r (s ∙ ap (λ (k : ℕ). getD xs k 0) (sym next)) ∙ sym (pair-is (at + 2) xs (omega arith)) in
     ap₂ (λ (u v : ℕ). u + 65536 * v) low high ∙ sym (four-is at xs h)
 
--- the sizes of a copy, judged
-pub first-told : (r : Told) (sizes : Sizes) (copy : List ℕ) (logical : ℕ) → sizes ≡ sizesIn copy → r ≡ judged sizes logical → r ≡ judged (sizesIn copy) logical
-first-told r sizes copy logical e f = f ∙ ap (λ (s : Sizes). judged s logical) e
+-- the sizes of the first good copy, judged
+pub first-told : (r : Told) (sizes : Sizes) (page : List ℕ) (logical place : ℕ) → place ≡ firstGood page
+    → sizes ≡ sizesIn (take (256 * place + 256 - 256 * place) (drop (256 * place) page)) → r ≡ judged sizes logical
+    → r ≡ judged (sizesIn (part (256 * firstGood page) 256 page)) logical
+first-told r sizes page logical place p e f =
+    let long : 256 * place + 256 - 256 * place ≡ 256 = omega arith in
+    f
+    ∙ ap (λ (s : Sizes). judged s logical) e
+    ∙ ap₂ (λ (n k : ℕ). judged (sizesIn (take n (drop (256 * k) page))) logical) long p

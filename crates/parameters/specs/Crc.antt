@@ -1,5 +1,5 @@
--- The integrity CRC of ONFI 1.0 (5.4.1.36): sixteen bits, polynomial 8005h, from 4F4Eh on, most significant bit first, nothing
--- reflected and nothing added at the end.
+-- The integrity CRC of the parameter page (ONFI 1.0, section 5.4.1, as 002 cites it): sixteen bits, polynomial 8005h, from 4F4Eh on,
+-- most significant bit first, nothing reflected and nothing added at the end.
 use Prim.Native.Nat.{ℕ, zero, suc, _*_, _/_, _%_, _^_}
 use mathlib.Core.Bool.{cond}
 use mathlib.Core.List.{List, [], _∷_}

@@ -1,5 +1,5 @@
 -- The parameter page: which of its three copies are good, and the sizes that the first good one tells.
-use Prim.Native.Nat.{ℕ, _+_}
+use Prim.Native.Nat.{ℕ, _*_}
 use mathlib.Core.Bool.{Bool, true, false, cond}
 use mathlib.Core.List.{List, [], _∷_}
 use lib.Dec.{eqb}
@@ -50,10 +50,12 @@ geometryOf s logical =
 unfoldable pub judged : Sizes → ℕ → Told
 judged s logical = cond (valid (geometryOf s logical)) (record { answer = 0; sizes = s }) (refusedWith 1)
 
--- the first good of the three copies, or 12 if none is
+-- the first good of the three copies: its place, 3 if none is good
+unfoldable pub firstGood : List ℕ → ℕ
+firstGood page =
+    cond (good (part 0 256 page)) 0 (cond (good (part 256 256 page)) 1 (cond (good (part 512 256 page)) 2 3))
+
+-- what it tells, or 12 if there is none
 unfoldable pub told : List ℕ → ℕ → Told
 told page logical =
-    cond (good (part 0 256 page)) (judged (sizesIn (part 0 256 page)) logical)
-    (cond (good (part 256 256 page)) (judged (sizesIn (part 256 256 page)) logical)
-    (cond (good (part 512 256 page)) (judged (sizesIn (part 512 256 page)) logical)
-    (refusedWith 12)))
+    cond (eqb (firstGood page) 3) (refusedWith 12) (judged (sizesIn (part (256 * firstGood page) 256 page)) logical)

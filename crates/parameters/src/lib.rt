@@ -3,10 +3,9 @@ use geometry::Geometry;
 ghost use mathlib.Core.Path.{_≡_};
 ghost use Prim.Native.Nat.{_+_, _≤_, _<_};
 ghost use lib.ListN.{length, take, drop};
-ghost use Rattle.cells.specs.Part.{part};
 ghost use Rattle.pages.specs.Layout.{numberOf};
 ghost use Rattle.parameters.specs.Crc.{bitInto, byteInto, integrity};
-ghost use Rattle.parameters.specs.Page.{signed, good, sizesIn, refusedWith, judged, told};
+ghost use Rattle.parameters.specs.Page.{signed, good, sizesIn, refusedWith, judged, firstGood, told};
 
 // What a copy of the parameter page tells of one logical unit, in bytes, pages and blocks.
 pub struct Sizes {
@@ -154,19 +153,33 @@ fn judge(sizes: Sizes, logical: usize) -> Told
     Told { answer: 0, sizes }
 }
 
+// The place of the first good of the three copies, 3 if none is good.
+fn first_good(parameters: &[u8]) -> usize
+    requires { ⌜ length (now parameters) ≡ 768 ⌝ }
+    ensures { λ r. ⌜ (r ≡ firstGood (now (parameters .entry))) × (r ≤ 3) ⌝ }
+{
+    if is_good(&parameters[0..256]) {
+        return 0;
+    }
+    if is_good(&parameters[256..512]) {
+        return 1;
+    }
+    if is_good(&parameters[512..768]) {
+        return 2;
+    }
+    3
+}
+
 // What the first good of the three copies tells.
 pub fn tell(parameters: &[u8], logical: usize) -> Told
     requires { ⌜ length (now parameters) ≡ 768 ⌝ }
     ensures { λ r. ⌜ r ≡ told (now (parameters .entry)) logical ⌝ }
 {
-    if is_good(&parameters[0..256]) {
-        return judge(sizes_in(&parameters[0..256]), logical);
+    let place = first_good(parameters);
+    if place == 3 {
+        return refused(NO_COPY);
     }
-    if is_good(&parameters[256..512]) {
-        return judge(sizes_in(&parameters[256..512]), logical);
-    }
-    if is_good(&parameters[512..768]) {
-        return judge(sizes_in(&parameters[512..768]), logical);
-    }
-    refused(NO_COPY)
+    let at = 256 * place;
+    let end = at + 256;
+    judge(sizes_in(&parameters[at..end]), logical)
 }
