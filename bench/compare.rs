@@ -27,8 +27,7 @@ fn library_draw(last: u32) -> u32 {
 }
 
 fn second(geometry: &Geometry, request: &Request, side: &mut Side, call: &Call) -> usize {
-    let (state, chip, buffer, sent) = (&mut side.state, &mut side.chip, &mut side.buffer, &mut side.sent);
-    store::call(geometry, request, state, chip, call, buffer, sent, &mut Watch::default())
+    store::call(geometry, request, side, call, &mut Watch::default())
 }
 
 // ---- one chip under both ----
@@ -93,7 +92,8 @@ impl Both {
     fn new(geometry: Geometry, array: Vec<u8>) -> Both {
         let register = vec![0; geometry.page_bytes()];
         let chip = Chip { interface: vec![0; INTERFACE_WORDS], array, register, history: vec![0; geometry.blocks] };
-        let side = Side { state: vec![0; STATE_BYTES], chip, buffer: vec![0x5A; MAIN], sent: vec![0] };
+        let buffer = vec![0x5A; MAIN];
+        let side = Side { state: vec![0; STATE_BYTES], chip, buffer, sent: vec![0], sizes: Vec::new() };
         let call = Call { mask: vec![0; geometry.block_bytes()], fates: Vec::new(), allowed: u32::MAX };
         Both { geometry, call, library: side.clone(), second: side, differs: false }
     }

@@ -19,6 +19,8 @@ enum {
 };
 
 static uint8_t array[BLOCK * BLOCKS], page_register[PAGE], history[BLOCKS], mask[BLOCK], page[MAIN], stack[STACK];
+static uint8_t parameters[FLASH_STORE_PARAMETER_BYTES];
+static struct flash_store_sizes sizes;
 static struct flash_store store = {
     .main = MAIN,
     .spare = SPARE,
@@ -41,7 +43,20 @@ static void mount(void) { answer = flash_store_do_mount(&store, &call); }
 static void read_page(void) { answer = flash_store_do_read(&store, &call, 0, 0, page, MAIN); }
 static void write_page(void) { answer = flash_store_do_write(&store, &call, 0, 0, page, MAIN); }
 static void erase(void) { answer = flash_store_do_erase(&store, &call, 0); }
+static void identify(void) { answer = flash_store_do_identify(&store, &call, parameters, sizeof parameters, &sizes); }
 static void nothing(void) {}
+
+/* The third copy of the parameter page is that of the small chip, with its CRC, E6D5h; the others are blank. */
+static void make_parameters(void) {
+    uint8_t *copy = parameters + 512;
+    memcpy(copy, "ONFI", 4);
+    copy[80] = MAIN;
+    copy[84] = SPARE;
+    copy[92] = PAGES;
+    copy[96] = BLOCKS;
+    copy[254] = 0xd5;
+    copy[255] = 0xe6;
+}
 
 /* The bytes of the painted stack that a function changed. */
 static size_t used(void (*function)(void)) {
@@ -74,6 +89,8 @@ int main(void) {
     int differs = 0;
     printf("\n| Call | Bytes of stack |\n|---|---|\n");
     memset(array, 0xff, sizeof array);
+    make_parameters();
+    differs |= measure("identify", identify, 776);
     differs |= measure("format", format, 354);
     differs |= measure("mount", mount, 931);
     differs |= measure("write of a page without a copy", write_page, 235);

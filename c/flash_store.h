@@ -9,8 +9,8 @@
  * Start with struct flash_store, struct flash_store_call and the functions flash_store_do_..., at the end of this file.
  *
  * Stack that a call takes, measured as docs/BENCHMARKS.md says: format under 90,000 bytes, mount under 130,000, read under
- * 65,000, write under 95,000, erase under 85,000. No call takes memory from a heap, and the library keeps nothing between
- * calls.
+ * 65,000, write under 95,000, erase under 85,000, identify under 25,000. No call takes memory from a heap, and the library
+ * keeps nothing between calls.
  */
 #ifndef FLASH_STORE_H
 #define FLASH_STORE_H
@@ -28,8 +28,9 @@ _Static_assert(sizeof(size_t) == 8, "the library is built for a size_t of 8 byte
 /* The answers, in the order in which they are tested; SILENT and CUT come as they happen, CUT first. */
 enum flash_store_answer {
     FLASH_STORE_DONE = 0,
-    FLASH_STORE_BAD_BUFFER = 100, /* state, interface or sent has the wrong length: no cycle, nothing changed */
-    FLASH_STORE_GEOMETRY = 1,     /* a limit broken, or the chip or the mask has the wrong length: no cycle, nothing changed */
+    FLASH_STORE_BAD_BUFFER = 100, /* state, interface, sent or sizes has the wrong length: no cycle, nothing changed */
+    FLASH_STORE_GEOMETRY = 1,     /* a limit broken, or the chip or the mask has the wrong length: no cycle, nothing changed;
+                                     of identify see there */
     FLASH_STORE_MOUNT_FIRST = 7,  /* state not mounted, or stopped by 8 to 11 or 255: no cycle, nothing changed */
     FLASH_STORE_ADDRESS = 2,      /* no such logical block or page: no cycle, nothing changed */
     FLASH_STORE_LENGTH = 3,       /* page buffer not main bytes long: no cycle, nothing changed */
@@ -38,6 +39,7 @@ enum flash_store_answer {
     FLASH_STORE_CLASH = 6,        /* two blocks with one number, or a copy of a logical block >= N: not mounted, chip unchanged */
     FLASH_STORE_SPENT = 9,        /* no sequence number left: stopped */
     FLASH_STORE_WORN = 8,         /* no block left: stopped */
+    FLASH_STORE_NO_SIZES = 12,    /* identify: no copy of the parameter page is good: state and chip unchanged */
     FLASH_STORE_SILENT = 10,      /* 256 status reads of one operation all busy: stopped */
     FLASH_STORE_CUT = 11,         /* the allowed cycles are used and another is due: stopped */
     FLASH_STORE_ILLEGAL = 255     /* a read, write or erase was handed the interface of a chip that is not ready: stopped
@@ -45,8 +47,9 @@ enum flash_store_answer {
 };
 
 enum {
-    FLASH_STORE_STATE_BYTES = 9248,  /* the mounted state, laid out as docs/FORMAT.md says */
-    FLASH_STORE_INTERFACE_WORDS = 11 /* the chip's command interface, laid out as docs/FORMAT.md says; all 0 at power on */
+    FLASH_STORE_STATE_BYTES = 9248,   /* the mounted state, laid out as docs/FORMAT.md says */
+    FLASH_STORE_INTERFACE_WORDS = 11, /* the chip's command interface, laid out as docs/FORMAT.md says; all 0 at power on */
+    FLASH_STORE_PARAMETER_BYTES = 768 /* the chip's parameter page: three copies of 256 bytes (002, Table 13) */
 };
 
 /* The largest allowance cuts nothing. */
@@ -119,6 +122,23 @@ size_t flash_store_erase(size_t main, size_t spare, size_t pages, size_t blocks,
                          const uint8_t *mask, size_t mask_len, const uint32_t *fates, size_t fates_len,
                          uint32_t allowed, size_t *sent, size_t sent_len, size_t block);
 
+/*
+ * Lets the chip tell its size, before it is formatted or mounted: resets it and reads its parameter page, of which the first
+ * good copy counts. Takes logical, and state to sent as above; array, page_register, history and mask may have any length.
+ *   parameters          FLASH_STORE_PARAMETER_BYTES: the parameter page that the chip puts out, lent like its other memory; with
+ *                       another length GEOMETRY, no cycle
+ *   sizes               4: set to main, spare, pages and blocks, with every answer but BAD_BUFFER; four zeros unless it is 0
+ * A copy is good if it starts with the bytes "ONFI" and its bytes 254 and 255 hold the CRC of those before them, low byte first
+ * (ONFI 1.0: polynomial 8005h, start 4F4Eh). NO_SIZES comes before GEOMETRY is tested on what was read and logical. The reading
+ * takes one fate word and cannot fail. SILENT and CUT stop the state; otherwise state and chip stay as they are, and only the
+ * interface moves on.
+ */
+size_t flash_store_identify(size_t logical, uint8_t *state, size_t state_len, size_t *interface, size_t interface_len,
+                            uint8_t *array, size_t array_len, uint8_t *page_register, size_t page_register_len,
+                            uint8_t *history, size_t history_len, const uint8_t *mask, size_t mask_len,
+                            const uint32_t *fates, size_t fates_len, uint32_t allowed, size_t *sent, size_t sent_len,
+                            const uint8_t *parameters, size_t parameters_len, size_t *sizes, size_t sizes_len);
+
 /* What stays from call to call. Set to 0 and filled in once; after that only calls change what it holds and points to. */
 struct flash_store {
     size_t main, spare, pages, blocks, logical; /* the geometry */
@@ -152,13 +172,14 @@ static inline size_t flash_store_fates_len(const struct flash_store_call *call) 
     return call->fates ? call->fates_len : 0;
 }
 
-/* The two structs as the plain calls take them. */
-#define FLASH_STORE_LENT(store, call)                                                                               \
-    (store)->main, (store)->spare, (store)->pages, (store)->blocks, (store)->logical, (store)->state,               \
-        FLASH_STORE_STATE_BYTES, (store)->interface, FLASH_STORE_INTERFACE_WORDS, (store)->array,                   \
+/* The two structs as the plain calls take them, without and with the geometry. */
+#define FLASH_STORE_MEMORY(store, call)                                                                             \
+    (store)->state, FLASH_STORE_STATE_BYTES, (store)->interface, FLASH_STORE_INTERFACE_WORDS, (store)->array,       \
         (store)->array_len, (store)->page_register, (store)->page_register_len, (store)->history,                   \
         (store)->history_len, (call)->mask, (call)->mask_len, flash_store_fates(call), flash_store_fates_len(call), \
         (call)->allowed, &(call)->sent, 1
+#define FLASH_STORE_LENT(store, call)                                                                                 \
+    (store)->main, (store)->spare, (store)->pages, (store)->blocks, (store)->logical, FLASH_STORE_MEMORY(store, call)
 
 /* Formats. */
 static inline enum flash_store_answer flash_store_do_format(struct flash_store *store, struct flash_store_call *call) {
@@ -190,7 +211,30 @@ static inline enum flash_store_answer flash_store_do_erase(struct flash_store *s
     return (enum flash_store_answer)flash_store_erase(FLASH_STORE_LENT(store, call), block);
 }
 
+/* What a chip tells of one logical unit. */
+struct flash_store_sizes {
+    size_t main, spare, pages, blocks;
+};
+
+/*
+ * Lets the chip tell its size. Of the geometry only logical need be filled in; array, page_register, history and mask are not
+ * NULL, and may have any length.
+ */
+static inline enum flash_store_answer flash_store_do_identify(struct flash_store *store, struct flash_store_call *call,
+                                                              const uint8_t *parameters, size_t parameters_len,
+                                                              struct flash_store_sizes *sizes) {
+    size_t words[4] = {0};
+    size_t answer =
+        flash_store_identify(store->logical, FLASH_STORE_MEMORY(store, call), parameters, parameters_len, words, 4);
+    sizes->main = words[0];
+    sizes->spare = words[1];
+    sizes->pages = words[2];
+    sizes->blocks = words[3];
+    return (enum flash_store_answer)answer;
+}
+
 #undef FLASH_STORE_LENT
+#undef FLASH_STORE_MEMORY
 
 #ifdef __cplusplus
 }

@@ -233,6 +233,7 @@ fn usual_cycles(geometry: &Geometry, request: &Request) -> usize {
         Request::Format => 3 + geometry.blocks * 29 + geometry.pages * page + 20,
         Request::Mount => 3 + geometry.blocks * geometry.pages * page,
         Request::Read { .. } => 10 + geometry.main,
+        Request::Identify => ASKED as usize,
         _ => 7 + geometry.pages * 2 * page,
     }
 }
@@ -256,7 +257,7 @@ pub fn random_call(random: &mut Random, geometry: &Geometry, request: &Request) 
 
 // ---- wrong arguments ----
 
-fn other_length(random: &mut Random, right: usize) -> usize {
+pub fn other_length(random: &mut Random, right: usize) -> usize {
     match random.below(5) {
         0 => 0,
         1 => right - 1,
@@ -267,13 +268,14 @@ fn other_length(random: &mut Random, right: usize) -> usize {
 }
 
 pub fn random_wrong(random: &mut Random, geometry: &Geometry) -> Wrong {
-    match random.below(7) {
+    match random.below(8) {
         0 => Wrong::State(other_length(random, STATE_BYTES)),
         1 => Wrong::Interface(other_length(random, INTERFACE_WORDS)),
         2 => Wrong::Sent(other_length(random, 1)),
         3 => Wrong::Array(other_length(random, geometry.chip_bytes())),
         4 => Wrong::Register(other_length(random, geometry.page_bytes())),
         5 => Wrong::History(other_length(random, geometry.blocks)),
+        6 => Wrong::Sizes(other_length(random, SIZE_WORDS)),
         _ => Wrong::Mask(other_length(random, geometry.block_bytes())),
     }
 }

@@ -4,6 +4,7 @@
 mod book;
 mod chips;
 mod fixed;
+mod identify;
 mod library;
 mod lists;
 mod store;
@@ -11,6 +12,7 @@ mod store;
 use book::*;
 use chips::*;
 use fixed::*;
+use identify::*;
 use library::*;
 use lists::*;
 use std::process::exit;
@@ -29,12 +31,14 @@ impl Side {
         let interface = self.chip.interface.clone();
         let (register, history) = (self.chip.register.clone(), self.chip.history.clone());
         let chip = Chip { interface, array, register, history };
-        Side { state: self.state.clone(), chip, buffer: self.buffer.clone(), sent: self.sent.clone() }
+        let (sent, sizes) = (self.sent.clone(), self.sizes.clone());
+        Side { state: self.state.clone(), chip, buffer: self.buffer.clone(), sent, sizes }
     }
 
     fn restore_lengths(&mut self, kept: &Side) {
         restore(&mut self.state, &kept.state);
         restore(&mut self.sent, &kept.sent);
+        restore(&mut self.sizes, &kept.sizes);
         restore(&mut self.chip.interface, &kept.chip.interface);
         restore(&mut self.chip.array, &kept.chip.array);
         restore(&mut self.chip.register, &kept.chip.register);
@@ -88,8 +92,8 @@ impl Random {
 
 // ---- counting and reporting ----
 
-const KINDS: [&str; 5] = ["format", "mount", "read", "write", "erase"];
-const ANSWERS: [usize; 14] = [0, 1, 2, 3, 4, 5, 6, 7, 8, 9, 10, 11, 100, 255];
+const KINDS: [&str; 6] = ["format", "mount", "read", "write", "erase", "identify"];
+const ANSWERS: [usize; 15] = [0, 1, 2, 3, 4, 5, 6, 7, 8, 9, 10, 11, 12, 100, 255];
 
 fn kind_of(request: &Request) -> usize {
     match request {
@@ -98,6 +102,7 @@ fn kind_of(request: &Request) -> usize {
         Request::Read { .. } => 2,
         Request::Write { .. } => 3,
         Request::Erase { .. } => 4,
+        Request::Identify => 5,
     }
 }
 
@@ -105,7 +110,7 @@ fn kind_of(request: &Request) -> usize {
 struct Run {
     origin: String,
     calls: usize,
-    answers: [[usize; 14]; 5],
+    answers: [[usize; 15]; 6],
     books: usize,
     entered: usize,
     progress: usize,
@@ -181,6 +186,7 @@ fn first_word(name: &str, own: &[u64], library: &[u64]) -> Option<String> {
 
 fn difference(own: &Side, library: &Side) -> Option<String> {
     first_word("sent", &own.sent, &library.sent)
+        .or_else(|| first_word("sizes", &own.sizes, &library.sizes))
         .or_else(|| first_word("interface", &own.chip.interface, &library.chip.interface))
         .or_else(|| first_difference("state", &own.state, &library.state))
         .or_else(|| first_difference("history", &own.chip.history, &library.chip.history))
@@ -191,7 +197,7 @@ fn difference(own: &Side, library: &Side) -> Option<String> {
 
 fn print_arguments(geometry: &Geometry, request: &Request, call: &Call, before: &Side) {
     println!("{geometry:?} {request:?} allowed {} fates {:X?}", call.allowed, call.fates);
-    println!("interface {:?} sent {:?}", before.chip.interface, before.sent);
+    println!("interface {:?} sent {:?} sizes {:?}", before.chip.interface, before.sent, before.sizes);
     for (name, bytes) in [
         ("mask", &call.mask),
         ("buffer", &before.buffer),
@@ -221,6 +227,7 @@ enum Wrong {
     State(usize),
     Interface(usize),
     Sent(usize),
+    Sizes(usize),
     Array(usize),
     Register(usize),
     History(usize),
@@ -235,7 +242,8 @@ impl World {
             register: vec![0; geometry.page_bytes()],
             history: vec![0; geometry.blocks],
         };
-        let own = Side { state: vec![0; STATE_BYTES], chip, buffer: Vec::new(), sent: vec![0] };
+        let (state, sizes) = (vec![0; STATE_BYTES], vec![0; SIZE_WORDS]);
+        let own = Side { state, chip, buffer: Vec::new(), sent: vec![0], sizes };
         World { geometry, library: own.clone(), own, watch: Watch::default() }
     }
 
@@ -265,6 +273,7 @@ impl World {
     fn call(&mut self, run: &mut Run, geometry: Geometry, request: &Request, call: &Call, buffer: &[u8]) -> usize {
         self.both(|side| side.buffer = buffer.to_vec());
         self.both(|side| side.sent.fill(0xABCD));
+        self.both(|side| side.sizes.fill(0xABCD));
         let before = self.own.shown_part();
         let (mask, fates) = (call.mask.clone(), call.fates.clone());
         let answer = self.own_call(&geometry, request, call);
@@ -280,10 +289,8 @@ impl World {
     }
 
     fn own_call(&mut self, geometry: &Geometry, request: &Request, call: &Call) -> usize {
-        let side = &mut self.own;
         self.watch.confirmed.clear();
-        let (state, chip, buffer, sent) = (&mut side.state, &mut side.chip, &mut side.buffer, &mut side.sent);
-        store::call(geometry, request, state, chip, call, buffer, sent, &mut self.watch)
+        store::call(geometry, request, &mut self.own, call, &mut self.watch)
     }
 
     fn right(&mut self, run: &mut Run, request: &Request, call: &Call, buffer: &[u8]) -> usize {
@@ -325,6 +332,7 @@ impl World {
             Wrong::State(length) => self.both(|side| side.state.resize(length, 0x11)),
             Wrong::Interface(length) => self.both(|side| side.chip.interface.resize(length, 1)),
             Wrong::Sent(length) => self.both(|side| side.sent.resize(length, 7)),
+            Wrong::Sizes(length) => self.both(|side| side.sizes.resize(length, 7)),
             Wrong::Array(length) => self.both(|side| side.chip.array.resize(length, 0xFF)),
             Wrong::Register(length) => self.both(|side| side.chip.register.resize(length, 0x22)),
             Wrong::History(length) => self.both(|side| side.chip.history.resize(length, 0)),

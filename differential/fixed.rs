@@ -1,5 +1,5 @@
 // The fixed selection: the paper's bench figures, then every cut, failure and silence of requests on small chips,
-// forged states and interfaces, wrong lengths, a chip with rows past sixteen bits, and random lists.
+// forged states and interfaces, wrong lengths, parameter pages, a chip with rows past sixteen bits, and random lists.
 
 use super::*;
 
@@ -17,6 +17,7 @@ pub fn fixed_selection(run: &mut Run) {
     every_bit(run);
     every_table(run);
     every_arrangement(run);
+    parameter_pages(run);
     large_chip(run);
     random_lists(run, RANDOM_CALLS, 1);
 }
@@ -30,7 +31,7 @@ fn line(world: &World, answer: usize) -> Line {
     (answer, world.own.sent[0], world.state().free_blocks(&world.geometry))
 }
 
-fn expect<T: PartialEq + std::fmt::Debug>(run: &Run, what: &str, found: T, wanted: T) {
+pub fn expect<T: PartialEq + std::fmt::Debug>(run: &Run, what: &str, found: T, wanted: T) {
     if found != wanted {
         run.fail(&format!("{what}: {found:?}, the paper says {wanted:?}"));
     }
@@ -181,7 +182,7 @@ fn bench_column(run: &mut Run) {
 
 // ---- every place of a request ----
 
-fn requests() -> [Request; 7] {
+fn requests() -> [Request; 8] {
     [
         Request::Format,
         Request::Mount,
@@ -190,6 +191,7 @@ fn requests() -> [Request; 7] {
         Request::Write { block: 1, page: 3 },
         Request::Erase { block: 0 },
         Request::Erase { block: 1 },
+        Request::Identify,
     ]
 }
 
@@ -197,7 +199,7 @@ fn requests() -> [Request; 7] {
 fn masks(world: &World, request: &Request) -> Vec<Vec<u8>> {
     let random = Random::new(77).bytes(world.geometry.block_bytes());
     match request {
-        Request::Mount | Request::Read { .. } => vec![random],
+        Request::Mount | Request::Read { .. } | Request::Identify => vec![random],
         _ => vec![random, world.mask(0xFF), world.mask(0)],
     }
 }
@@ -206,6 +208,7 @@ fn buffer_for(world: &World, request: &Request) -> Vec<u8> {
     match request {
         Request::Read { .. } => vec![0x5C; world.geometry.main],
         Request::Write { .. } => (0..world.geometry.main).map(|place| place as u8 ^ 0x69).collect(),
+        Request::Identify => parameter_page(&world.geometry),
         _ => Vec::new(),
     }
 }
@@ -393,7 +396,7 @@ fn wrong_lengths(run: &mut Run) {
     let (mut world, _) = written();
     run.origin = "wrong lengths".to_string();
     for request in requests() {
-        for kind in 0..7 {
+        for kind in 0..8 {
             for place in 0..5 {
                 let call = world.plain();
                 let buffer = buffer_for(&world, &request);
@@ -415,13 +418,15 @@ fn wrong_length(geometry: &Geometry, kind: usize, place: usize) -> Wrong {
         3 => Wrong::Array(length(geometry.chip_bytes())),
         4 => Wrong::Register(length(geometry.page_bytes())),
         5 => Wrong::History(length(geometry.blocks)),
+        6 => Wrong::Sizes(length(SIZE_WORDS)),
         _ => Wrong::Mask(length(geometry.block_bytes())),
     }
 }
 
 // ---- limits ----
 
-fn limits(run: &mut Run) {
+// Chips on both sides of each limit.
+pub fn chips_at_limits() -> Vec<Geometry> {
     let mut chips = Vec::new();
     for logical in 0..=4 {
         chips.extend((3..=6).map(|blocks| Geometry { blocks, logical, ..SMALL }));
@@ -432,7 +437,11 @@ fn limits(run: &mut Run) {
     chips.extend([191, 192, 193].map(|blocks| Geometry { blocks, ..SMALL }));
     chips.extend([4095, 4096, 4097].map(|blocks| Geometry { blocks, main: 521, ..SMALL }));
     chips.extend([4095, 4096].map(|blocks| Geometry { blocks, main: 519, ..SMALL }));
-    for geometry in chips {
+    chips
+}
+
+fn limits(run: &mut Run) {
+    for geometry in chips_at_limits() {
         at_limit(run, geometry);
     }
 }

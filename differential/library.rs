@@ -1,13 +1,13 @@
-// The library's five calls from Rust, and what one side of a comparison holds.
+// The library's six calls from Rust.
 
 use crate::store::*;
 
 type Lent<T> = *mut T;
 
 macro_rules! library_call {
-    ($name:ident $(, $extra:ident : $kind:ty)*) => {
+    ($name:ident($($number:ident),*) $(, $extra:ident : $kind:ty)*) => {
         fn $name(
-            main: usize, spare: usize, pages: usize, blocks: usize, logical: usize,
+            $($number: usize,)*
             state: Lent<u8>, state_len: usize, interface: Lent<u64>, interface_len: usize,
             array: Lent<u8>, array_len: usize, page_register: Lent<u8>, page_register_len: usize,
             history: Lent<u8>, history_len: usize, mask: *const u8, mask_len: usize,
@@ -17,27 +17,29 @@ macro_rules! library_call {
     };
 }
 
-extern "C" {
-    library_call!(flash_store_format);
-    library_call!(flash_store_mount);
-    library_call!(flash_store_read, block: usize, page: usize, buffer: Lent<u8>, buffer_len: usize);
-    library_call!(flash_store_write, block: usize, page: usize, bytes: *const u8, bytes_len: usize);
-    library_call!(flash_store_erase, block: usize);
+// A call on a chip whose geometry is known.
+macro_rules! request_call {
+    ($name:ident $(, $extra:ident : $kind:ty)*) => {
+        library_call!($name(main, spare, pages, blocks, logical) $(, $extra: $kind)*);
+    };
 }
 
-// What one side holds before and after a call.
-#[derive(Clone, PartialEq, Eq)]
-pub struct Side {
-    pub state: Vec<u8>,
-    pub chip: Chip,
-    pub buffer: Vec<u8>,
-    pub sent: Vec<u64>,
+extern "C" {
+    request_call!(flash_store_format);
+    request_call!(flash_store_mount);
+    request_call!(flash_store_read, block: usize, page: usize, buffer: Lent<u8>, buffer_len: usize);
+    request_call!(flash_store_write, block: usize, page: usize, bytes: *const u8, bytes_len: usize);
+    request_call!(flash_store_erase, block: usize);
+    library_call!(
+        flash_store_identify(logical),
+        parameters: *const u8, parameters_len: usize, sizes: Lent<u64>, sizes_len: usize
+    );
 }
 
 macro_rules! lend {
-    ($function:ident, $g:expr, $s:expr, $c:expr $(, $extra:expr)*) => {
+    ($function:ident($($number:expr),*), $s:expr, $c:expr $(, $extra:expr)*) => {
         $function(
-            $g.main, $g.spare, $g.pages, $g.blocks, $g.logical,
+            $($number,)*
             $s.state.as_mut_ptr(), $s.state.len(), $s.chip.interface.as_mut_ptr(), $s.chip.interface.len(),
             $s.chip.array.as_mut_ptr(), $s.chip.array.len(), $s.chip.register.as_mut_ptr(), $s.chip.register.len(),
             $s.chip.history.as_mut_ptr(), $s.chip.history.len(), $c.mask.as_ptr(), $c.mask.len(),
@@ -45,12 +47,16 @@ macro_rules! lend {
             $(, $extra)*
         )
     };
+    ($function:ident, $g:expr, $s:expr, $c:expr $(, $extra:expr)*) => {
+        lend!($function($g.main, $g.spare, $g.pages, $g.blocks, $g.logical), $s, $c $(, $extra)*)
+    };
 }
 
 // The library's answer.
 pub fn library(geometry: &Geometry, request: &Request, side: &mut Side, call: &Call) -> usize {
     let buffer = side.buffer.as_mut_ptr();
     let length = side.buffer.len();
+    let (sizes, words) = (side.sizes.as_mut_ptr(), side.sizes.len());
     // The buffers are as long as said and none overlaps another.
     unsafe {
         match request {
@@ -63,6 +69,10 @@ pub fn library(geometry: &Geometry, request: &Request, side: &mut Side, call: &C
                 lend!(flash_store_write, geometry, side, call, *block, *page, buffer as *const u8, length)
             }
             Request::Erase { block } => lend!(flash_store_erase, geometry, side, call, *block),
+            Request::Identify => {
+                let logical = geometry.logical;
+                lend!(flash_store_identify(logical), side, call, buffer as *const u8, length, sizes, words)
+            }
         }
     }
 }

@@ -11,11 +11,12 @@ fn random_request(random: &mut Random, geometry: &Geometry) -> Request {
         block = random.pick(&[block, geometry.logical, geometry.blocks, far, usize::MAX]);
         page = random.pick(&[page, geometry.pages, far, usize::MAX]);
     }
-    match random.below(10) {
+    match random.below(11) {
         0 | 1 => Request::Mount,
         2 | 3 | 4 => Request::Read { block, page },
         5 | 6 | 7 => Request::Write { block, page },
         8 => Request::Erase { block },
+        9 => Request::Identify,
         _ => Request::Format,
     }
 }
@@ -29,6 +30,7 @@ fn random_buffer(random: &mut Random, geometry: &Geometry, request: &Request) ->
         Request::Read { .. } => vec![0x5C; length],
         Request::Write { .. } if random.one_in(2) => vec![random.byte(); length],
         Request::Write { .. } => random.bytes(length),
+        Request::Identify => random_parameters(random, geometry),
         _ => Vec::new(),
     }
 }
@@ -50,7 +52,7 @@ fn wild_list(run: &mut Run, random: &mut Random) {
     }
 }
 
-fn forge(random: &mut Random, world: &mut World) {
+pub fn forge(random: &mut Random, world: &mut World) {
     if random.one_in(3) {
         let state = random_state(random, &world.geometry, &world.own.state);
         world.both(|side| side.state = state.clone());

@@ -12,10 +12,8 @@ use store::*;
 const SMALL: Geometry = Geometry { main: 32, spare: 16, pages: 4, blocks: 4, logical: 2 };
 
 struct Bench {
-    state: Vec<u8>,
-    chip: Chip,
+    side: Side,
     call: Call,
-    buffer: Vec<u8>,
 }
 
 impl Bench {
@@ -27,16 +25,16 @@ impl Bench {
             history: vec![0; SMALL.blocks],
         };
         let call = Call { mask: vec![0; SMALL.block_bytes()], fates: Vec::new(), allowed: u32::MAX };
-        Bench { state: vec![0; STATE_BYTES], chip, call, buffer: vec![0; SMALL.main] }
+        let buffer = vec![0; SMALL.main];
+        let side = Side { state: vec![0; STATE_BYTES], chip, buffer, sent: vec![0], sizes: Vec::new() };
+        Bench { side, call }
     }
 
     // Answer, cycles sent, and the valid unmarked blocks that hold nothing current.
     fn line(&mut self, request: &Request) -> String {
-        let mut sent = vec![0];
-        let (state, chip, buffer) = (&mut self.state, &mut self.chip, &mut self.buffer);
-        let answer = store::call(&SMALL, request, state, chip, &self.call, buffer, &mut sent, &mut Watch::default());
-        let free = State::from_bytes(&self.state).free_blocks(&SMALL);
-        format!("{answer} {} {free}", sent[0])
+        let answer = store::call(&SMALL, request, &mut self.side, &self.call, &mut Watch::default());
+        let free = State::from_bytes(&self.side.state).free_blocks(&SMALL);
+        format!("{answer} {} {free}", self.side.sent[0])
     }
 }
 
@@ -63,7 +61,7 @@ fn run(seed: u32, count: u32) -> Result<()> {
     let mut load = Load::new(seed, drawn);
     writeln!(out, "{}", bench.line(&Request::Format))?;
     for _ in 0..count {
-        let request = load.request(&SMALL, &mut bench.buffer);
+        let request = load.request(&SMALL, &mut bench.side.buffer);
         writeln!(out, "{}", bench.line(&request))?;
     }
     out.flush()

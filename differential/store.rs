@@ -1,7 +1,13 @@
-// A second implementation of the flash store: chip model, page layout, mounted state and the five requests.
+// A second implementation of the flash store: chip model, page layout, mounted state and the six requests.
+
+#[path = "parameters.rs"]
+pub mod parameters;
+
+use parameters::PARAMETER_BYTES;
 
 pub const STATE_BYTES: usize = 9248;
 pub const INTERFACE_WORDS: usize = 11;
+pub const SIZE_WORDS: usize = 4;
 pub const LAST_NUMBER: u64 = 4_294_967_295;
 
 const MOST_BLOCKS: usize = 4096;
@@ -21,6 +27,7 @@ pub const WORN: usize = 8;
 pub const SPENT: usize = 9;
 pub const SILENT: usize = 10;
 pub const CUT: usize = 11;
+pub const NO_SIZES: usize = 12;
 pub const BAD_BUFFER: usize = 100;
 pub const ILLEGAL: usize = 255;
 
@@ -87,11 +94,13 @@ pub const ERASE_ADDRESS: u64 = 5;
 pub const PROGRAM_DATA: u64 = 6;
 pub const BUSY: u64 = 7;
 pub const BUSY_STATUS: u64 = 8;
+pub const PARAMETER_ADDRESS: u64 = 9;
 
 // Operations under way.
 const READING: u64 = 1;
 const PROGRAMMING: u64 = 2;
 const ERASING: u64 = 3;
+const TELLING: u64 = 4;
 
 #[derive(Clone, PartialEq, Eq)]
 pub struct Chip {
@@ -106,6 +115,16 @@ pub struct Call {
     pub mask: Vec<u8>,
     pub fates: Vec<u32>,
     pub allowed: u32,
+}
+
+// What one side holds before and after a call. The buffer is a reader's place, a writer's bytes or the chip's parameter page.
+#[derive(Clone, PartialEq, Eq)]
+pub struct Side {
+    pub state: Vec<u8>,
+    pub chip: Chip,
+    pub buffer: Vec<u8>,
+    pub sent: Vec<u64>,
+    pub sizes: Vec<u64>,
 }
 
 // A program or erase whose confirm cycle was taken; `forbidden` says that its block was marked, listed or had failed.
@@ -150,6 +169,7 @@ impl Stop {
 struct Bus<'a> {
     geometry: Geometry,
     chip: &'a mut Chip,
+    parameters: Vec<u8>,
     call: &'a Call,
     watch: &'a mut Watch,
     sent: u64,
@@ -189,6 +209,7 @@ impl<'a> Bus<'a> {
             0x00 => self.read_command(),
             0x80 => self.setup_command(PROGRAM_ADDRESS, 0),
             0x60 => self.setup_command(ERASE_ADDRESS, 2),
+            0xEC => self.setup_command(PARAMETER_ADDRESS, 0),
             0x30 => self.read_confirm(),
             0x10 => self.program_confirm(),
             0xD0 => self.erase_confirm(),
@@ -247,6 +268,9 @@ impl<'a> Bus<'a> {
 
     fn address(&mut self, byte: u8) -> Result<(), Stop> {
         self.due()?;
+        if self.word(PHASE) == PARAMETER_ADDRESS {
+            return self.parameter_address(byte);
+        }
         if self.word(PHASE) == DATA_OUTPUT && self.word(FIRST_COLUMN) == self.word(NEXT_COLUMN) {
             self.start_address(READ_ADDRESS, 0);
         }
@@ -268,6 +292,18 @@ impl<'a> Bus<'a> {
         if count == 4 && phase == PROGRAM_ADDRESS {
             self.set(PHASE, PROGRAM_DATA);
         }
+        Ok(())
+    }
+
+    // The one address byte of ECh, which starts the operation.
+    fn parameter_address(&mut self, byte: u8) -> Result<(), Stop> {
+        if byte != 0 {
+            return self.illegal();
+        }
+        self.set(COUNT, 1);
+        self.set(FIRST_COLUMN, 0);
+        self.set(NEXT_COLUMN, 0);
+        self.start(TELLING);
         Ok(())
     }
 
@@ -297,7 +333,8 @@ impl<'a> Bus<'a> {
         self.set(PHASE, BUSY);
         self.set(OPERATION, operation);
         self.set(BUSY_LEFT, (fate & 0xFFFF) as u64);
-        self.set(FAILED, if operation == READING { 0 } else { (fate >> 16 & 1) as u64 });
+        let can_fail = operation == PROGRAMMING || operation == ERASING;
+        self.set(FAILED, if can_fail { (fate >> 16 & 1) as u64 } else { 0 });
     }
 
     fn read_confirm(&mut self) -> bool {
@@ -390,11 +427,13 @@ impl<'a> Bus<'a> {
         self.due()?;
         let column = self.word(NEXT_COLUMN);
         let shown = self.word(PHASE) == DATA_OUTPUT && self.word(LOADED) == 1;
-        if !shown || column >= self.geometry.page_bytes() as u64 {
+        let bytes = if self.word(OPERATION) == TELLING { &self.parameters } else { &self.chip.register };
+        if !shown || column >= bytes.len() as u64 {
             return self.illegal();
         }
+        let byte = bytes[column as usize];
         self.set(NEXT_COLUMN, column + 1);
-        Ok(self.chip.register[column as usize])
+        Ok(byte)
     }
 
     fn status(&mut self) -> Result<u8, Stop> {
@@ -424,7 +463,7 @@ impl<'a> Bus<'a> {
     fn finish(&mut self) {
         let passed = self.word(FAILED) == 0;
         match self.word(OPERATION) {
-            READING => self.set(LOADED, 1),
+            READING | TELLING => self.set(LOADED, 1),
             PROGRAMMING if passed => self.clear_bits(false),
             ERASING if passed => {
                 self.raise_bits(false);
@@ -474,6 +513,17 @@ impl<'a> Bus<'a> {
         self.send_column(column)?;
         self.send_row(block, page)?;
         self.command(0x30)?;
+        self.put_out(count)
+    }
+
+    fn read_parameters(&mut self) -> Result<Vec<u8>, Stop> {
+        self.command(0xEC)?;
+        self.address(0x00)?;
+        self.put_out(PARAMETER_BYTES)
+    }
+
+    // What an operation loaded, once it is ready.
+    fn put_out(&mut self, count: usize) -> Result<Vec<u8>, Stop> {
         self.wait()?;
         self.command(0x00)?;
         let mut bytes = Vec::with_capacity(count);
@@ -1034,11 +1084,12 @@ pub enum Request {
     Read { block: usize, page: usize },
     Write { block: usize, page: usize },
     Erase { block: usize },
+    Identify,
 }
 
 impl Request {
     fn needs_mount(&self) -> bool {
-        !matches!(self, Request::Format | Request::Mount)
+        !matches!(self, Request::Format | Request::Mount | Request::Identify)
     }
 
     fn address_right(&self, geometry: &Geometry) -> bool {
@@ -1064,6 +1115,9 @@ fn lengths_right(geometry: &Geometry, chip: &Chip, call: &Call) -> bool {
 }
 
 fn refusal(geometry: &Geometry, request: &Request, chip: &Chip, call: &Call, state: &State, buffer: &[u8]) -> usize {
+    if matches!(request, Request::Identify) {
+        return if buffer.len() == PARAMETER_BYTES { DONE } else { GEOMETRY };
+    }
     if !geometry.within_limits() || !lengths_right(geometry, chip, call) {
         GEOMETRY
     } else if request.needs_mount() && !state.mounted(geometry) {
@@ -1077,21 +1131,26 @@ fn refusal(geometry: &Geometry, request: &Request, chip: &Chip, call: &Call, sta
     }
 }
 
-// One call; the answer. `sent` takes the cycles sent, `buffer` is a reader's place or a writer's bytes.
-pub fn call(
-    geometry: &Geometry,
-    request: &Request,
-    state: &mut Vec<u8>,
-    chip: &mut Chip,
-    call: &Call,
-    buffer: &mut Vec<u8>,
-    sent: &mut Vec<u64>,
-    watch: &mut Watch,
-) -> usize {
-    if state.len() != STATE_BYTES || chip.interface.len() != INTERFACE_WORDS || sent.len() != 1 {
+// State, interface, the cycles sent and, where the chip is to tell its size, the sizes.
+fn lent_rightly(request: &Request, side: &Side) -> bool {
+    side.state.len() == STATE_BYTES
+        && side.chip.interface.len() == INTERFACE_WORDS
+        && side.sent.len() == 1
+        && (side.sizes.len() == SIZE_WORDS || !matches!(request, Request::Identify))
+}
+
+// One call; the answer.
+pub fn call(geometry: &Geometry, request: &Request, side: &mut Side, call: &Call, watch: &mut Watch) -> usize {
+    if !lent_rightly(request, side) {
         return BAD_BUFFER;
     }
+    let Side { state, chip, buffer, sent, sizes } = side;
     sent[0] = 0;
+    let mut parameters = Vec::new();
+    if matches!(request, Request::Identify) {
+        sizes.fill(0);
+        parameters = buffer.clone();
+    }
     let before = State::from_bytes(state);
     let refused = refusal(geometry, request, chip, call, &before, buffer);
     if refused != DONE {
@@ -1101,9 +1160,9 @@ pub fn call(
         chip.interface[FATES_USED] = 0;
         chip.interface[ILLEGAL_SEEN] = 0;
     }
-    let bus = Bus { geometry: *geometry, chip, call, watch, sent: 0 };
+    let bus = Bus { geometry: *geometry, chip, parameters, call, watch, sent: 0 };
     let mut store = Store { bus, state: before, held: Vec::new(), failed: false };
-    let answer = match carry_out(&mut store, request, buffer) {
+    let answer = match carry_out(&mut store, request, buffer, sizes) {
         Ok(answer) => answer,
         Err(stop) => {
             store.state = State::blank(STOPPED);
@@ -1120,7 +1179,7 @@ fn reads_blank(request: &Request, state: &State) -> bool {
     matches!(request, Request::Read { block, .. } if state.map[*block] == EMPTY)
 }
 
-fn carry_out(store: &mut Store, request: &Request, buffer: &mut Vec<u8>) -> Result<usize, Stop> {
+fn carry_out(store: &mut Store, request: &Request, buffer: &mut Vec<u8>, sizes: &mut [u64]) -> Result<usize, Stop> {
     match request {
         Request::Format => store.format()?,
         Request::Mount => return mount(store),
@@ -1130,8 +1189,23 @@ fn carry_out(store: &mut Store, request: &Request, buffer: &mut Vec<u8>) -> Resu
             store.replace(&Filling::Copy { logical: *block, page: Some((*page, &bytes)) })?
         }
         Request::Erase { block } => store.replace(&Filling::Copy { logical: *block, page: None })?,
+        Request::Identify => return identify(store, sizes),
     }
     Ok(DONE)
+}
+
+// The chip tells its size; the state stays.
+fn identify(store: &mut Store, sizes: &mut [u64]) -> Result<usize, Stop> {
+    store.bus.reset()?;
+    let page = store.bus.read_parameters()?;
+    match parameters::told(&page, store.geometry().logical) {
+        Ok(told) => {
+            let words = [told.main, told.spare, told.pages, told.blocks];
+            sizes.copy_from_slice(&words.map(|word| word as u64));
+            Ok(DONE)
+        }
+        Err(answer) => Ok(answer),
+    }
 }
 
 fn mount(store: &mut Store) -> Result<usize, Stop> {

@@ -10,10 +10,10 @@ use lib.ListN.{take}
 use Rattle.geometry.specs.Sizes.{rowCount}
 use Rattle.geometry.specs.declared.Geometry.{Geometry}
 use Rattle.chip_interface.specs.declared.Interface.{Interface}
-use Rattle.chip_interface.specs.Interface.{refused, begun, statusMode, readMode, plainCommand, latched, addressed, started}
+use Rattle.chip_interface.specs.Interface.{refused, begun, statusMode, readMode, plainCommand, latched, addressed, started, parameterAddressed}
 use Rattle.chip_array.specs.Device.{Device, Setting, withInterface, illegalCycle, readStarted, programStarted, eraseStarted, lengthsFit, rowAt, completed}
-use Rattle.chip.specs.Chip.{Cycle, isConfirm, confirmable, confirmed, commanded, dataTaken, dataGiven, finished, statusRead, exec}
-use Rattle.chip.specs.Chip.Cycle.{command, address, dataIn, dataOut, status}
+use Rattle.chip.specs.Chip.{Cycle, isConfirm, confirmable, confirmed, commanded, dataTaken, dataGiven, parameterGiven, finished, statusRead, exec}
+use Rattle.chip.specs.Chip.Cycle.{command, address, dataIn, dataOut, status, parameterAddress, parameterOut}
 use Rattle.bus.specs.Line.{Legal, run}
 
 -- a cycle leaves the flag, or it leaves all but the flag
@@ -61,7 +61,7 @@ read-mode-answered i = search (arms, same, flagged)
 
 plain-answered : (code : ℕ) (i : Interface) → Answered i (plainCommand code i)
 unfolding plainCommand
-plain-answered code i = search (arms, same, flagged, begun-answered, status-mode-answered, read-mode-answered) depth 8
+plain-answered code i = search (arms, same, flagged, begun-answered, status-mode-answered, read-mode-answered) depth 9
 
 latched-answered : (g : Geometry) (b : ℕ) (i : Interface) → Answered i (latched g b i)
 unfolding latched
@@ -97,19 +97,26 @@ status-answered g d =
     arms-of _ (eqb (d .interface .phase) 1) _ _ (same-of refl)
     (arms-of _ (eqb (d .interface .phase) 8) _ _
     (arms-of _ (eqb (d .interface .busy) 0) _ _
+    (arms-of _ (eqb (d .interface .operation) 4) _ _ (same-of refl)
     (arms-of _ (lengthsFit g d) _ _
     (arms-of _ (ltb (rowAt (d .interface)) (rowCount g)) _ _ (completed-answered g d) (flagged-of refl))
-    (flagged-of refl))
+    (flagged-of refl)))
     (same-of refl))
     (flagged-of refl))
 
+parameter-answered : (b : ℕ) (fates : List ℕ) (i : Interface) → Answered i (parameterAddressed b fates i)
+unfolding parameterAddressed
+parameter-answered b fates i = search (arms, same, flagged)
+
 exec-answered : (s : Setting) (d : Device) (c : Cycle) → AnsweredOf d (exec s d c)
-unfolding exec dataTaken dataGiven
+unfolding exec dataTaken dataGiven parameterGiven
 exec-answered s d (command code) = commanded-answered code s d
 exec-answered s d (address byte) = interface-of d (addressed-answered (s .geometry) byte (d .interface))
 exec-answered s d (dataIn byte) = search (arms-of, same-of, flagged-of)
 exec-answered s d dataOut = search (arms-of, same-of, flagged-of)
 exec-answered s d status = status-answered (s .geometry) d
+exec-answered s d (parameterAddress byte) = interface-of d (parameter-answered byte (s .fates) (d .interface))
+exec-answered s d (parameterOut page) = search (arms-of, same-of, flagged-of)
 
 module _ (s : Setting) where
   -- every cycle on every chip leaves the flag as it was, or changes nothing but the flag

@@ -10,8 +10,8 @@ use Rattle.geometry.specs.declared.Geometry.{Geometry}
 use Rattle.chip_interface.specs.declared.Interface.{Interface}
 use Rattle.chip_interface.specs.Interface.{beginning, begun, statusMode, readMode, plainCommand, latched, addressed}
 use Rattle.chip_array.specs.Device.{Device, Setting}
-use Rattle.chip.specs.Chip.{Cycle, isConfirm, commanded, dataTaken, dataGiven, exec}
-use Rattle.chip.specs.Chip.Cycle.{command, address, dataIn, dataOut, status}
+use Rattle.chip.specs.Chip.{Cycle, isConfirm, commanded, dataTaken, dataGiven, parameterGiven, exec}
+use Rattle.chip.specs.Chip.Cycle.{command, address, dataIn, dataOut, status, parameterAddress, parameterOut}
 use Rattle.bus.specs.Line.{run, still, AllStill, Quiet}
 
 record Fate (k : ℕ) (i : Interface) : Type 0 where
@@ -43,7 +43,7 @@ read-mode-fate i = search (arms, kept)
 
 plain-fate : (code : ℕ) (i : Interface) → Fate (i .fate) (plainCommand code i)
 unfolding plainCommand
-plain-fate code i = search (arms, kept, begun-fate, status-mode-fate, read-mode-fate) depth 8
+plain-fate code i = search (arms, kept, begun-fate, status-mode-fate, read-mode-fate) depth 9
 
 latched-fate : (g : Geometry) (b : ℕ) (i : Interface) → Fate (i .fate) (latched g b i)
 unfolding latched
@@ -63,13 +63,15 @@ same : {d e : Device} → e .array ≡ d .array → e .history ≡ d .history �
 same a h f = record { array = a; history = h; fate = f }
 
 pub still-quiet : (s : Setting) (d : Device) (c : Cycle) → still c ≡ true → Quiet d (exec s d c)
-unfolding still exec commanded dataTaken dataGiven
+unfolding still exec commanded dataTaken dataGiven parameterGiven
 still-quiet s d (command code) h =
     rw (not-true (isConfirm code) h) (same refl refl (plain-fate code (d .interface) .fate))
 still-quiet s d (address byte) h = same refl refl (addressed-fate (s .geometry) byte (d .interface) .fate)
 still-quiet s d (dataIn byte) h = search (arms-quiet, same)
 still-quiet s d dataOut h = search (arms-quiet, same)
 still-quiet s d status h = absurd (false≢true h)
+still-quiet s d (parameterAddress byte) h = absurd (false≢true h)
+still-quiet s d (parameterOut page) h = search (arms-quiet, same)
 
 pub quiet-run : (s : Setting) (d : Device) (cs : List Cycle) → AllStill cs → Quiet d (run s d cs)
 unfolding run
@@ -98,7 +100,6 @@ unfolding still
 still-address [] = tt
 still-address (x ∷ xs) = (refl, still-address xs)
 
-pub still-out : (n : ℕ) → AllStill (replicate n dataOut)
-unfolding still
-still-out zero = tt
-still-out (suc n) = (refl, still-out n)
+pub still-repeated : (c : Cycle) → still c ≡ true → (n : ℕ) → AllStill (replicate n c)
+still-repeated c h zero = tt
+still-repeated c h (suc n) = (h, still-repeated c h n)

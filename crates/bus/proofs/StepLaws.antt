@@ -15,10 +15,10 @@ use Rattle.geometry.specs.declared.Geometry.{Geometry}
 use Rattle.geometry.specs.Sizes.{pageSize, blockSize, rowCount, columnBytes, rowBytes}
 use Rattle.cells.specs.Cells.{programmed, weakened, raised}
 use Rattle.chip_interface.specs.declared.Interface.{Interface}
-use Rattle.chip_interface.specs.Interface.{beginning, begun, inPhase, readMode, statusMode, outputResumed, plainCommand, shifted, moreAddress, fullAddress, addressFits, latched, addressed, afterReset, started}
-use Rattle.chip_array.specs.Device.{Device, Setting, device, withInterface, lengthsFit, rowAt, blockAt, pageAt, addressedPage, withPage, blockOf, withBlock, completed, readStarted, programStarted, eraseStarted}
-use Rattle.chip.specs.Chip.{exec, commanded, isConfirm, nextColumn, dataTaken, dataGiven, lessBusy, finished, statusRead, confirmable, confirmed}
-use Rattle.chip.specs.Chip.Cycle.{command, address, dataIn, dataOut, status}
+use Rattle.chip_interface.specs.Interface.{beginning, begun, inPhase, readMode, statusMode, outputResumed, plainCommand, shifted, moreAddress, fullAddress, addressFits, latched, addressed, afterReset, started, parametersStarted, parameterAddressed}
+use Rattle.chip_array.specs.Device.{Device, Setting, device, withInterface, lengthsFit, rowAt, blockAt, pageAt, addressedPage, withPage, blockOf, withBlock, pageLoaded, completed, readStarted, programStarted, eraseStarted}
+use Rattle.chip.specs.Chip.{exec, commanded, isConfirm, nextColumn, dataTaken, dataGiven, parameterGiven, lessBusy, finished, statusRead, confirmable, confirmed}
+use Rattle.chip.specs.Chip.Cycle.{command, address, dataIn, dataOut, status, parameterAddress, parameterOut}
 use Rattle.bus.specs.Line.{run}
 
 -- a phase in which address bytes are taken
@@ -115,9 +115,13 @@ module _ (s : Setting) where
   unfolding exec dataTaken
   one-in x i a r h p q = rw (eq-eqb (i .phase) 6 p, lt-ltb (i .column) (length r) q)
 
-  pub one-out : (i : Interface) (a r h : List ℕ) → i .phase ≡ 2 → i .column < length r → exec s (device i a r h) dataOut ≡ device (nextColumn i) a r h
+  pub one-out : (i : Interface) (a r h : List ℕ) → i .phase ≡ 2 → eqb (i .operation) 4 ≡ false → i .column < length r → exec s (device i a r h) dataOut ≡ device (nextColumn i) a r h
   unfolding exec dataGiven
-  one-out i a r h p q = rw (eq-eqb (i .phase) 2 p, lt-ltb (i .column) (length r) q)
+  one-out i a r h p o q = rw (eq-eqb (i .phase) 2 p, o, lt-ltb (i .column) (length r) q)
+
+  pub one-parameter : (page : List ℕ) (i : Interface) (a r h : List ℕ) → i .phase ≡ 2 → eqb (i .operation) 4 ≡ true → i .column < length page → exec s (device i a r h) (parameterOut page) ≡ device (nextColumn i) a r h
+  unfolding exec parameterGiven
+  one-parameter page i a r h p o q = rw (eq-eqb (i .phase) 2 p, o, lt-ltb (i .column) (length page) q)
 
   pub one-busy : (i : Interface) (a r h : List ℕ) → i .phase ≡ 8 → 0 < i .busy → exec s (device i a r h) status ≡ device (lessBusy i) a r h
   unfolding exec statusRead
@@ -134,12 +138,19 @@ module _ (s : Setting) where
       ∙ ap₂ (λ (k n : ℕ). device (atColumn k i) a (sets (set r (i .column) x) n xs) h) (omega arith) (add-one (i .column)))
 
   -- data out
-  pub data-given : (n : ℕ) (i : Interface) (a r h : List ℕ) → i .phase ≡ 2 → i .column + n ≤ length r → run s (device i a r h) (replicate n dataOut) ≡ device (atColumn (i .column + n) i) a r h
+  pub data-given : (n : ℕ) (i : Interface) (a r h : List ℕ) → i .phase ≡ 2 → eqb (i .operation) 4 ≡ false → i .column + n ≤ length r → run s (device i a r h) (replicate n dataOut) ≡ device (atColumn (i .column + n) i) a r h
   unfolding run
-  data-given zero i a r h p q = ap (λ (k : ℕ). device (atColumn k i) a r h) (sym (add-zero (i .column)))
-  data-given (suc n) i a r h p q =
-      ap (λ (x : Device). run s x (replicate n dataOut)) (one-out i a r h p (omega arith))
-      ∙ (data-given n (nextColumn i) a r h p (omega arith) ∙ ap (λ (k : ℕ). device (atColumn k i) a r h) (omega arith))
+  data-given zero i a r h p o q = ap (λ (k : ℕ). device (atColumn k i) a r h) (sym (add-zero (i .column)))
+  data-given (suc n) i a r h p o q =
+      ap (λ (x : Device). run s x (replicate n dataOut)) (one-out i a r h p o (omega arith))
+      ∙ (data-given n (nextColumn i) a r h p o (omega arith) ∙ ap (λ (k : ℕ). device (atColumn k i) a r h) (omega arith))
+
+  pub parameters-given : (page : List ℕ) (n : ℕ) (i : Interface) (a r h : List ℕ) → i .phase ≡ 2 → eqb (i .operation) 4 ≡ true → i .column + n ≤ length page → run s (device i a r h) (replicate n (parameterOut page)) ≡ device (atColumn (i .column + n) i) a r h
+  unfolding run
+  parameters-given page zero i a r h p o q = ap (λ (k : ℕ). device (atColumn k i) a r h) (sym (add-zero (i .column)))
+  parameters-given page (suc n) i a r h p o q =
+      ap (λ (x : Device). run s x (replicate n (parameterOut page))) (one-parameter page i a r h p o (omega arith))
+      ∙ (parameters-given page n (nextColumn i) a r h p o (omega arith) ∙ ap (λ (k : ℕ). device (atColumn k i) a r h) (omega arith))
 
   -- status reads that are answered busy
   pub busy-reads : (n : ℕ) (i : Interface) (a r h : List ℕ) → i .phase ≡ 8 → n ≤ i .busy → run s (device i a r h) (replicate n status) ≡ device (busyWith (i .busy - n) i) a r h
@@ -150,16 +161,32 @@ module _ (s : Setting) where
       ∙ (busy-reads n (lessBusy i) a r h p (omega arith) ∙ ap (λ (k : ℕ). device (busyWith k i) a r h) (omega arith))
 
   -- the status read that reports ready
-  pub ready-read : (d : Device) → d .interface .phase ≡ 8 → d .interface .busy ≡ 0 → lengthsFit (s .geometry) d ≡ true → rowAt (d .interface) < rowCount (s .geometry) → exec s d status ≡ completed (s .geometry) d
+  pub ready-read : (d : Device) → d .interface .phase ≡ 8 → d .interface .busy ≡ 0 → eqb (d .interface .operation) 4 ≡ false → lengthsFit (s .geometry) d ≡ true → rowAt (d .interface) < rowCount (s .geometry) → exec s d status ≡ completed (s .geometry) d
   unfolding exec statusRead finished
-  ready-read d p q f r =
+  ready-read d p q o f r =
       rw (
         ne-eqb (d .interface .phase) 1 (λ e. omega (arith, e)),
         eq-eqb (d .interface .phase) 8 p,
         eq-eqb (d .interface .busy) 0 q,
+        o,
         f,
         lt-ltb _ _ r,
       )
+
+  -- the one that reports the parameter page ready, with any geometry and lengths
+  pub parameters-ready : (d : Device) → d .interface .phase ≡ 8 → d .interface .busy ≡ 0 → eqb (d .interface .operation) 4 ≡ true → exec s d status ≡ withInterface (pageLoaded (d .interface)) d
+  unfolding exec statusRead finished
+  parameters-ready d p q o =
+      rw (ne-eqb (d .interface .phase) 1 (λ e. omega (arith, e)), eq-eqb (d .interface .phase) 8 p, eq-eqb (d .interface .busy) 0 q, o)
+
+  -- ECh and its address byte
+  pub begin-parameters : (d : Device) → d .interface .phase ≤ 2 → exec s d (command 236) ≡ withInterface (beginning 9 0 (d .interface)) d
+  unfolding exec commanded isConfirm plainCommand begun
+  begin-parameters d h = rw (le-leb _ _ h)
+
+  pub start-parameters : (d : Device) → d .interface .phase ≡ 9 → exec s d (parameterAddress 0) ≡ withInterface (parametersStarted (s .fates) (d .interface)) d
+  unfolding exec parameterAddressed
+  start-parameters d h = rw (eq-eqb (d .interface .phase) 9 h)
 
   -- FFh, in every phase
   pub reset-command : (d : Device) → exec s d (command 255) ≡ withInterface (afterReset (d .interface)) d

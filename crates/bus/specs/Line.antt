@@ -7,8 +7,8 @@ use lib.Dec.{eqb, ltb}
 use Rattle.chip_interface.specs.declared.Interface.{Interface}
 use Rattle.bus.specs.declared.Bus.{Bus}
 use Rattle.chip_array.specs.Device.{Device, Setting, device}
-use Rattle.chip.specs.Chip.{Cycle, exec, isConfirm, dataByte, statusShown}
-use Rattle.chip.specs.Chip.Cycle.{command, address, dataIn, dataOut, status}
+use Rattle.chip.specs.Chip.{Cycle, exec, isConfirm, dataByte, parameterByte, statusShown}
+use Rattle.chip.specs.Chip.Cycle.{command, address, dataIn, dataOut, status, parameterAddress, parameterOut}
 
 -- cut is 1 once a cycle was due and none was left
 pub record Line : Type 0 where
@@ -52,9 +52,12 @@ spentBus b i = record { interface = i; left = b .left - 1; cut = b .cut }
 unfoldable pub send : Setting → Line → Cycle → Line
 send s l c = cond (admits l) (spent l (exec s (l .chip) c)) (blocked l)
 
--- the byte that a data output cycle and a status read put out, 0 where it is not sent
+-- the byte that a data output cycle, one of the parameter page, and a status read put out, 0 where it is not sent
 unfoldable pub byteOut : Line → ℕ
 byteOut l = cond (admits l) (dataByte (l .chip)) 0
+
+unfoldable pub parameterByteOut : List ℕ → Line → ℕ
+parameterByteOut page l = cond (admits l) (parameterByte page (l .chip .interface)) 0
 
 unfoldable pub statusOut : Line → ℕ
 statusOut l = cond (admits l) (statusShown (l .chip .interface)) 0
@@ -101,6 +104,8 @@ still (address byte) = true
 still (dataIn byte) = true
 still dataOut = true
 still status = false
+still (parameterAddress byte) = false
+still (parameterOut page) = true
 
 abbrev pub AllStill : List Cycle → Type 0
 AllStill [] = Unit {0}

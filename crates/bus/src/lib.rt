@@ -6,7 +6,7 @@ ghost use mathlib.Core.List.{List};
 ghost use Prim.Native.Nat.{ℕ, _<_};
 ghost use Rattle.chip_array.specs.Device.{Setting, setting};
 ghost use Rattle.chip.specs.Chip.{Cycle};
-ghost use Rattle.bus.specs.Line.{line, goesOn, mayGo, spentBus, blockedBus, send, byteOut, statusOut, newBus};
+ghost use Rattle.bus.specs.Line.{line, goesOn, mayGo, spentBus, blockedBus, send, byteOut, parameterByteOut, statusOut, newBus};
 
 pub struct Bus {
     pub interface: Interface,
@@ -139,6 +139,39 @@ pub fn data_out(bus: Bus, register: &[u8]) -> Out
     if bus.admits() {
         let i = bus.interface;
         let shown = chip::data_out(i, register);
+        let next = shown.interface;
+        let byte = shown.byte;
+        return Out {
+            bus: bus.spend(next),
+            byte,
+        };
+    }
+    Out {
+        bus: bus.block(),
+        byte: 0,
+    }
+}
+
+// The address cycle after ECh, which takes a fate word.
+pub fn parameter_address(bus: Bus, fates: &[u32], byte: u8) -> Bus
+    ensures { λ r. ⌜ ((g : Geometry) (m a p h : List ℕ) → line r a p h ≡ send (setting g m (now (fates .entry))) (line bus a p h) (Cycle.parameterAddress byte)) ⌝ }
+{
+    if bus.admits() {
+        let i = bus.interface;
+        let next = i.parameter_address(fates, byte);
+        return bus.spend(next);
+    }
+    bus.block()
+}
+
+// A data output cycle of the parameter page. The byte counts only where the cycle was sent and allowed.
+pub fn parameter_out(bus: Bus, page: &[u8]) -> Out
+    ensures { λ r. ⌜ ((s : Setting) (a p h : List ℕ) → line (r .bus) a p h ≡ send s (line bus a p h) (Cycle.parameterOut (now (page .entry)))) ⌝ }
+    ensures { λ r. ⌜ ((a p h : List ℕ) → r .byte ≡ parameterByteOut (now (page .entry)) (line bus a p h)) ⌝ }
+{
+    if bus.admits() {
+        let i = bus.interface;
+        let shown = chip::parameter_out(i, page);
         let next = shown.interface;
         let byte = shown.byte;
         return Out {

@@ -40,16 +40,30 @@ eraseAddress row = command eraseCode ∷ rowCycles row
 abbrev pub confirmCycles : ℕ → List Cycle
 confirmCycles code = command code ∷ command statusCode ∷ []
 
--- an operation up to the status read that reports ready, from a line l: the first cycles, the confirm cycle, 70h, status reads
+-- an operation up to the status read that reports ready, from a line l: the first cycles, the cycle that starts it, 70h, status reads
+abbrev pub startedCycles : Setting → Line → List Cycle → Cycle → List Cycle
+startedCycles s l first start =
+    (first ++ (start ∷ command statusCode ∷ []))
+    ++ statusReads s (sendAll s l (first ++ (start ∷ command statusCode ∷ [])) .chip)
+
+-- one that a confirm cycle starts
 abbrev pub confirmedCycles : Setting → Line → List Cycle → ℕ → List Cycle
-confirmedCycles s l first code =
-    (first ++ confirmCycles code) ++ statusReads s (sendAll s l (first ++ confirmCycles code) .chip)
+confirmedCycles s l first code = startedCycles s l first (command code)
 
 abbrev pub programCycles : Setting → Line → ℕ → List ℕ → List Cycle
 programCycles s l row bytes = confirmedCycles s l (programData row bytes) programConfirm
 
 abbrev pub eraseCycles : Setting → Line → ℕ → List Cycle
 eraseCycles s l row = confirmedCycles s l (eraseAddress row) eraseConfirm
+
+-- cycles up to ready, and where it is ready others after them; how that ends
+abbrev pub whenReady : Setting → Line → List Cycle → List Cycle → List Cycle
+whenReady s l first rest = first ++ cond (isPassed (outcomeOf (sendAll s l first))) rest []
+
+abbrev pub whenReadyOutcome : Setting → Line → List Cycle → List Cycle → Outcome
+whenReadyOutcome s l first rest =
+    cond (isPassed (outcomeOf (sendAll s l first))) (endedAs (sendAll s l (whenReady s l first rest)))
+    (outcomeOf (sendAll s l first))
 
 -- a read: up to ready, and where it is ready 00h and n bytes out
 abbrev pub pageRead : Setting → Line → ℕ → ℕ → List Cycle
@@ -59,20 +73,20 @@ abbrev pub pageLine : Setting → Line → ℕ → ℕ → Line
 pageLine s l row column = sendAll s l (pageRead s l row column)
 
 unfoldable pub readCycles : Setting → Line → ℕ → ℕ → ℕ → List Cycle
-readCycles s l row column n =
-    pageRead s l row column
-    ++ cond (isPassed (outcomeOf (pageLine s l row column))) (command readCode ∷ replicate n dataOut) []
+readCycles s l row column n = whenReady s l (pageRead s l row column) (command readCode ∷ replicate n dataOut)
 
 unfoldable pub readOutcome : Setting → Line → ℕ → ℕ → ℕ → Outcome
 readOutcome s l row column n =
-    cond (isPassed (outcomeOf (pageLine s l row column))) (endedAs (sendAll s l (readCycles s l row column n)))
-    (outcomeOf (pageLine s l row column))
+    whenReadyOutcome s l (pageRead s l row column) (command readCode ∷ replicate n dataOut)
 
--- the bytes that n data output cycles put out
-unfoldable pub outputs : Setting → ℕ → Line → List ℕ
-outputs s zero l = []
-outputs s (suc n) l =
-    let more = outputs s n (send s l dataOut) in cond (goesOn (send s l dataOut)) (byteOut l ∷ more) []
+-- the bytes that n output cycles put out, each the one that `byte` tells of the line before it
+unfoldable pub putOut : Setting → Cycle → (Line → ℕ) → ℕ → Line → List ℕ
+putOut s output byte zero l = []
+putOut s output byte (suc n) l =
+    let more = putOut s output byte n (send s l output) in cond (goesOn (send s l output)) (byte l ∷ more) []
+
+abbrev pub outputs : Setting → ℕ → Line → List ℕ
+outputs s n l = putOut s dataOut byteOut n l
 
 unfoldable pub readOutputs : Setting → Line → ℕ → ℕ → ℕ → List ℕ
 readOutputs s l row column n =

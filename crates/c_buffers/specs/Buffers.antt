@@ -8,6 +8,7 @@ use lib.ListN.{length, getD}
 use Rattle.geometry.specs.declared.Geometry.{Geometry}
 use Rattle.chip_interface.specs.declared.Interface.{Interface}
 use Rattle.chip_array.specs.Device.{Device, device}
+use Rattle.parameters.specs.declared.Sizes.{Sizes}
 use Rattle.c_state.specs.StateBytes.{stateLength, stateBytes, bytesState}
 use Rattle.request.specs.Call.{Result}
 
@@ -34,6 +35,10 @@ interfaceOf xs =
       fate = getD xs 9 0;
       illegal = getD xs 10 0;
     }
+
+-- the sizes that a chip tells, as words
+abbrev pub sizeWords : Sizes → List ℕ
+sizeWords z = z .main ∷ z .spare ∷ z .pages ∷ z .blocks ∷ []
 
 -- what is lent to be written: the bytes of the state, the chip, and a word for the cycles sent
 pub record Lent : Type 0 where

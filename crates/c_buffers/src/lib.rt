@@ -1,5 +1,6 @@
 // What C programs lend: whether the lengths are right, the interface, what a request hands back.
 use chip_interface::Interface;
+use parameters::Sizes;
 use request::Returned;
 ghost use mathlib.Core.Path.{_≡_};
 ghost use mathlib.Core.List.{List};
@@ -8,7 +9,7 @@ ghost use lib.ListN.{length};
 ghost use Rattle.chip_array.specs.Device.{device};
 ghost use Rattle.c_state.specs.StateBytes.{stateLength, bytesState};
 ghost use Rattle.request.specs.Call.{result};
-ghost use Rattle.c_buffers.specs.Buffers.{interfaceWords, interfaceOf, lent, lengthsRight, handed, putBack};
+ghost use Rattle.c_buffers.specs.Buffers.{interfaceWords, interfaceOf, sizeWords, lent, lengthsRight, handed, putBack};
 
 // Whether the state, the interface and the cycles sent have their lengths.
 pub fn is_lent_rightly(state: usize, interface: usize, sent: usize) -> bool
@@ -59,6 +60,17 @@ pub fn write_interface(from: Interface, interface: &mut [usize])
     interface[8] = from.loaded;
     interface[9] = from.fate;
     interface[10] = from.illegal;
+}
+
+// Writes the four sizes that a chip tells.
+pub fn write_sizes(told: Sizes, sizes: &mut [usize])
+    requires { ⌜ length (now sizes) ≡ 4 ⌝ }
+    ensures { λ _. ⌜ now (sizes .exit) ≡ sizeWords told ⌝ }
+{
+    sizes[0] = told.main;
+    sizes[1] = told.spare;
+    sizes[2] = told.pages;
+    sizes[3] = told.blocks;
 }
 
 // Writes what a request hands back, and gives the answer.

@@ -4,18 +4,20 @@ use mathlib.Core.List.{List, [], _∷_, _++_}
 use lib.ListN.{replicate}
 use Rattle.chip_interface.specs.Interface.{readCode, readConfirm, programConfirm, eraseConfirm}
 use Rattle.chip.specs.Chip.{Cycle}
-use Rattle.chip.specs.Chip.Cycle.{command, address, dataIn, dataOut, status}
+use Rattle.chip.specs.Chip.Cycle.{command, address, dataIn, dataOut, status, parameterAddress, parameterOut}
 use Rattle.bus_sequences.specs.Cycles.{readAddress, programData, eraseAddress, confirmCycles}
 use Rattle.capture.specs.declared.Captured.{Captured}
 use Rattle.capture.specs.declared.Captured.the-variants.{Command, Address, DataIn, DataOut, Status, Past}
 
--- a cycle as it is captured
+-- a cycle as it is captured: the address byte of ECh and an output of the parameter page look like any other
 abbrev pub seen : Cycle → Captured
 seen (command code) = Command code
 seen (address byte) = Address byte
 seen (dataIn byte) = DataIn byte
 seen dataOut = DataOut
 seen status = Status
+seen (parameterAddress byte) = Address byte
+seen (parameterOut page) = DataOut
 
 -- the i-th cycle of a list, none past its end
 unfoldable pub cycleAt : List Cycle → ℕ → Captured

@@ -1,3 +1,4 @@
 pub mod ConfirmableLaws
 pub mod RefusedTests
 pub mod IllegalLaws
+pub mod OutputLaws

@@ -1,21 +1,25 @@
 -- What each bus cycle makes of the chip.
 use Prim.Native.Nat.{ℕ, _+_, _-_}
 use mathlib.Core.Bool.{Bool, true, false, cond}
+use mathlib.Core.List.{List}
 use lib.Dec.{eqb, ltb}
 use lib.ListN.{length, getD, set}
 use Rattle.geometry.specs.declared.Geometry.{Geometry}
 use Rattle.geometry.specs.Sizes.{blockSize, rowCount}
 use Rattle.chip_interface.specs.declared.Interface.{Interface}
-use Rattle.chip_interface.specs.Interface.{plainCommand, addressed, statusByte, readConfirm, programConfirm, eraseConfirm, programDataPhase, outputPhase, statusPhase, busyStatusPhase}
-use Rattle.chip_array.specs.Device.{Device, Setting, device, withInterface, illegalCycle, rowAt, lengthsFit, readStarted, programStarted, eraseStarted, completed}
+use Rattle.chip_interface.specs.Interface.{plainCommand, addressed, parameterAddressed, statusByte, readConfirm, programConfirm, eraseConfirm, programDataPhase, outputPhase, statusPhase, busyStatusPhase, parametersOperation}
+use Rattle.chip_array.specs.Device.{Device, Setting, device, withInterface, illegalCycle, rowAt, lengthsFit, readStarted, programStarted, eraseStarted, pageLoaded, completed}
 
--- one bus cycle
+-- one bus cycle. The last two are an address and a data output cycle on the wire: the address byte of ECh, which takes a fate
+-- word, and an output of the parameter page, which is lent
 pub data Cycle : Type 0 where
   command : ℕ → Cycle
   address : ℕ → Cycle
   dataIn : ℕ → Cycle
   dataOut : Cycle
   status : Cycle
+  parameterAddress : ℕ → Cycle
+  parameterOut : List ℕ → Cycle
 
 -- 30h, 10h, D0h
 unfoldable pub isConfirm : ℕ → Bool
@@ -51,23 +55,42 @@ dataTaken byte d =
     (illegalCycle d))
     (illegalCycle d)
 
+-- what is put out after 00h: the page register, or after ECh the parameter page
+abbrev pub outputsRegister : Interface → Bool
+outputsRegister i = cond (eqb (i .phase) outputPhase) (cond (eqb (i .operation) parametersOperation) false true) false
+
+abbrev pub outputsParameters : Interface → Bool
+outputsParameters i = cond (eqb (i .operation) parametersOperation) (eqb (i .phase) outputPhase) false
+
 -- a data output cycle: after 00h with a page in the register, up to the last column
 unfoldable pub dataGiven : Device → Device
 dataGiven d =
-    cond (eqb (d .interface .phase) outputPhase)
+    cond (outputsRegister (d .interface))
     (cond (ltb (d .interface .column) (length (d .register))) (withInterface (nextColumn (d .interface)) d) (illegalCycle d))
     (illegalCycle d)
 
 unfoldable pub dataByte : Device → ℕ
-dataByte d = cond (eqb (d .interface .phase) outputPhase) (getD (d .register) (d .interface .column) 0) 0
+dataByte d = cond (outputsRegister (d .interface)) (getD (d .register) (d .interface .column) 0) 0
+
+-- a data output cycle of the parameter page: after ECh and 00h, up to its last byte
+unfoldable pub parameterGiven : List ℕ → Device → Device
+parameterGiven page d =
+    cond (outputsParameters (d .interface))
+    (cond (ltb (d .interface .column) (length page)) (withInterface (nextColumn (d .interface)) d) (illegalCycle d))
+    (illegalCycle d)
+
+unfoldable pub parameterByte : List ℕ → Interface → ℕ
+parameterByte page i = cond (outputsParameters i) (getD page (i .column) 0) 0
 
 abbrev pub lessBusy : Interface → Interface
 lessBusy i =
     record { phase = i .phase; count = i .count; address = i .address; first = i .first; column = i .column; operation = i .operation; busy = i .busy - 1; failed = i .failed; loaded = i .loaded; fate = i .fate; illegal = i .illegal }
 
+-- the parameter page asks for no geometry
 unfoldable pub finished : Geometry → Device → Device
 finished g d =
-    cond (lengthsFit g d) (cond (ltb (rowAt (d .interface)) (rowCount g)) (completed g d) (illegalCycle d)) (illegalCycle d)
+    cond (eqb (d .interface .operation) parametersOperation) (withInterface (pageLoaded (d .interface)) d)
+    (cond (lengthsFit g d) (cond (ltb (rowAt (d .interface)) (rowCount g)) (completed g d) (illegalCycle d)) (illegalCycle d))
 
 -- a status read: after 70h
 unfoldable pub statusRead : Geometry → Device → Device
@@ -89,3 +112,5 @@ exec s d (address byte) = withInterface (addressed (s .geometry) byte (d .interf
 exec s d (dataIn byte) = dataTaken byte d
 exec s d dataOut = dataGiven d
 exec s d status = statusRead (s .geometry) d
+exec s d (parameterAddress byte) = withInterface (parameterAddressed byte (s .fates) (d .interface)) d
+exec s d (parameterOut page) = parameterGiven page d

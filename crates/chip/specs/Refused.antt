@@ -4,12 +4,12 @@ use Prim.Native.Nat.{ℕ}
 use mathlib.Core.List.{List, [], _∷_, _++_, map}
 use lib.ListN.{replicate}
 use Rattle.chip_interface.specs.declared.Interface.{Interface}
-use Rattle.chip_interface.specs.Interface.{poweredOn, readConfirm, programConfirm, eraseConfirm}
-use Rattle.chip_interface.specs.Refused.{small, readAddressed, programAddressed, eraseAddressed, statusIsShown, readBusy, programBusy, eraseBusy, busyShown, outputAt}
+use Rattle.chip_interface.specs.Interface.{poweredOn, readConfirm, programConfirm, eraseConfirm, outputPhase, parametersOperation}
+use Rattle.chip_interface.specs.Refused.{small, readAddressed, programAddressed, eraseAddressed, statusIsShown, readBusy, programBusy, eraseBusy, parametersBegun, parametersBusy, busyShown, outputAt}
 use Rattle.chip_array.specs.Device.{Device, Setting, device, setting, pageLoaded}
 use Rattle.chip_array.specs.Refused.{call, erasedChip, dataAt}
 use Rattle.chip.specs.Chip.{Cycle, exec}
-use Rattle.chip.specs.Chip.Cycle.{command, dataIn, dataOut, status}
+use Rattle.chip.specs.Chip.Cycle.{command, dataIn, dataOut, status, parameterOut}
 
 -- a call, a chip, and the cycles looked at there, each for itself
 pub record ChipRow : Type 0 where
@@ -33,6 +33,14 @@ flagsOf r = flagsAfter (r .setting) (r .chip) (r .cycles)
 
 abbrev pub allRefused : ChipRow → List ℕ
 allRefused r = map (λ (c : Cycle). 1) (r .cycles)
+
+-- the parameter page lent, and its output that has come to a column
+abbrev pub parameterPage : List ℕ
+parameterPage = replicate 768 79
+
+abbrev pub parametersAt : ℕ → Interface
+parametersAt column =
+    record { phase = outputPhase; count = 1; address = 0; first = 0; column = column; operation = parametersOperation; busy = 0; failed = 0; loaded = 1; fate = 0; illegal = 0 }
 
 -- the chip with these lengths of array, register and history, and a call with a mask of this length
 abbrev pub long : Interface → ℕ → ℕ → ℕ → Device
@@ -74,6 +82,18 @@ chipRows =
     ∷ chipAt (busyShown readBusy) (dataIn 0 ∷ dataOut ∷ [])
     ∷ chipAt (busyShown programBusy) (dataIn 0 ∷ dataOut ∷ [])
     ∷ chipAt (busyShown eraseBusy) (dataIn 0 ∷ dataOut ∷ [])
+    -- after ECh, while the parameter page is fetched, and with status shown after it
+    ∷ chipAt parametersBegun (dataIn 0 ∷ dataOut ∷ status ∷ parameterOut parameterPage ∷ [])
+    ∷ chipAt parametersBusy (dataIn 0 ∷ dataOut ∷ status ∷ parameterOut parameterPage ∷ [])
+    ∷ chipAt (busyShown parametersBusy) (dataIn 0 ∷ dataOut ∷ parameterOut parameterPage ∷ [])
+    ∷ chipAt (pageLoaded parametersBusy) (dataIn 0 ∷ dataOut ∷ parameterOut parameterPage ∷ [])
+    -- its output: no status without 70h, not the page register, nothing past the last byte; and it alone puts out the parameter page
+    ∷ chipAt (parametersAt 0) (dataIn 0 ∷ status ∷ dataOut ∷ [])
+    ∷ chipAt (parametersAt 768) (parameterOut parameterPage ∷ [])
+    ∷ chipAt (outputAt 0) (parameterOut parameterPage ∷ [])
+    ∷ chipAt poweredOn (parameterOut parameterPage ∷ [])
+    ∷ chipAt readAddressed (parameterOut parameterPage ∷ [])
+    ∷ chipAt (dataAt 0 0 48) (parameterOut parameterPage ∷ [])
     -- a status read that would report ready, where array, register or history has another length than the geometry asks
     ∷ finishedWith 767 48 4
     ∷ finishedWith 768 49 4

@@ -3,12 +3,15 @@
 use chip_interface::Interface;
 use geometry::Geometry;
 ghost use mathlib.Core.Path.{_≡_};
+ghost use mathlib.Core.Bool.{cond};
 ghost use mathlib.Core.List.{List};
 ghost use Prim.Native.Nat.{ℕ, _<_};
-ghost use lib.ListN.{length};
+ghost use lib.Dec.{ltb};
+ghost use lib.ListN.{length, getD};
 ghost use Rattle.geometry.specs.Sizes.{blockSize, rowCount};
 ghost use Rattle.chip_array.specs.Device.{device, setting, fitting, Fitting, rowAt};
-ghost use Rattle.chip.specs.Chip.{isConfirm, confirmable, confirmed, commanded, dataTaken, dataGiven, dataByte, lessBusy, finished, statusRead, statusShown};
+ghost use Rattle.chip_interface.specs.Interface.{refused};
+ghost use Rattle.chip.specs.Chip.{nextColumn, isConfirm, confirmable, confirmed, commanded, dataTaken, dataGiven, dataByte, parameterGiven, parameterByte, lessBusy, finished, statusRead, statusShown};
 
 // The interface after an output cycle, and the byte put out.
 pub struct Shown {
@@ -135,6 +138,33 @@ pub fn data_in(mut i: Interface, register: &mut [u8], byte: u8) -> Interface
     i
 }
 
+// An output cycle that is refused.
+fn nothing(i: Interface) -> Shown
+    ensures { λ r. ⌜ r ≡ record { interface = refused i; byte = 0 } ⌝ }
+{
+    Shown {
+        interface: i.refuse(),
+        byte: 0,
+    }
+}
+
+// The byte of a source at the present column, and on to the next one.
+fn put_out(i: Interface, source: &[u8]) -> Shown
+    ensures { λ r. ⌜ r .interface ≡ cond (ltb (i .column) (length (now (source .entry)))) (nextColumn i) (refused i) ⌝ }
+    ensures { λ r. ⌜ r .byte ≡ getD (now (source .entry)) (i .column) 0 ⌝ }
+{
+    let column = i.column;
+    if source.len() <= column {
+        return nothing(i);
+    }
+    let mut next = i;
+    next.column = column + 1;
+    Shown {
+        interface: next,
+        byte: source[column],
+    }
+}
+
 // A data output cycle.
 pub fn data_out(i: Interface, register: &[u8]) -> Shown
     ensures { λ r. ⌜ ((a h : List ℕ) → device (r .interface) a (now (register .entry)) h ≡ dataGiven (device i a (now (register .entry)) h)) ⌝ }
@@ -142,24 +172,29 @@ pub fn data_out(i: Interface, register: &[u8]) -> Shown
 {
     let phase = i.phase;
     if phase != chip_interface::DATA_OUT {
-        return Shown {
-            interface: i.refuse(),
-            byte: 0,
-        };
+        return nothing(i);
     }
-    let column = i.column;
-    if register.len() <= column {
-        return Shown {
-            interface: i.refuse(),
-            byte: 0,
-        };
+    let operation = i.operation;
+    if operation == chip_interface::PARAMETERS {
+        return nothing(i);
     }
-    let mut next = i;
-    next.column = column + 1;
-    Shown {
-        interface: next,
-        byte: register[column],
+    put_out(i, register)
+}
+
+// A data output cycle of the parameter page.
+pub fn parameter_out(i: Interface, page: &[u8]) -> Shown
+    ensures { λ r. ⌜ ((a p h : List ℕ) → device (r .interface) a p h ≡ parameterGiven (now (page .entry)) (device i a p h)) ⌝ }
+    ensures { λ r. ⌜ r .byte ≡ parameterByte (now (page .entry)) i ⌝ }
+{
+    let operation = i.operation;
+    if operation != chip_interface::PARAMETERS {
+        return nothing(i);
     }
+    let phase = i.phase;
+    if phase == chip_interface::DATA_OUT {
+        return put_out(i, page);
+    }
+    nothing(i)
 }
 
 fn less_busy(mut i: Interface) -> Interface
@@ -180,6 +215,10 @@ fn finish(
 ) -> Interface
     ensures { λ r. ⌜ device r (now (array .exit)) (now (register .entry)) (now (history .exit)) ≡ finished g (device i (now (array .entry)) (now (register .entry)) (now (history .entry))) ⌝ }
 {
+    let operation = i.operation;
+    if operation == chip_interface::PARAMETERS {
+        return chip_array::page_loaded(i);
+    }
     if is_fitting(g, array.len(), register.len(), history.len()) {
         let address = i.address;
         let rows = geometry::row_count(g);

@@ -117,7 +117,8 @@ pub fn confirm_erase(
     i.start(chip_interface::ERASE, fates)
 }
 
-fn page_loaded(mut i: Interface) -> Interface
+// Ready is reported after a read.
+pub fn page_loaded(mut i: Interface) -> Interface
     ensures { λ r. ⌜ r ≡ pageLoaded i ⌝ }
 {
     i.phase = chip_interface::STATUS;

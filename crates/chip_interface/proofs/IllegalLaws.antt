@@ -1,22 +1,23 @@
 -- Which commands and address bytes the interface refuses, for every state of it. Assumes nothing.
 use Prim.Native.Nat.{ℕ, _≤_}
 use mathlib.Core.Bool.{Bool, true, false, cond}
+use mathlib.Core.List.{List}
 use mathlib.Core.Path.{_≡_, refl}
 use native.Mathlib.Omega.{arith}
 use borrow.Author.Tests.{eq-eqb, ne-eqb, le-leb, lt-leb, le-ltb}
 use Rattle.geometry.specs.declared.Geometry.{Geometry}
 use Rattle.chip_interface.specs.declared.Interface.{Interface}
-use Rattle.chip_interface.specs.Interface.{refused, begun, statusMode, readMode, plainCommand, shifted, addressFits, latched, addressed}
+use Rattle.chip_interface.specs.Interface.{refused, begun, statusMode, readMode, plainCommand, shifted, addressFits, latched, addressed, parameterAddressed}
 
 cond-same : (b : Bool) (i : Interface) → cond b i i ≡ i
 cond-same true i = refl
 cond-same false i = refl
 
 module _ (i : Interface) where
-  -- every command but FFh, 70h, 00h, 80h and 60h
-  pub other-command : (code : ℕ) → (code ≡ 255 → ⊥) → (code ≡ 112 → ⊥) → (code ≡ 0 → ⊥) → (code ≡ 128 → ⊥) → (code ≡ 96 → ⊥) → plainCommand code i ≡ refused i
+  -- every command but FFh, 70h, 00h, 80h, 60h and ECh
+  pub other-command : (code : ℕ) → (code ≡ 255 → ⊥) → (code ≡ 112 → ⊥) → (code ≡ 0 → ⊥) → (code ≡ 128 → ⊥) → (code ≡ 96 → ⊥) → (code ≡ 236 → ⊥) → plainCommand code i ≡ refused i
   unfolding plainCommand
-  other-command code a b c d e = rw (ne-eqb _ _ a, ne-eqb _ _ b, ne-eqb _ _ c, ne-eqb _ _ d, ne-eqb _ _ e)
+  other-command code a b c d e f = rw (ne-eqb _ _ a, ne-eqb _ _ b, ne-eqb _ _ c, ne-eqb _ _ d, ne-eqb _ _ e, ne-eqb _ _ f)
 
   -- in the middle of an operation and while busy: all but FFh and 70h
   pub command-within : (code : ℕ) → 3 ≤ i .phase → (code ≡ 255 → ⊥) → (code ≡ 112 → ⊥) → plainCommand code i ≡ refused i
@@ -28,6 +29,21 @@ module _ (i : Interface) where
   unfolding plainCommand statusMode
   status-within h k =
       rw (lt-leb (i .phase) 2 (omega arith), ne-eqb (i .phase) 7 (λ e. omega (arith, e)), ne-eqb (i .phase) 8 (λ e. omega (arith, e)))
+
+  -- and between ECh and its address byte
+  pub status-parameters : i .phase ≡ 9 → plainCommand 112 i ≡ refused i
+  unfolding plainCommand statusMode
+  status-parameters h =
+      rw (lt-leb (i .phase) 2 (omega arith), ne-eqb (i .phase) 7 (λ e. omega (arith, e)), ne-eqb (i .phase) 8 (λ e. omega (arith, e)))
+
+  -- the address cycle of ECh anywhere but after ECh, and any byte but 00h
+  pub parameter-elsewhere : (byte : ℕ) (fates : List ℕ) → (i .phase ≡ 9 → ⊥) → parameterAddressed byte fates i ≡ refused i
+  unfolding parameterAddressed
+  parameter-elsewhere byte fates n = rw (ne-eqb _ _ n)
+
+  pub parameter-other : (byte : ℕ) (fates : List ℕ) → (byte ≡ 0 → ⊥) → parameterAddressed byte fates i ≡ refused i
+  unfolding parameterAddressed
+  parameter-other byte fates n = rw (ne-eqb _ _ n) (simp cond-same)
 
 module _ (g : Geometry) (byte : ℕ) (i : Interface) where
   -- an address byte when ready or with status shown, among data in, and while busy

@@ -2,9 +2,9 @@
 -- Assumes nothing.
 use mathlib.Core.List.{map}
 use mathlib.Core.Path.{_≡_, refl}
-use Rattle.chip_interface.specs.Interface.{begun, statusMode, readMode, plainCommand, addressFits, latched, addressed, fateWord, nextFate, started}
+use Rattle.chip_interface.specs.Interface.{begun, statusMode, readMode, plainCommand, addressFits, latched, addressed, fateWord, nextFate, started, parameterAddressed}
 use Rattle.chip_interface.specs.Refused.{flagsOf, allRefused, latching, interfaceRows}
 
 pub interface-refuses : map flagsOf interfaceRows ≡ map allRefused interfaceRows
-unfolding begun statusMode readMode plainCommand addressFits latched addressed fateWord nextFate started latching
+unfolding begun statusMode readMode plainCommand addressFits latched addressed fateWord nextFate started parameterAddressed latching
 interface-refuses = refl

@@ -39,7 +39,15 @@ busyPhase = 7
 abbrev pub busyStatusPhase : ℕ
 busyStatusPhase = 8
 
--- the commands: FFh, 70h, 00h, 80h, 60h, and the confirm cycles 30h, 10h, D0h
+-- the address byte of ECh is awaited
+abbrev pub parameterAddressPhase : ℕ
+parameterAddressPhase = 9
+
+-- the operation that fetches the parameter page; 1 read, 2 program, 3 erase
+abbrev pub parametersOperation : ℕ
+parametersOperation = 4
+
+-- the commands: FFh, 70h, 00h, 80h, 60h, ECh, and the confirm cycles 30h, 10h, D0h
 abbrev pub resetCode : ℕ
 resetCode = 255
 
@@ -54,6 +62,9 @@ programCode = 128
 
 abbrev pub eraseCode : ℕ
 eraseCode = 96
+
+abbrev pub parameterCode : ℕ
+parameterCode = 236
 
 abbrev pub readConfirm : ℕ
 readConfirm = 48
@@ -106,13 +117,15 @@ unfoldable pub readMode : Interface → Interface
 readMode i =
     cond (leb (i .phase) outputPhase) (cond (eqb (i .loaded) 1) (outputResumed i) (beginning readAddressPhase 0 i)) (refused i)
 
--- the commands that start no array operation: FFh, 70h, 00h, 80h, 60h
+-- the commands that start no array operation: FFh, 70h, 00h, 80h, 60h, ECh
 unfoldable pub plainCommand : ℕ → Interface → Interface
 plainCommand code i =
     cond (eqb code resetCode) (afterReset i)
     (cond (eqb code statusCode) (statusMode i)
     (cond (eqb code readCode) (readMode i)
-    (cond (eqb code programCode) (begun programAddressPhase 0 i) (cond (eqb code eraseCode) (begun eraseAddressPhase 2 i) (refused i)))))
+    (cond (eqb code programCode) (begun programAddressPhase 0 i)
+    (cond (eqb code eraseCode) (begun eraseAddressPhase 2 i)
+    (cond (eqb code parameterCode) (begun parameterAddressPhase 0 i) (refused i))))))
 
 -- the row and the column of a full address register
 abbrev pub rowOfAddress : ℕ → ℕ
@@ -179,6 +192,16 @@ failedFor operation word = cond (eqb operation 1) 0 (failedOf word)
 unfoldable pub started : ℕ → List ℕ → Interface → Interface
 started operation fates i =
     record { phase = busyPhase; count = i .count; address = i .address; first = i .first; column = i .column; operation = operation; busy = busyOf (fateWord fates (i .fate)); failed = failedFor operation (fateWord fates (i .fate)); loaded = 0; fate = nextFate fates (i .fate); illegal = i .illegal }
+
+-- the parameter page is fetched (operation 4): busy with a fate word, and like a read it does not fail
+abbrev pub parametersStarted : List ℕ → Interface → Interface
+parametersStarted fates i =
+    record { phase = busyPhase; count = 1; address = 0; first = 0; column = 0; operation = parametersOperation; busy = busyOf (fateWord fates (i .fate)); failed = 0; loaded = 0; fate = nextFate fates (i .fate); illegal = i .illegal }
+
+-- the address cycle after ECh: 00h alone names the parameter page
+unfoldable pub parameterAddressed : ℕ → List ℕ → Interface → Interface
+parameterAddressed byte fates i =
+    cond (eqb (i .phase) parameterAddressPhase) (cond (eqb byte 0) (parametersStarted fates i) (refused i)) (refused i)
 
 -- 80h busy, E0h passed, E1h failed
 unfoldable pub statusByte : ℕ → ℕ → ℕ

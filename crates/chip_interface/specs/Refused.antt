@@ -4,29 +4,35 @@ use Prim.Native.Nat.{ℕ}
 use mathlib.Core.List.{List, [], _∷_, _++_, map}
 use Rattle.geometry.specs.declared.Geometry.{Geometry}
 use Rattle.chip_interface.specs.declared.Interface.{Interface}
-use Rattle.chip_interface.specs.Interface.{poweredOn, plainCommand, addressed, started, outputPhase, statusCode, readCode, programCode, eraseCode}
+use Rattle.chip_interface.specs.Interface.{poweredOn, plainCommand, addressed, started, parameterAddressed, outputPhase, statusCode, readCode, programCode, eraseCode, parameterCode}
 
 abbrev pub small : Geometry
 small = record { main = 32; spare = 16; pages = 4; blocks = 4; logical = 2 }
 
--- an interface, and the commands and address bytes looked at there, each for itself
+-- an interface, and the commands, address bytes and address bytes of ECh looked at there, each for itself
 pub record InterfaceRow : Type 0 where
   pub geometry : Geometry
   pub interface : Interface
   pub commands : List ℕ
   pub addresses : List ℕ
+  pub parameterAddresses : List ℕ
 
 abbrev pub interfaceRow : Interface → List ℕ → List ℕ → InterfaceRow
-interfaceRow i cs bs = record { geometry = small; interface = i; commands = cs; addresses = bs }
+interfaceRow i cs bs =
+    record { geometry = small; interface = i; commands = cs; addresses = bs; parameterAddresses = [] }
+
+abbrev pub parameterRow : Interface → List ℕ → InterfaceRow
+parameterRow i bs = record { geometry = small; interface = i; commands = []; addresses = []; parameterAddresses = bs }
 
 -- the flag of illegal answers after each of them, and the flags where all are refused
 abbrev pub flagsOf : InterfaceRow → List ℕ
 flagsOf r =
     map (λ (c : ℕ). plainCommand c (r .interface) .illegal) (r .commands)
-    ++ map (λ (b : ℕ). addressed (r .geometry) b (r .interface) .illegal) (r .addresses)
+    ++ (map (λ (b : ℕ). addressed (r .geometry) b (r .interface) .illegal) (r .addresses)
+    ++ map (λ (b : ℕ). parameterAddressed b [] (r .interface) .illegal) (r .parameterAddresses))
 
 abbrev pub allRefused : InterfaceRow → List ℕ
-allRefused r = map (λ (c : ℕ). 1) (r .commands ++ r .addresses)
+allRefused r = map (λ (c : ℕ). 1) (r .commands ++ (r .addresses ++ r .parameterAddresses))
 
 -- the interface after a command from power on, and address bytes
 unfoldable pub latching : List ℕ → Interface → Interface
@@ -69,6 +75,13 @@ eraseBusy = started 3 [] eraseAddressed
 abbrev pub busyShown : Interface → Interface
 busyShown i = plainCommand statusCode i
 
+-- ECh sent, and its address byte
+abbrev pub parametersBegun : Interface
+parametersBegun = begunWith parameterCode []
+
+abbrev pub parametersBusy : Interface
+parametersBusy = parameterAddressed 0 [] parametersBegun
+
 -- data output that has come to a column
 abbrev pub outputAt : ℕ → Interface
 outputAt column =
@@ -76,11 +89,11 @@ outputAt column =
 
 -- every command of 002, Table 5, that the model does not have, and one that is in no table
 abbrev pub otherCodes : List ℕ
-otherCodes = 5 ∷ 17 ∷ 21 ∷ 49 ∷ 53 ∷ 63 ∷ 120 ∷ 129 ∷ 133 ∷ 144 ∷ 209 ∷ 224 ∷ 236 ∷ 239 ∷ 242 ∷ 243 ∷ 1 ∷ []
+otherCodes = 5 ∷ 17 ∷ 21 ∷ 49 ∷ 53 ∷ 63 ∷ 120 ∷ 129 ∷ 133 ∷ 144 ∷ 209 ∷ 224 ∷ 239 ∷ 242 ∷ 243 ∷ 1 ∷ []
 
 -- the commands that begin an operation
 abbrev pub startingCodes : List ℕ
-startingCodes = readCode ∷ programCode ∷ eraseCode ∷ []
+startingCodes = readCode ∷ programCode ∷ eraseCode ∷ parameterCode ∷ []
 
 abbrev pub interfaceRows : List InterfaceRow
 interfaceRows =
@@ -107,6 +120,22 @@ interfaceRows =
     ∷ interfaceRow (busyShown readBusy) startingCodes (0 ∷ [])
     ∷ interfaceRow (busyShown programBusy) startingCodes (0 ∷ [])
     ∷ interfaceRow (busyShown eraseBusy) startingCodes (0 ∷ [])
+    -- after ECh, and while the parameter page is fetched
+    ∷ interfaceRow parametersBegun (statusCode ∷ (startingCodes ++ otherCodes)) (0 ∷ [])
+    ∷ interfaceRow parametersBusy startingCodes (0 ∷ [])
+    ∷ interfaceRow (busyShown parametersBusy) startingCodes (0 ∷ [])
+    -- the address byte of ECh: not 00h, and anywhere else
+    ∷ parameterRow parametersBegun (1 ∷ 32 ∷ 255 ∷ [])
+    ∷ parameterRow poweredOn (0 ∷ [])
+    ∷ parameterRow statusIsShown (0 ∷ [])
+    ∷ parameterRow (outputAt 0) (0 ∷ [])
+    ∷ parameterRow (begunWith readCode []) (0 ∷ [])
+    ∷ parameterRow (begunWith programCode []) (0 ∷ [])
+    ∷ parameterRow (begunWith eraseCode []) (0 ∷ [])
+    ∷ parameterRow programAddressed (0 ∷ [])
+    ∷ parameterRow readBusy (0 ∷ [])
+    ∷ parameterRow parametersBusy (0 ∷ [])
+    ∷ parameterRow (busyShown parametersBusy) (0 ∷ [])
     -- a row or a column outside the geometry, and a geometry outside its limits
     ∷ interfaceRow (begunWith readCode (0 ∷ 0 ∷ 16 ∷ 0 ∷ [])) [] (0 ∷ [])
     ∷ interfaceRow (begunWith readCode (0 ∷ 0 ∷ 0 ∷ 0 ∷ [])) [] (1 ∷ [])
@@ -117,5 +146,6 @@ interfaceRows =
       interface = begunWith readCode (0 ∷ 0 ∷ 0 ∷ 0 ∷ []);
       commands = [];
       addresses = 0 ∷ [];
+      parameterAddresses = [];
     }
     ∷ []

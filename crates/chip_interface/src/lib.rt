@@ -2,7 +2,7 @@
 use geometry::Geometry;
 ghost use mathlib.Core.Path.{_≡_};
 ghost use Prim.Native.Nat.{_%_, _<_};
-ghost use Rattle.chip_interface.specs.Interface.{poweredOn, refused, inPhase, afterReset, begun, outputResumed, statusMode, readMode, plainCommand, moreAddress, fullAddress, latched, addressed, shifted, rowOfAddress, failedOf, started, fateWord, nextFate, addressFits, statusByte};
+ghost use Rattle.chip_interface.specs.Interface.{poweredOn, refused, inPhase, afterReset, begun, outputResumed, statusMode, readMode, plainCommand, moreAddress, fullAddress, latched, addressed, shifted, rowOfAddress, failedOf, started, fateWord, nextFate, addressFits, statusByte, parametersStarted, parameterAddressed};
 
 // All fields are numbers of one width: a struct with gaps costs a store for each cycle.
 pub struct Interface {
@@ -16,13 +16,13 @@ pub struct Interface {
     pub first: usize,
     // The next column of data input or output.
     pub column: usize,
-    // The array operation under way: 1 read, 2 program, 3 erase.
+    // The operation under way: 1 read, 2 program, 3 erase, 4 the parameter page.
     pub operation: usize,
     // Status reads still to be answered busy.
     pub busy: usize,
     // Not 0 where the last program or erase failed.
     pub failed: usize,
-    // 1 where the page register holds a page that was read.
+    // 1 where a page or the parameter page was read and can be put out.
     pub loaded: usize,
     // The fate words used so far.
     pub fate: usize,
@@ -48,11 +48,15 @@ pub const BUSY: usize = 7;
 
 pub const BUSY_STATUS: usize = 8;
 
+pub const PARAMETER_ADDRESS: usize = 9;
+
 pub const READ: usize = 1;
 
 pub const PROGRAM: usize = 2;
 
 pub const ERASE: usize = 3;
+
+pub const PARAMETERS: usize = 4;
 
 fn wide(x: u8) -> usize
     ensures { λ r. ⌜ r ≡ x ⌝ }
@@ -193,6 +197,9 @@ impl Interface {
         if code == 0x60 {
             return self.begin(ERASE_ADDRESS, 2);
         }
+        if code == 0xec {
+            return self.begin(PARAMETER_ADDRESS, 0);
+        }
         self.refuse()
     }
 
@@ -285,6 +292,41 @@ impl Interface {
             self.failed = 0;
         }
         self
+    }
+
+    // The parameter page is fetched, with its fate.
+    fn start_parameters(mut self, fates: &[u32]) -> Self
+        ensures { λ r. ⌜ r ≡ parametersStarted (now (fates .entry)) self ⌝ }
+    {
+        let at = self.fate;
+        let word = fate_word(fates, at);
+        let next = next_fate(fates, at);
+        let busy = low_half(word);
+        self.phase = BUSY;
+        self.count = 1;
+        self.address = 0;
+        self.first = 0;
+        self.column = 0;
+        self.operation = PARAMETERS;
+        self.busy = busy;
+        self.failed = 0;
+        self.loaded = 0;
+        self.fate = next;
+        self
+    }
+
+    // The address cycle after ECh.
+    pub fn parameter_address(self, fates: &[u32], byte: u8) -> Self
+        ensures { λ r. ⌜ r ≡ parameterAddressed byte (now (fates .entry)) self ⌝ }
+    {
+        let now = self.phase;
+        if now != PARAMETER_ADDRESS {
+            return self.refuse();
+        }
+        if byte != 0 {
+            return self.refuse();
+        }
+        self.start_parameters(fates)
     }
 }
 

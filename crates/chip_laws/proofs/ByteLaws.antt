@@ -15,8 +15,8 @@ use Rattle.cells.specs.Part.{put}
 use Rattle.cells.proofs.CellLaws.{getD-programmed, bytes-raised, bytes-replicate, bytes-append, bytes-take, bytes-drop}
 use Rattle.cells.proofs.PartLaws.{bytes-part}
 use Rattle.chip_array.specs.Device.{Device, Setting, lengthsFit, rowAt, blockAt, addressedPage, blockOf, withPage, withBlock, readStarted, programStarted, eraseStarted, completed}
-use Rattle.chip.specs.Chip.{Cycle, isConfirm, confirmable, confirmed, commanded, dataTaken, dataGiven, finished, statusRead, exec}
-use Rattle.chip.specs.Chip.Cycle.{command, address, dataIn, dataOut, status}
+use Rattle.chip.specs.Chip.{Cycle, isConfirm, confirmable, confirmed, commanded, dataTaken, dataGiven, parameterGiven, finished, statusRead, exec}
+use Rattle.chip.specs.Chip.Cycle.{command, address, dataIn, dataOut, status, parameterAddress, parameterOut}
 use Rattle.bus.specs.Line.{run}
 
 bytes-programmed : (xs ds : List ℕ) → Bytes xs → Bytes (programmed xs ds)
@@ -72,18 +72,21 @@ module _ (s : Setting) (mask-bytes : Bytes (s .mask)) where
         arms (eqb (d .interface .phase) 1) _ _ h
         (arms (eqb (d .interface .phase) 8) _ _
         (arms (eqb (d .interface .busy) 0) _ _
-        (arms (lengthsFit (s .geometry) d) _ _ (arms (ltb (rowAt (d .interface)) (rowCount (s .geometry))) _ _ (completed-bytes (s .geometry) d h) h) h)
+        (arms (eqb (d .interface .operation) 4) _ _ h
+        (arms (lengthsFit (s .geometry) d) _ _ (arms (ltb (rowAt (d .interface)) (rowCount (s .geometry))) _ _ (completed-bytes (s .geometry) d h) h) h))
         h)
         h)
 
     pub exec-bytes : (c : Cycle) → Bytes (exec s d c .array)
-    unfolding exec dataTaken dataGiven
+    unfolding exec dataTaken dataGiven parameterGiven
     exec-bytes (command code) = commanded-bytes code
     exec-bytes (address byte) = h
     exec-bytes (dataIn byte) =
         arms (eqb (d .interface .phase) 6) _ _ (arms (ltb (d .interface .column) (length (d .register))) _ _ h h) h
     exec-bytes dataOut = search (arms, h)
     exec-bytes status = status-bytes
+    exec-bytes (parameterAddress byte) = h
+    exec-bytes (parameterOut page) = search (arms, h)
 
   pub run-bytes : (d : Device) (cs : List Cycle) → Bytes (d .array) → Bytes (run s d cs .array)
   unfolding run

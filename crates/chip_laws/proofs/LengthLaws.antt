@@ -14,8 +14,8 @@ use Rattle.cells.proofs.CellLaws.{length-programmed, length-raised}
 use Rattle.cells.proofs.PartLaws.{length-part, length-put}
 use Rattle.chip_array.specs.Device.{Device, Setting, Fitting, lengthsFit, rowAt, blockAt, addressedPage, blockOf, withPage, withBlock, readStarted, programStarted, eraseStarted, completed}
 use Rattle.chip_array.proofs.DeviceLaws.{fits}
-use Rattle.chip.specs.Chip.{Cycle, isConfirm, confirmable, confirmed, commanded, dataTaken, dataGiven, finished, statusRead, exec}
-use Rattle.chip.specs.Chip.Cycle.{command, address, dataIn, dataOut, status}
+use Rattle.chip.specs.Chip.{Cycle, isConfirm, confirmable, confirmed, commanded, dataTaken, dataGiven, parameterGiven, finished, statusRead, exec}
+use Rattle.chip.specs.Chip.Cycle.{command, address, dataIn, dataOut, status, parameterAddress, parameterOut}
 use Rattle.chip.proofs.ConfirmableLaws.{confirms}
 use Rattle.bus.specs.Line.{run}
 use Rattle.chip_laws.specs.Lengths.{SameLengths}
@@ -92,20 +92,23 @@ module _ (s : Setting) (d : Device) where
       arms d (eqb (d .interface .phase) 1) _ _ (same refl refl refl)
       (arms d (eqb (d .interface .phase) 8) _ _
       (arms d (eqb (d .interface .busy) 0) _ _
+      (arms d (eqb (d .interface .operation) 4) _ _ (same refl refl refl)
       (arms-where d (lengthsFit (s .geometry) d) _ _
       (λ f. arms-where d (ltb (rowAt (d .interface)) (rowCount (s .geometry))) _ _ (λ on. completed-lengths (s .geometry) d (fits _ _ _ _ f) (ltb-true _ _ on)) (same refl refl refl))
-      (same refl refl refl))
+      (same refl refl refl)))
       (same refl refl refl))
       (same refl refl refl))
 
   pub exec-lengths : (c : Cycle) → SameLengths d (exec s d c)
-  unfolding exec dataTaken dataGiven
+  unfolding exec dataTaken dataGiven parameterGiven
   exec-lengths (command code) = commanded-lengths code
   exec-lengths (address byte) = same refl refl refl
   exec-lengths (dataIn byte) =
       arms d (eqb (d .interface .phase) 6) _ _ (arms d (ltb (d .interface .column) (length (d .register))) _ _ (same refl (length-set (d .register) (d .interface .column) byte) refl) (same refl refl refl)) (same refl refl refl)
   exec-lengths dataOut = search (arms, same)
   exec-lengths status = status-lengths
+  exec-lengths (parameterAddress byte) = same refl refl refl
+  exec-lengths (parameterOut page) = search (arms, same)
 
 -- a chip that fits a geometry fits it after any cycles, and one that does not, does not
 pub lengths-fit : (g : Geometry) {d e : Device} → SameLengths d e → lengthsFit g e ≡ lengthsFit g d

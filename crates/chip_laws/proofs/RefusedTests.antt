@@ -3,10 +3,10 @@
 use mathlib.Core.List.{List, [], _∷_, map}
 use mathlib.Core.Path.{_≡_, refl}
 use native.Mathlib.Omega.{arith}
-use Rattle.chip_interface.specs.Interface.{begun, statusMode, readMode, plainCommand, addressFits, latched, addressed, fateWord, nextFate, started}
+use Rattle.chip_interface.specs.Interface.{begun, statusMode, readMode, plainCommand, addressFits, latched, addressed, fateWord, nextFate, started, parameterAddressed}
 use Rattle.chip_interface.specs.Refused.{latching}
 use Rattle.chip_array.specs.Device.{Device, Setting, fitting, readStarted, programStarted, eraseStarted, completed}
-use Rattle.chip.specs.Chip.{Cycle, isConfirm, confirmed, confirmable, commanded, dataTaken, dataGiven, finished, statusRead, exec}
+use Rattle.chip.specs.Chip.{Cycle, isConfirm, confirmed, confirmable, commanded, dataTaken, dataGiven, parameterGiven, finished, statusRead, exec}
 use Rattle.chip.specs.Refused.{flagsAfter}
 use Rattle.cells.specs.Cells.{programmed, weakened, raised}
 use Rattle.cells.specs.Part.{put}
@@ -15,11 +15,11 @@ use Rattle.bus.proofs.LegalLaws.{illegal-keeps, legal-run}
 use Rattle.chip_laws.specs.Refused.{Place, flags, allAs, RefusedAt, Refused, TakenAt, Taken, refusals, accepted}
 
 flags-refused : flags refusals ≡ allAs 1 refusals
-unfolding flags flagsAfter allAs latching begun statusMode readMode plainCommand addressFits latched addressed fateWord nextFate started fitting readStarted programStarted eraseStarted completed isConfirm confirmed confirmable commanded dataTaken dataGiven finished statusRead exec programmed weakened raised put run
+unfolding flags flagsAfter allAs latching begun statusMode readMode plainCommand addressFits latched addressed fateWord nextFate started parameterAddressed fitting readStarted programStarted eraseStarted completed isConfirm confirmed confirmable commanded dataTaken dataGiven parameterGiven finished statusRead exec programmed weakened raised put run
 flags-refused = refl
 
 flags-accepted : flags accepted ≡ allAs 0 accepted
-unfolding flags flagsAfter allAs latching begun statusMode readMode plainCommand addressFits latched addressed fateWord nextFate started fitting readStarted programStarted eraseStarted completed isConfirm confirmed confirmable commanded dataTaken dataGiven finished statusRead exec programmed weakened raised put run
+unfolding flags flagsAfter allAs latching begun statusMode readMode plainCommand addressFits latched addressed fateWord nextFate started parameterAddressed fitting readStarted programStarted eraseStarted completed isConfirm confirmed confirmable commanded dataTaken dataGiven parameterGiven finished statusRead exec programmed weakened raised put run
 flags-accepted = refl
 
 module _ (s : Setting) (d : Device) where

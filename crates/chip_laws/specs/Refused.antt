@@ -4,15 +4,20 @@ use Prim.Native.Nat.{ℕ}
 use mathlib.Core.List.{List, [], _∷_, _++_, map}
 use mathlib.Core.Path.{_≡_}
 use lib.ListN.{replicate}
+use Rattle.geometry.specs.declared.Geometry.{Geometry}
 use Rattle.geometry.specs.Sizes.{columnBytes, rowBytes}
 use Rattle.chip_interface.specs.Interface.{poweredOn}
 use Rattle.chip_interface.specs.Refused.{InterfaceRow, interfaceRows, startingCodes}
 use Rattle.chip_array.specs.Device.{Device, Setting, device, setting, illegalCycle}
 use Rattle.chip_array.specs.Refused.{call, erasedChip, refusedReads, refusedPrograms, refusedErases}
 use Rattle.chip.specs.Chip.{Cycle, exec}
-use Rattle.chip.specs.Chip.Cycle.{command, address, dataIn, dataOut, status}
-use Rattle.chip.specs.Refused.{ChipRow, flagsAfter, finishedWith, chipRows}
+use Rattle.chip.specs.Chip.Cycle.{command, address, dataIn, dataOut, status, parameterAddress, parameterOut}
+use Rattle.chip.specs.Refused.{ChipRow, flagsAfter, finishedWith, parameterPage, chipRows}
 use Rattle.bus.specs.Line.{run, Legal}
+
+-- a geometry that no chip has
+abbrev pub nowhere : Geometry
+nowhere = record { main = 0; spare = 0; pages = 0; blocks = 0; logical = 0 }
 
 abbrev pub fresh : Device
 fresh = erasedChip poweredOn
@@ -81,6 +86,13 @@ erases row = command 96 ∷ map address (rowBytes row)
 abbrev pub finishes : ℕ → List Cycle
 finishes code = command code ∷ command 112 ∷ status ∷ []
 
+-- ECh, its address byte, and the parameter page shown
+abbrev pub fetches : List Cycle
+fetches = command 236 ∷ parameterAddress 0 ∷ []
+
+abbrev pub parametersShown : List Cycle
+parametersShown = fetches ++ (command 112 ∷ status ∷ command 0 ∷ [])
+
 -- a page read, shown from a column on; a page programmed; a block erased
 abbrev pub shown : ℕ → List Cycle
 shown column = reads column 0 ++ (finishes 48 ++ (command 0 ∷ []))
@@ -100,12 +112,15 @@ confirming = command 48 ∷ command 16 ∷ command 208 ∷ []
 
 -- what a busy chip refuses
 abbrev pub unlessBusy : List Cycle
-unlessBusy = starting ++ (confirming ++ (address 0 ∷ dataIn 0 ∷ dataOut ∷ []))
+unlessBusy =
+    starting
+    ++ (confirming ++ (address 0 ∷ dataIn 0 ∷ dataOut ∷ parameterAddress 0 ∷ parameterOut parameterPage ∷ []))
 
 -- the rows of the interface, the array and the chip
 abbrev pub ofInterface : InterfaceRow → Place
 ofInterface r =
-    place (setting (r .geometry) (replicate 192 0) []) (erasedChip (r .interface)) [] (map command (r .commands) ++ map address (r .addresses))
+    place (setting (r .geometry) (replicate 192 0) []) (erasedChip (r .interface)) []
+    (map command (r .commands) ++ (map address (r .addresses) ++ map parameterAddress (r .parameterAddresses)))
 
 abbrev pub ofArray : ℕ → Device → Place
 ofArray code d = place (call []) d [] (command code ∷ [])
@@ -144,6 +159,14 @@ refusals =
     ∷ place (call (2 ∷ [])) fresh (reads 0 0 ++ finishes 48) unlessBusy
     ∷ place (call (2 ∷ [])) fresh (programs 0 0 48 ++ finishes 16) unlessBusy
     ∷ place (call (2 ∷ [])) fresh (erases 0 ++ finishes 208) unlessBusy
+    ∷ place (call (2 ∷ [])) fresh (fetches ++ (command 112 ∷ status ∷ [])) unlessBusy
+    -- the parameter page: past its last byte; where a page, and where nothing was read since; after it the page register; an
+    -- address byte among its bytes
+    ∷ at (parametersShown ++ replicate 768 (parameterOut parameterPage)) (parameterOut parameterPage ∷ [])
+    ∷ at (parametersShown ++ shown 0) (parameterOut parameterPage ∷ [])
+    ∷ at (parametersShown ++ (command 255 ∷ command 0 ∷ [])) (parameterOut parameterPage ∷ [])
+    ∷ at (shown 0 ++ parametersShown) (dataOut ∷ [])
+    ∷ at (parametersShown ++ (parameterOut parameterPage ∷ [])) (address 0 ∷ parameterAddress 0 ∷ [])
     -- a page at or below the last one programmed
     ∷ at (programmed 1 ++ programs 0 1 48) (command 16 ∷ [])
     ∷ at (programmed 1 ++ programs 0 0 48) (command 16 ∷ [])
@@ -184,6 +207,16 @@ accepted =
     ∷ at (erases 0 ++ (command 208 ∷ [])) (command 112 ∷ command 255 ∷ [])
     ∷ place (call (2 ∷ [])) fresh (erases 0 ++ finishes 208) (status ∷ command 112 ∷ command 255 ∷ [])
     ∷ ofChip (finishedWith 768 48 4)
+    -- the parameter page: with any lengths and geometry, up to its last byte, from the first one again after ECh, going on after
+    -- status, and another read in the place of its first byte
+    ∷ at (command 236 ∷ []) (parameterAddress 0 ∷ command 255 ∷ [])
+    ∷ at fetches (command 112 ∷ command 255 ∷ [])
+    ∷ place (setting nowhere [] []) (device poweredOn [] [] []) (fetches ++ (command 112 ∷ [])) (status ∷ [])
+    ∷ place (setting nowhere [] []) (device poweredOn [] [] []) parametersShown (parameterOut parameterPage ∷ command 112 ∷ starting)
+    ∷ at (parametersShown ++ replicate 767 (parameterOut parameterPage)) (parameterOut parameterPage ∷ [])
+    ∷ at (parametersShown ++ (replicate 768 (parameterOut parameterPage) ++ parametersShown)) (parameterOut parameterPage ∷ [])
+    ∷ at (parametersShown ++ (parameterOut parameterPage ∷ command 112 ∷ status ∷ command 0 ∷ [])) (parameterOut parameterPage ∷ [])
+    ∷ at (parametersShown ++ shown 0) (dataOut ∷ [])
     -- FFh in the middle of an operation, and again
     ∷ at (reads 0 0) (command 255 ∷ [])
     ∷ at (programs 0 0 48) (command 255 ∷ [])

@@ -3,7 +3,7 @@ use Prim.Native.Nat.{ℕ}
 use mathlib.Core.Bool.{true, false, cond}
 use mathlib.Core.List.{List, [], _∷_}
 use mathlib.Core.Path.{_≡_, ap}
-use borrow.Author.Tests.{ne-eqb}
+use borrow.Author.Tests.{eq-eqb, ne-eqb}
 use borrow.Table.Steps.{cases}
 use lib.Dec.{eqb}
 use lib.ListN.{length}
@@ -19,9 +19,11 @@ use Rattle.request_refusals.specs.Refusals.{refusalOf}
 use Rattle.read.specs.Reading.{readingPage}
 use Rattle.read.proofs.ReadingLaws.{read-keeps}
 use Rattle.write_changes.specs.Changes.{eraseRefusal, writing, erasingLogical}
+use Rattle.identify.specs.Identify.{identifying}
 use Rattle.c_buffers.specs.Buffers.{Lent, lent, chipOf, rightly, handed, putBack, answered}
 use Rattle.c_buffers.proofs.BufferLaws.{right-long}
 use Rattle.c_buffers.proofs.InterfaceLaws.{interface-read, interface-kept}
+use Rattle.flash_store.specs.Identify.{identifyHanded, identifyingLent}
 use Rattle.flash_store.specs.Library.{formattingLent, mountingLent, readHanded, readingLent, writingLent, erasingLent}
 
 -- what was lent, with no cycle sent
@@ -68,6 +70,14 @@ module _ (s : Setting) (l : Lent) (n : ℕ) (right : rightly l ≡ true) (bytes 
       → erasingLent s l n logical ≡ handed (eraseRefusal s (chipOf l) (bytesState (l .state)) logical) (noneSent l)
   unfolding erasingLent erasingLogical
   erase-refused logical x = refused (eraseRefusal s (chipOf l) (bytesState (l .state)) logical) _ x
+
+-- 1 where the parameter page has another length, with four zeros for the sizes
+pub identify-refused : (mask fates : List ℕ) (l : Lent) (n : ℕ) (page : List ℕ) (logical : ℕ) (sizes : List ℕ) → rightly l ≡ true → Bytes (l .state)
+    → length sizes ≡ 4 → (length page ≡ 768 → ⊥) → identifyingLent mask fates l n page logical sizes ≡ identifyHanded (handed 1 (noneSent l)) (0 ∷ 0 ∷ 0 ∷ 0 ∷ [])
+unfolding identifyingLent identifying
+identify-refused mask fates l n page logical sizes right bytes four x =
+    let long = right-long (length (l .state)) (length (l .interface)) (length (l .sent)) right in
+    rw (right, eq-eqb (length sizes) 4 four, ne-eqb (length page) 768 x, store-loaded (l .state) (long .state-long) bytes, interface-kept (l .interface) (long .interface-long))
 
 -- the reader's buffer changes only with the answer 0
 pub buffer-kept : (s : Setting) (l : Lent) (n logical page : ℕ) (buffer : List ℕ) → (readingLent s l n logical page buffer .handed .answer ≡ 0 → ⊥)

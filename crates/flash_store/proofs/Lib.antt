@@ -2,3 +2,4 @@ pub mod KeptLaws
 pub mod LibraryLaws
 pub mod PriceLaws
 pub mod SalesLaws
+pub mod SizeLaws

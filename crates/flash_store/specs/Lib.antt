@@ -1,3 +1,4 @@
+pub mod Identify
 pub mod Library
 pub mod Prices
 pub mod Sales

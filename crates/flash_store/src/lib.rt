@@ -1,8 +1,9 @@
-// The library for programs in C: format, mount, read, write and erase, on numbers and lent buffers; price rules; sales held against
-// each other; the draws of the test load.
+// The library for programs in C: format, mount, read, write and erase, on numbers and lent buffers; the sizes that the chip tells;
+// price rules; sales held against each other; the draws of the test load.
 mod load;
 mod prices;
 mod sales;
+mod sizes;
 
 use geometry::Geometry;
 ghost use mathlib.Core.Path.{_≡_};

@@ -1,4 +1,4 @@
--- An operation with a confirm cycle, from its first cycle to the last status read, wherever it is cut.
+-- An operation from its first cycle, by way of the one that starts it, to the last status read, wherever it is cut.
 use Prim.Native.Nat.{ℕ, zero, suc, _+_, _-_, _≤_, _<_}
 use mathlib.Core.Bool.{true, false, cond}
 use mathlib.Core.List.{List, [], _∷_, _++_}
@@ -21,7 +21,7 @@ use Rattle.bus.proofs.LineLaws.{sendAll-append, run-append, run-uncut, run-cut,
 use Rattle.bus.proofs.LegalLaws.{legal-run, legal-start, legal-take, legal-first}
 use Rattle.bus.proofs.StepLaws.{busyWith, one-busy, busy-reads, ready-read, status-busy}
 use Rattle.bus_polling.specs.Polling.{waiting, polls, statusReads}
-use Rattle.bus_sequences.specs.Cycles.{confirmCycles, confirmedCycles}
+use Rattle.bus_sequences.specs.Cycles.{startedCycles}
 use Rattle.operations.specs.Ends.{pollsFor}
 
 eqb-at : {p : ℕ} → p ≡ 1 → eqb p 8 ≡ false
@@ -54,70 +54,69 @@ unfolding waiting
 waiting-on d p e = rw (eq-eqb _ _ p, eq-eqb _ _ e)
 
 module _ (s : Setting) where
-  ready-at : (i : Interface) (a r h : List ℕ) → i .phase ≡ 8 → i .busy ≡ 0 → lengthsFit (s .geometry) (device i a r h) ≡ true → rowAt i < rowCount (s .geometry) → exec s (device i a r h) status ≡ completed (s .geometry) (device (busyWith 0 i) a r h)
-  ready-at i a r h p z f w =
-      ready-read s (device i a r h) p z f w
-      ∙ ap (λ (k : ℕ). completed (s .geometry) (device (busyWith k i) a r h)) z
+  ready-at : (i : Interface) (a r h : List ℕ) → i .busy ≡ 0 → exec s (device i a r h) status ≡ exec s (device (busyWith 0 i) a r h) status
+  ready-at i a r h z = ap (λ (k : ℕ). exec s (device (busyWith k i) a r h) status) z
 
   -- the number of status reads
-  pub polls-are : (n : ℕ) (i : Interface) (a r h : List ℕ) → i .phase ≡ 8 → i .illegal ≡ 0 → lengthsFit (s .geometry) (device i a r h) ≡ true → rowAt i < rowCount (s .geometry) → waiting (completed (s .geometry) (device (busyWith 0 i) a r h)) ≡ false → polls s n (device i a r h) ≡ cond (ltb (i .busy) n) (i .busy + 1) n
+  polls-are : (n : ℕ) (i : Interface) (a r h : List ℕ) → i .phase ≡ 8 → i .illegal ≡ 0 → waiting (exec s (device (busyWith 0 i) a r h) status) ≡ false → polls s n (device i a r h) ≡ cond (ltb (i .busy) n) (i .busy + 1) n
   unfolding polls
-  polls-are zero i a r h p e f w q = rw (le-ltb (i .busy) 0 (omega arith))
-  polls-are (suc n) i a r h p e f w q =
+  polls-are zero i a r h p e q = rw (le-ltb (i .busy) 0 (omega arith))
+  polls-are (suc n) i a r h p e q =
       cases (eqb (i .busy) 0)
       (λ t.
       let z = eqb-true (i .busy) 0 t in
-      rw (ready-at i a r h p z f w, q, lt-ltb (i .busy) (suc n) (omega arith)) (omega (arith, z)))
+      rw (ready-at i a r h z, q, lt-ltb (i .busy) (suc n) (omega arith)) (omega (arith, z)))
       (λ t.
       let b : 0 < i .busy = omega (arith, eqb-false (i .busy) 0 t) in
-      rw (one-busy s i a r h p b, waiting-on (device (lessBusy i) a r h) p e, polls-are n (lessBusy i) a r h p e f w q)
+      rw (one-busy s i a r h p b, waiting-on (device (lessBusy i) a r h) p e, polls-are n (lessBusy i) a r h p e q)
       (count-one (i .busy) n b))
 
-  -- the status reads of an operation that ends in time, and of one that stays silent
-  pub reads-ready : (i : Interface) (a r h : List ℕ) → i .phase ≡ 8 → lengthsFit (s .geometry) (device i a r h) ≡ true → rowAt i < rowCount (s .geometry) → run s (device i a r h) (replicate (i .busy + 1) status) ≡ completed (s .geometry) (device (busyWith 0 i) a r h)
+  -- the status reads of an operation that ends in time
+  reads-ready : (i : Interface) (a r h : List ℕ) → i .phase ≡ 8 → run s (device i a r h) (replicate (i .busy + 1) status) ≡ exec s (device (busyWith 0 i) a r h) status
   unfolding run
-  reads-ready i a r h p f w =
+  reads-ready i a r h p =
       ap (run s (device i a r h)) (sym (replicate-append-replicate (i .busy) 1 status))
       ∙ run-append s (device i a r h) (replicate (i .busy) status) (replicate 1 status)
       ∙ ap (λ (x : Device). exec s x status)
       (busy-reads s (i .busy) i a r h p (le-refl (i .busy)) ∙ ap (λ (k : ℕ). device (busyWith k i) a r h) (sub-self (i .busy)))
-      ∙ ready-read s (device (busyWith 0 i) a r h) p refl f w
 
--- what an operation's first cycles and its confirm cycle leave: d₂ after the confirm cycle, d₄ once ready is reported
-pub record Confirmed (s : Setting) (d : Device) (first : List Cycle) (code : ℕ) (d₂ d₄ : Device) : Type 0 where
-  pub confirm : exec s (run s d first) (command code) ≡ d₂
+  -- the one that reports a read, a program or an erase ready
+  pub settles : (d : Device) → eqb (d .interface .operation) 4 ≡ false → lengthsFit (s .geometry) d ≡ true → rowAt (d .interface) < rowCount (s .geometry) → exec s (withInterface (busyWith 0 (inPhase 8 (d .interface))) d) status ≡ completed (s .geometry) (withInterface (busyWith 0 (inPhase 8 (d .interface))) d)
+  settles d o f w = ready-read s (withInterface (busyWith 0 (inPhase 8 (d .interface))) d) refl refl o f w
+
+-- what an operation's first cycles and the cycle that starts it leave: d₂ after that one, d₄ once ready is reported
+pub record Confirmed (s : Setting) (d : Device) (first : List Cycle) (start : Cycle) (d₂ d₄ : Device) : Type 0 where
+  pub confirm : exec s (run s d first) start ≡ d₂
   pub busy : d₂ .interface .phase ≡ 7
   pub legal : d₂ .interface .illegal ≡ 0
-  pub fits : lengthsFit (s .geometry) d₂ ≡ true
-  pub row : rowAt (d₂ .interface) < rowCount (s .geometry)
-  pub settle : completed (s .geometry) (withInterface (busyWith 0 (inPhase 8 (d₂ .interface))) d₂) ≡ d₄
+  pub settle : exec s (withInterface (busyWith 0 (inPhase 8 (d₂ .interface))) d₂) status ≡ d₄
   pub settled : d₄ .interface .phase ≡ 1
   pub still-legal : d₄ .interface .illegal ≡ 0
 
-module _ (s : Setting) (d : Device) (first : List Cycle) (code : ℕ) (d₂ d₄ : Device) (c : Confirmed s d first code d₂ d₄) where
+module _ (s : Setting) (d : Device) (first : List Cycle) (start : Cycle) (d₂ d₄ : Device) (c : Confirmed s d first start d₂ d₄) where
   -- the chip while it is asked for its status
   asked : Device
   asked = withInterface (inPhase 8 (d₂ .interface)) d₂
 
   prefix : List Cycle
-  prefix = first ++ confirmCycles code
+  prefix = first ++ (start ∷ command 112 ∷ [])
 
-  pub run-confirm : run s d (first ++ (command code ∷ [])) ≡ d₂
+  pub run-confirm : run s d (first ++ (start ∷ [])) ≡ d₂
   unfolding run
-  run-confirm = run-append s d first (command code ∷ []) ∙ c .confirm
+  run-confirm = run-append s d first (start ∷ []) ∙ c .confirm
 
   run-prefix : run s d prefix ≡ asked
   unfolding prefix asked run
   run-prefix =
-      run-append s d first (confirmCycles code)
+      run-append s d first (start ∷ command 112 ∷ [])
       ∙ ap (λ (x : Device). exec s x (command 112)) (c .confirm)
       ∙ status-busy s d₂ (c .busy)
 
   length-prefix : length prefix ≡ length first + 2
   unfolding prefix
-  length-prefix = length-append first (confirmCycles code)
+  length-prefix = length-append first (start ∷ command 112 ∷ [])
 
-  prefix-legal : Legal s d (first ++ confirmCycles code)
+  prefix-legal : Legal s d (first ++ (start ∷ command 112 ∷ []))
   unfolding asked prefix
   prefix-legal = legal-run s d prefix (rw run-prefix (c .legal))
 
@@ -128,11 +127,11 @@ module _ (s : Setting) (d : Device) (first : List Cycle) (code : ℕ) (d₂ d₄
   polls-asked : polls s 256 asked ≡ pollsFor (d₂ .interface .busy)
   unfolding asked waiting
   polls-asked =
-      polls-are s 256 (inPhase 8 (d₂ .interface)) (d₂ .array) (d₂ .register) (d₂ .history) refl (c .legal) (c .fits) (c .row)
+      polls-are s 256 (inPhase 8 (d₂ .interface)) (d₂ .array) (d₂ .register) (d₂ .history) refl (c .legal)
       (rw (c .settle, eqb-at (c .settled)))
 
   -- where it does not cover the prefix, nothing follows
-  cut-prefix : (n : ℕ) → n < length first + 2 → sendAll s (uncutLine d n) (confirmedCycles s (uncutLine d n) first code) ≡ cutLine (run s d (take n prefix))
+  cut-prefix : (n : ℕ) → n < length first + 2 → sendAll s (uncutLine d n) (startedCycles s (uncutLine d n) first start) ≡ cutLine (run s d (take n prefix))
   unfolding prefix
   cut-prefix n h =
       let e = run-cut s d n prefix start-legal prefix-legal (rw length-prefix h) in
@@ -141,7 +140,7 @@ module _ (s : Setting) (d : Device) (first : List Cycle) (code : ℕ) (d₂ d₄
       ∙ cut-stays s (run s d (take n prefix)) (statusReads s (run s d (take n prefix)))
 
   -- where the allowance covers the prefix, the status reads follow on it
-  late : (n : ℕ) → length first + 2 ≤ n → sendAll s (uncutLine d n) (confirmedCycles s (uncutLine d n) first code) ≡ sendAll s (uncutLine asked (n - (length first + 2))) (replicate (pollsFor (d₂ .interface .busy)) status)
+  late : (n : ℕ) → length first + 2 ≤ n → sendAll s (uncutLine d n) (startedCycles s (uncutLine d n) first start) ≡ sendAll s (uncutLine asked (n - (length first + 2))) (replicate (pollsFor (d₂ .interface .busy)) status)
   unfolding prefix
   late n h =
       let e = run-uncut s d n prefix start-legal prefix-legal (rw length-prefix h)
@@ -154,7 +153,7 @@ module _ (s : Setting) (d : Device) (first : List Cycle) (code : ℕ) (d₂ d₄
   ready-asked : run s asked (replicate (d₂ .interface .busy + 1) status) ≡ d₄
   unfolding asked
   ready-asked =
-      reads-ready s (inPhase 8 (d₂ .interface)) (d₂ .array) (d₂ .register) (d₂ .history) refl (c .fits) (c .row) ∙ c .settle
+      reads-ready s (inPhase 8 (d₂ .interface)) (d₂ .array) (d₂ .register) (d₂ .history) refl ∙ c .settle
 
   busy-asked : (n : ℕ) → n ≤ d₂ .interface .busy → run s asked (replicate n status) ≡ withInterface (busyWith (d₂ .interface .busy - n) (inPhase 8 (d₂ .interface))) d₂
   unfolding asked
@@ -179,7 +178,7 @@ module _ (s : Setting) (d : Device) (first : List Cycle) (code : ℕ) (d₂ d₄
       rw (polls-silent (d₂ .interface .busy) k) (busy-legal 256 k))
 
   -- it is reported ready in time
-  pub through : (n : ℕ) → d₂ .interface .busy < 256 → length first + 2 + (d₂ .interface .busy + 1) ≤ n → sendAll s (uncutLine d n) (confirmedCycles s (uncutLine d n) first code) ≡ uncutLine d₄ (n - (length first + 2 + (d₂ .interface .busy + 1)))
+  pub through : (n : ℕ) → d₂ .interface .busy < 256 → length first + 2 + (d₂ .interface .busy + 1) ≤ n → sendAll s (uncutLine d n) (startedCycles s (uncutLine d n) first start) ≡ uncutLine d₄ (n - (length first + 2 + (d₂ .interface .busy + 1)))
   through n k h =
       late n (omega arith)
       ∙ ap (λ (j : ℕ). sendAll s (uncutLine asked (n - (length first + 2))) (replicate j status)) (polls-ready (d₂ .interface .busy) k)
@@ -188,7 +187,7 @@ module _ (s : Setting) (d : Device) (first : List Cycle) (code : ℕ) (d₂ d₄
       ∙ ap (uncutLine d₄) (omega arith)
 
   -- it stays silent
-  pub silent : (n : ℕ) → 256 ≤ d₂ .interface .busy → length first + 2 + 256 ≤ n → sendAll s (uncutLine d n) (confirmedCycles s (uncutLine d n) first code) ≡ uncutLine (withInterface (busyWith (d₂ .interface .busy - 256) (inPhase 8 (d₂ .interface))) d₂) (n - (length first + 2 + 256))
+  pub silent : (n : ℕ) → 256 ≤ d₂ .interface .busy → length first + 2 + 256 ≤ n → sendAll s (uncutLine d n) (startedCycles s (uncutLine d n) first start) ≡ uncutLine (withInterface (busyWith (d₂ .interface .busy - 256) (inPhase 8 (d₂ .interface))) d₂) (n - (length first + 2 + 256))
   silent n k h =
       late n (omega arith)
       ∙ ap (λ (j : ℕ). sendAll s (uncutLine asked (n - (length first + 2))) (replicate j status)) (polls-silent (d₂ .interface .busy) k)
@@ -196,15 +195,15 @@ module _ (s : Setting) (d : Device) (first : List Cycle) (code : ℕ) (d₂ d₄
       ∙ ap₂ (λ (x : Device) (j : ℕ). uncutLine x (n - (length first + 2) - j)) (busy-asked 256 k) (length-replicate 256 status)
       ∙ ap (uncutLine (withInterface (busyWith (d₂ .interface .busy - 256) (inPhase 8 (d₂ .interface))) d₂)) (omega arith)
 
-  -- it is cut before its confirm cycle
-  pub early-cut : (n : ℕ) → n ≤ length first → sendAll s (uncutLine d n) (confirmedCycles s (uncutLine d n) first code) ≡ cutLine (run s d (take n first))
+  -- it is cut before the cycle that starts it
+  pub early-cut : (n : ℕ) → n ≤ length first → sendAll s (uncutLine d n) (startedCycles s (uncutLine d n) first start) ≡ cutLine (run s d (take n first))
   unfolding prefix
   early-cut n h =
       cut-prefix n (omega arith)
-      ∙ ap (λ (cs : List Cycle). cutLine (run s d cs)) (take-append-le n first (confirmCycles code) h)
+      ∙ ap (λ (cs : List Cycle). cutLine (run s d cs)) (take-append-le n first (start ∷ command 112 ∷ []) h)
 
-  -- it is cut after its confirm cycle: array, register and history are as that cycle left them
-  pub late-cut : (n : ℕ) → length first < n → n < length first + 2 + pollsFor (d₂ .interface .busy) → (i : Interface) × (i .fate ≡ d₂ .interface .fate) × (i .illegal ≡ 0) × (sendAll s (uncutLine d n) (confirmedCycles s (uncutLine d n) first code) ≡ cutLine (withInterface i d₂))
+  -- it is cut after it: array, register and history are as that cycle left them
+  pub late-cut : (n : ℕ) → length first < n → n < length first + 2 + pollsFor (d₂ .interface .busy) → (i : Interface) × (i .fate ≡ d₂ .interface .fate) × (i .illegal ≡ 0) × (sendAll s (uncutLine d n) (startedCycles s (uncutLine d n) first start) ≡ cutLine (withInterface i d₂))
   unfolding prefix
   late-cut n h k =
       cases (eqb n (length first + 1))
@@ -214,7 +213,7 @@ module _ (s : Setting) (d : Device) (first : List Cycle) (code : ℕ) (d₂ d₄
         c .legal,
         cut-prefix n (omega (arith, eqb-true n (length first + 1) t))
             ∙ ap (λ (j : ℕ). cutLine (run s d (take j prefix))) (eqb-true n (length first + 1) t)
-            ∙ ap (λ (cs : List Cycle). cutLine (run s d cs)) (take-append-add first (confirmCycles code) 1)
+            ∙ ap (λ (cs : List Cycle). cutLine (run s d cs)) (take-append-add first (start ∷ command 112 ∷ []) 1)
             ∙ ap cutLine run-confirm,
       ))
       (λ t.
@@ -231,12 +230,12 @@ module _ (s : Setting) (d : Device) (first : List Cycle) (code : ℕ) (d₂ d₄
       ))
 
   -- no cycle is answered illegal, wherever the operation is cut
-  pub confirmed-legal : (n : ℕ) → sendAll s (uncutLine d n) (confirmedCycles s (uncutLine d n) first code) .chip .interface .illegal ≡ 0
+  pub confirmed-legal : (n : ℕ) → sendAll s (uncutLine d n) (startedCycles s (uncutLine d n) first start) .chip .interface .illegal ≡ 0
   confirmed-legal n =
       cases (leb n (length first))
       (λ t.
       ap (λ (x : Line). x .chip .interface .illegal) (early-cut n (leb-true n (length first) t))
-      ∙ legal-take s d n first start-legal (legal-first s d first (confirmCycles code) prefix-legal))
+      ∙ legal-take s d n first start-legal (legal-first s d first (start ∷ command 112 ∷ []) prefix-legal))
       (λ t. cases (ltb n (length first + 2 + pollsFor (d₂ .interface .busy)))
       (λ u.
       let k = late-cut n (leb-false n (length first) t) (ltb-true n (length first + 2 + pollsFor (d₂ .interface .busy)) u) in

@@ -28,7 +28,7 @@ use Rattle.operations.specs.Ends.{Called, CanErase, endOf, endsAs, confi
 use Rattle.bus_polling.specs.Outcomes.{answered}
 use Rattle.operations.proofs.CallLaws.{uncut-is, fitting-holds, row-is, address-holds, arms, part-arms, put-long, set-long}
 use Rattle.operations.proofs.TraceLaws.{effect-starts}
-use Rattle.operations.proofs.ConfirmLaws.{confirmed-legal}
+use Rattle.operations.proofs.ConfirmLaws.{settles, confirmed-legal}
 use Rattle.operations.proofs.EndLaws.{Effect, effect-ends, effect-next}
 
 module _ (s : Setting) (d : Device) (n block : ℕ) (p : CanErase s (uncutLine d n) block) where
@@ -153,7 +153,7 @@ module _ (s : Setting) (d : Device) (n block : ℕ) (p : CanErase s (uncutLine d
   unfolding still isConfirm
   still-first = (refl, still-address (rowBytes row))
 
-  effect : Effect s d (eraseAddress row) 208 3 confirmed done full freed
+  effect : Effect s d (eraseAddress row) (command 208) 3 confirmed done full freed
   unfolding confirmed done failed interface-ready filled started
   effect =
       record {
@@ -161,9 +161,7 @@ module _ (s : Setting) (d : Device) (n block : ℕ) (p : CanErase s (uncutLine d
           confirm = confirm-is;
           busy = refl;
           legal = p .called .legal;
-          fits = fitting-holds (s .geometry) _ _ _ (p .called .is-valid) length-half (p .called .register-long) length-marked;
-          row = rw row-at row-small;
-          settle = refl;
+          settle = settles s confirmed refl (fitting-holds (s .geometry) _ _ _ (p .called .is-valid) length-half (p .called .register-long) length-marked) (rw row-at row-small);
           settled = both-arms (λ (x : Device). x .interface .phase) 1 refl refl;
           still-legal = both-arms (λ (x : Device). x .interface .illegal) 0 (p .called .legal) (p .called .legal);
         };
@@ -171,9 +169,6 @@ module _ (s : Setting) (d : Device) (n block : ℕ) (p : CanErase s (uncutLine d
         busy-is = refl;
         failed-is = refl;
         fate-is = refl;
-        array-long = both-arms (λ (x : Device). length (x .array)) (chipSize (s .geometry)) length-full length-half;
-        register-long = both-arms (λ (x : Device). length (x .register)) (pageSize (s .geometry)) (p .called .register-long) (p .called .register-long);
-        history-long = both-arms (λ (x : Device). length (x .history)) (s .geometry .blocks) length-freed length-marked;
         then-failed = both-arms (λ (x : Device). x .interface .failed) failed refl refl;
         then-fate = both-arms (λ (x : Device). x .interface .fate) (nextFate (s .fates) (d .interface .fate)) refl refl;
         then-array = ap (λ (x : Device). x .array) done-is ∙ part-arms (λ (x : Device). x .array) (eqb failed 0) _ _;
@@ -182,15 +177,19 @@ module _ (s : Setting) (d : Device) (n block : ℕ) (p : CanErase s (uncutLine d
 
   ends : endOf (sendAll s (uncutLine d n) (eraseCycles s (uncutLine d n) row)) ≡ eraseEnd s (uncutLine d n) block
   unfolding eraseEnd confirmed half full marked freed row
-  ends = effect-ends s d (eraseAddress row) 208 3 confirmed done full freed effect n
+  ends = effect-ends s d (eraseAddress row) (command 208) 3 confirmed done full freed effect n
 
   allowed : sendAll s (uncutLine d n) (eraseCycles s (uncutLine d n) row) .chip .interface .illegal ≡ 0
-  allowed = confirmed-legal s d (eraseAddress row) 208 confirmed done (effect .confirmed) n
+  allowed = confirmed-legal s d (eraseAddress row) (command 208) confirmed done (effect .confirmed) n
 
   next : answered (eraseEnd s (uncutLine d n) block .outcome) ≡ true → Called s (sendAll s (uncutLine d n) (eraseCycles s (uncutLine d n) row))
   unfolding eraseEnd confirmedEnd
   next a =
-      effect-next s d (eraseAddress row) 208 3 confirmed done full freed effect n (p .called .is-valid) (p .called .mask-long) a
+      effect-next s d (eraseAddress row) (command 208) 3 confirmed done full freed effect n (p .called .is-valid) (p .called .mask-long)
+      (both-arms (λ (x : Device). length (x .array)) (chipSize (s .geometry)) length-full length-half)
+      (both-arms (λ (x : Device). length (x .register)) (pageSize (s .geometry)) (p .called .register-long) (p .called .register-long))
+      (both-arms (λ (x : Device). length (x .history)) (s .geometry .blocks) length-freed length-marked)
+      a
 
   starts : eraseStarts s (uncutLine d n) row ≡ cond (leb n 4) [] (record { kind = 3; block = block; page = 0; bytes = []; before = d .array; answer = eraseEnd s (uncutLine d n) block .outcome } ∷ [])
   unfolding eraseEnd confirmedEnd row

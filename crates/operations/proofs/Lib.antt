@@ -3,8 +3,10 @@ pub mod ConfirmLaws
 pub mod EndLaws
 pub mod EraseLaws
 pub mod OperationTests
+pub mod OutputLaws
 pub mod ProgramLaws
 pub mod ReadLaws
+pub mod ReadyLaws
 pub mod ResetLaws
 pub mod TraceLaws
 pub mod UnreadyLaws

@@ -13,7 +13,7 @@ use Rattle.chip.specs.Chip.Cycle.{command, address, status}
 use Rattle.bus.specs.Line.{Line, mayGo, cutAfter, send, sendAll, sent, goesOn, byteOut, uncutLine}
 use Rattle.bus_polling.specs.Polling.{waiting, polls, outcomeOf}
 use Rattle.bus_polling.specs.Outcomes.{isPassed}
-use Rattle.bus_sequences.specs.Cycles.{readCycles, readOutputs, outputs, programCycles, eraseCycles}
+use Rattle.bus_sequences.specs.Cycles.{readCycles, readOutputs, putOut, programCycles, eraseCycles}
 use Rattle.operations.specs.Trace.{eraseSends, programSends, readSends}
 use Rattle.bus_polling.specs.declared.Outcome.the-variants.{Passed, Silent, Cut, Illegal}
 
@@ -73,5 +73,5 @@ programmed-twice = refl
 
 -- what was programmed is read back, here from byte 46 of row 0 on
 read-back : readOutputs (call []) once 0 46 2 ≡ 0 ∷ 0 ∷ []
-unfolding sendAll send mayGo cutAfter exec commanded isConfirm plainCommand readMode begun statusMode addressed latched addressFits confirmable fitting confirmed readStarted programStarted started fateWord nextFate dataTaken dataGiven dataByte programmed weakened put statusRead finished completed polls waiting outcomeOf isPassed readOutputs outputs byteOut goesOn
+unfolding sendAll send mayGo cutAfter exec commanded isConfirm plainCommand readMode begun statusMode addressed latched addressFits confirmable fitting confirmed readStarted programStarted started fateWord nextFate dataTaken dataGiven dataByte programmed weakened put statusRead finished completed polls waiting outcomeOf isPassed readOutputs putOut byteOut goesOn
 read-back = refl

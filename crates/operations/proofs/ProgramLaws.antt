@@ -29,7 +29,7 @@ use Rattle.bus_polling.specs.Outcomes.{answered}
 use Rattle.operations.proofs.CallLaws.{uncut-is, fitting-holds, column-is, row-is, address-holds, arms, part-arms, put-long, set-long}
 use Rattle.operations.proofs.EndLaws.{Effect, effect-ends, effect-next}
 use Rattle.operations.proofs.TraceLaws.{effect-starts}
-use Rattle.operations.proofs.ConfirmLaws.{confirmed-legal}
+use Rattle.operations.proofs.ConfirmLaws.{settles, confirmed-legal}
 
 ap₃ : {A : Type 0} (f : ℕ → ℕ → ℕ → A) {a b c x y z : ℕ} → a ≡ x → b ≡ y → c ≡ z → f a b c ≡ f x y z
 ap₃ f p q r = λ i. f (p i) (q i) (r i)
@@ -177,7 +177,7 @@ module _ (s : Setting) (d : Device) (n block page : ℕ) (bytes : List ℕ) (p :
   unfolding still isConfirm
   still-first = (refl, still-append (addressCycles 0 row) (map dataIn bytes) (still-address (columnBytes 0 ++ rowBytes row)) (still-data bytes))
 
-  effect : Effect s d (programData row bytes) 16 2 confirmed done full marked
+  effect : Effect s d (programData row bytes) (command 16) 2 confirmed done full marked
   unfolding confirmed done failed interface-ready filled addressed started
   effect =
       record {
@@ -185,9 +185,7 @@ module _ (s : Setting) (d : Device) (n block page : ℕ) (bytes : List ℕ) (p :
           confirm = confirm-is;
           busy = refl;
           legal = p .called .legal;
-          fits = fitting-holds (s .geometry) _ _ _ (p .called .is-valid) length-half (p .bytes-long) length-marked;
-          row = rw row-at row-small;
-          settle = refl;
+          settle = settles s confirmed refl (fitting-holds (s .geometry) _ _ _ (p .called .is-valid) length-half (p .bytes-long) length-marked) (rw row-at row-small);
           settled = both-arms (λ (x : Device). x .interface .phase) 1 refl refl;
           still-legal = both-arms (λ (x : Device). x .interface .illegal) 0 (p .called .legal) (p .called .legal);
         };
@@ -195,9 +193,6 @@ module _ (s : Setting) (d : Device) (n block page : ℕ) (bytes : List ℕ) (p :
         busy-is = refl;
         failed-is = refl;
         fate-is = refl;
-        array-long = ap (λ (x : Device). length (x .array)) done-is ∙ arms (λ (x : Device). length (x .array)) (chipSize (s .geometry)) (eqb failed 0) _ _ length-full length-half;
-        register-long = both-arms (λ (x : Device). length (x .register)) (pageSize (s .geometry)) (p .bytes-long) (p .bytes-long);
-        history-long = both-arms (λ (x : Device). length (x .history)) (s .geometry .blocks) length-marked length-marked;
         then-failed = both-arms (λ (x : Device). x .interface .failed) failed refl refl;
         then-fate = both-arms (λ (x : Device). x .interface .fate) (nextFate (s .fates) (d .interface .fate)) refl refl;
         then-array = ap (λ (x : Device). x .array) done-is ∙ part-arms (λ (x : Device). x .array) (eqb failed 0) _ _;
@@ -210,16 +205,19 @@ module _ (s : Setting) (d : Device) (n block page : ℕ) (bytes : List ℕ) (p :
   ends : endOf (sendAll s (uncutLine d n) (programCycles s (uncutLine d n) row bytes)) ≡ programEnd s (uncutLine d n) block page bytes
   unfolding programEnd confirmed half full marked row
   ends =
-      effect-ends s d (programData row bytes) 16 2 confirmed done full marked effect n
+      effect-ends s d (programData row bytes) (command 16) 2 confirmed done full marked effect n
       ∙ ap (λ (m : ℕ). confirmedEnd s (uncutLine d n) 2 m half marked full marked) first-long
 
   allowed : sendAll s (uncutLine d n) (programCycles s (uncutLine d n) row bytes) .chip .interface .illegal ≡ 0
-  allowed = confirmed-legal s d (programData row bytes) 16 confirmed done (effect .confirmed) n
+  allowed = confirmed-legal s d (programData row bytes) (command 16) confirmed done (effect .confirmed) n
 
   next : answered (programEnd s (uncutLine d n) block page bytes .outcome) ≡ true → Called s (sendAll s (uncutLine d n) (programCycles s (uncutLine d n) row bytes))
   unfolding programEnd confirmedEnd
   next a =
-      effect-next s d (programData row bytes) 16 2 confirmed done full marked effect n (p .called .is-valid) (p .called .mask-long)
+      effect-next s d (programData row bytes) (command 16) 2 confirmed done full marked effect n (p .called .is-valid) (p .called .mask-long)
+      (ap (λ (x : Device). length (x .array)) done-is ∙ arms (λ (x : Device). length (x .array)) (chipSize (s .geometry)) (eqb failed 0) _ _ length-full length-half)
+      (both-arms (λ (x : Device). length (x .register)) (pageSize (s .geometry)) (p .bytes-long) (p .bytes-long))
+      (both-arms (λ (x : Device). length (x .history)) (s .geometry .blocks) length-marked length-marked)
       (ap (λ (m : ℕ). answered (endsAs s (uncutLine d n) 2 m)) first-long ∙ a)
 
   starts : programStarts s (uncutLine d n) row bytes ≡ cond (leb n (6 + length bytes)) [] (record { kind = 2; block = block; page = page; bytes = bytes; before = d .array; answer = programEnd s (uncutLine d n) block page bytes .outcome } ∷ [])

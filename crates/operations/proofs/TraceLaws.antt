@@ -21,14 +21,14 @@ use Rattle.operations.specs.Trace.{startedBy}
 use Rattle.operations.proofs.ConfirmLaws.{run-confirm}
 use Rattle.operations.proofs.EndLaws.{Effect, effect-ends}
 
-module _ (s : Setting) (d : Device) (first : List Cycle) (code op : ℕ) (d₂ d₄ : Device) (a₂ h₂ : List ℕ) (e : Effect s d first code op d₂ d₄ a₂ h₂) (row : ℕ) (bytes : List ℕ) where
+module _ (s : Setting) (d : Device) (first : List Cycle) (code op : ℕ) (d₂ d₄ : Device) (a₂ h₂ : List ℕ) (e : Effect s d first (command code) op d₂ d₄ a₂ h₂) (row : ℕ) (bytes : List ℕ) where
   steps : List Cycle
   steps = first ++ (command code ∷ [])
 
   end-legal : run s d steps .interface .illegal ≡ 0
   unfolding steps
   end-legal =
-      ap (λ (x : Device). x .interface .illegal) (run-confirm s d first code d₂ d₄ (e .confirmed)) ∙ e .confirmed .legal
+      ap (λ (x : Device). x .interface .illegal) (run-confirm s d first (command code) d₂ d₄ (e .confirmed)) ∙ e .confirmed .legal
 
   steps-legal : Legal s d (first ++ (command code ∷ []))
   unfolding steps
@@ -62,6 +62,6 @@ module _ (s : Setting) (d : Device) (first : List Cycle) (code op : ℕ) (d₂ d
         page = row % s .geometry .pages;
         bytes = bytes;
         before = found i;
-        answer = effect-ends s d first code op d₂ d₄ a₂ h₂ e n i .outcome;
+        answer = effect-ends s d first (command code) op d₂ d₄ a₂ h₂ e n i .outcome;
       }
       ∷ []))

@@ -11,9 +11,10 @@ use Rattle.cells.specs.Cells.{programmed, weakened, raised}
 use Rattle.cells.specs.Part.{part, put}
 use Rattle.chip_interface.specs.Interface.{fateWord, nextFate, busyOf, failedFor, resetCode, outputPhase}
 use Rattle.chip_array.specs.Device.{Setting, Device, illegalCycle}
+use Rattle.chip.specs.Chip.{Cycle}
 use Rattle.bus.specs.Line.{Line, sendAll, statusOut, uncutLine, cutLine}
 use Rattle.bus_polling.specs.Polling.{outcomeOf, endedAs}
-use Rattle.bus_sequences.specs.Cycles.{resetCycles, confirmCycles, readCycles, readOutcome}
+use Rattle.bus_sequences.specs.Cycles.{resetCycles, confirmCycles, whenReady, whenReadyOutcome, readCycles, readOutcome}
 use Rattle.bus_polling.specs.declared.Outcome.{Outcome}
 use Rattle.bus_polling.specs.declared.Outcome.the-variants.{Passed, Failed, Silent, Cut, Illegal}
 
@@ -160,21 +161,38 @@ unreadyEnd l =
       fate = l .chip .interface .fate;
     }
 
--- cycles of a read of n bytes
-abbrev pub readTotal : Setting → Device → ℕ → ℕ
-readTotal s d n = totalFor s d 6 + cond (ltb (busyOf (wordFor s d)) 256) (1 + n) 0
+-- an operation with m cycles before the one that starts it, and n cycles after the status read that reports ready
+abbrev pub readyTotal : Setting → Device → ℕ → ℕ → ℕ
+readyTotal s d m n = totalFor s d m + cond (ltb (busyOf (wordFor s d)) 256) n 0
 
--- a read changes neither the array nor the history
-unfoldable pub readEnd : Setting → Line → ℕ → End
-readEnd s l n =
+-- one that changes neither the array nor the history, and does not fail
+abbrev pub readyEnd : Setting → Line → ℕ → ℕ → End
+readyEnd s l m n =
     record {
-      outcome = cond (ltb (l .left) (readTotal s (l .chip) n)) Cut
+      outcome = cond (ltb (l .left) (readyTotal s (l .chip) m n)) Cut
           (cond (ltb (busyOf (wordFor s (l .chip))) 256) Passed Silent);
       array = l .chip .array;
       history = l .chip .history;
-      left = l .left - readTotal s (l .chip) n;
-      fate = cond (leb (l .left) 6) (l .chip .interface .fate) (nextFate (s .fates) (l .chip .interface .fate));
+      left = l .left - readyTotal s (l .chip) m n;
+      fate = cond (leb (l .left) m) (l .chip .interface .fate) (nextFate (s .fates) (l .chip .interface .fate));
     }
+
+abbrev pub endOfReady : Setting → Line → List Cycle → List Cycle → End
+endOfReady s l first rest =
+    record {
+      outcome = whenReadyOutcome s l first rest;
+      array = sendAll s l (whenReady s l first rest) .chip .array;
+      history = sendAll s l (whenReady s l first rest) .chip .history;
+      left = sendAll s l (whenReady s l first rest) .left;
+      fate = sendAll s l (whenReady s l first rest) .chip .interface .fate;
+    }
+
+-- a read of n bytes: its cycles, and how it ends
+abbrev pub readTotal : Setting → Device → ℕ → ℕ
+readTotal s d n = readyTotal s d 6 (1 + n)
+
+unfoldable pub readEnd : Setting → Line → ℕ → End
+readEnd s l n = readyEnd s l 6 (1 + n)
 
 unfoldable pub endOfRead : Setting → Line → ℕ → ℕ → ℕ → End
 endOfRead s l row column n =

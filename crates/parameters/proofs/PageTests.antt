@@ -1,4 +1,5 @@
--- Parameter pages computed: a good first copy, one with a bit wrong before a good one, no good copy, sizes outside the limits. Assumes nothing.
+-- Parameter pages computed: a good first copy, one with a bit wrong and one with another start before a good one, no good copy, sizes
+-- outside the limits. Assumes nothing.
 use Prim.Native.Nat.{ℕ, _/_, _%_}
 use mathlib.Core.List.{List, [], _∷_, _++_}
 use mathlib.Core.Path.{_≡_, refl}
@@ -31,6 +32,14 @@ first-good = refl
 second-good : told (copyWith 32 1 34450 ++ copyWith 64 0 34450 ++ bad) 4094 ≡ right
 unfolding told firstGood good startsWith judged bytesInto bitsInto bitInto numberOf copyWith bad right
 second-good = refl
+
+-- zeros with the CRC of 254 of them: its CRC is right, and its start is not
+unsigned : List ℕ
+unsigned = replicate 254 0 ++ (238 ∷ 62 ∷ [])
+
+starts-otherwise : told (unsigned ++ copyWith 64 0 34450 ++ bad) 4094 ≡ right
+unfolding told firstGood good startsWith judged bytesInto bitsInto bitInto numberOf copyWith unsigned bad right
+starts-otherwise = refl
 
 none-good : told (bad ++ copyWith 64 1 34450 ++ bad) 4094 ≡ refusedWith 12
 unfolding told firstGood good startsWith judged bytesInto bitsInto bitInto numberOf copyWith bad right

@@ -10,7 +10,7 @@ use Rattle.chip.specs.Chip.{isConfirm, confirmed, confirmable, commanded, dataG
 use Rattle.bus.specs.Line.{mayGo, cutAfter, send, sendAll, goesOn, byteOut}
 use Rattle.bus_polling.specs.Polling.{waiting, polls, outcomeOf, endedAs}
 use Rattle.bus_polling.specs.Outcomes.{isPassed, isSilent, isCut}
-use Rattle.bus_sequences.specs.Cycles.{readCycles, readOutcome, readOutputs, outputs}
+use Rattle.bus_sequences.specs.Cycles.{readCycles, readOutcome, readOutputs, putOut}
 use Rattle.progress.specs.Progress.{readOn}
 use Rattle.state.specs.State.{blank}
 use Rattle.request.specs.Call.{stopAnswer}
@@ -37,7 +37,7 @@ unfolding sendAll send mayGo cutAfter exec commanded isConfirm plainCommand read
 done-sent = refl
 
 done-bytes : page-read [] 42 .buffer ≡ replicate 32 165
-unfolding sendAll send mayGo cutAfter exec commanded isConfirm plainCommand readMode begun statusMode addressed latched addressFits confirmable fitting confirmed readStarted started fateWord nextFate statusRead finished completed polls waiting readCycles readOutcome isPassed outcomeOf endedAs dataGiven dataByte readOutputs outputs byteOut goesOn fetched readingBlock
+unfolding sendAll send mayGo cutAfter exec commanded isConfirm plainCommand readMode begun statusMode addressed latched addressFits confirmable fitting confirmed readStarted started fateWord nextFate statusRead finished completed polls waiting readCycles readOutcome isPassed outcomeOf endedAs dataGiven dataByte readOutputs putOut byteOut goesOn fetched readingBlock
 done-bytes = refl
 
 -- one cycle fewer: cut, and the buffer is as it was
@@ -46,7 +46,7 @@ unfolding sendAll send mayGo cutAfter exec commanded isConfirm plainCommand read
 cut-answer = refl
 
 cut-bytes : page-read [] 41 .buffer ≡ replicate 32 0
-unfolding sendAll send mayGo cutAfter exec commanded isConfirm plainCommand readMode begun statusMode addressed latched addressFits confirmable fitting confirmed readStarted started fateWord nextFate statusRead finished completed polls waiting readCycles readOutcome isPassed outcomeOf endedAs dataGiven dataByte readOutputs outputs byteOut goesOn fetched readingBlock
+unfolding sendAll send mayGo cutAfter exec commanded isConfirm plainCommand readMode begun statusMode addressed latched addressFits confirmable fitting confirmed readStarted started fateWord nextFate statusRead finished completed polls waiting readCycles readOutcome isPassed outcomeOf endedAs dataGiven dataByte readOutputs putOut byteOut goesOn fetched readingBlock
 cut-bytes = refl
 
 -- 256 busy reads: silent, after 6 + 2 + 256 cycles

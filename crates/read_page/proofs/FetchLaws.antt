@@ -15,7 +15,7 @@ use Rattle.bus.proofs.LineLaws.{sendAll-append, sendAll-stopped}
 use Rattle.bus_polling.specs.Outcomes.{isPassed}
 use Rattle.bus_polling.specs.Polling.{endedAs, outcomeOf}
 use Rattle.bus_polling.specs.declared.Outcome.{Outcome}
-use Rattle.bus_sequences.specs.Cycles.{pageRead, pageLine, readCycles, readOutcome, outputs, readOutputs}
+use Rattle.bus_sequences.specs.Cycles.{pageRead, pageLine, readCycles, readOutcome, outputs, readOutputs, putOut}
 use Rattle.read_page.specs.Fetching.{fetched}
 use Rattle.cells.proofs.CellLaws.{over-all}
 
@@ -33,7 +33,7 @@ module _ (s : Setting) where
       cases (goesOn l) (λ t. t) (λ f. absurd (false≢true (sym f ∙ sym (ap goesOn (sendAll-stopped s l cs f)) ∙ h)))
 
   outputs-long : (n : ℕ) (l : Line) → goesOn (sendAll s l (replicate n dataOut)) ≡ true → length (outputs s n l) ≡ n
-  unfolding outputs sendAll
+  unfolding putOut sendAll
   outputs-long zero l h = refl
   outputs-long (suc n) l h =
       rw (went-on (send s l dataOut) (replicate n dataOut) h) (ap suc (outputs-long n (send s l dataOut) h))

@@ -18,7 +18,7 @@ use Rattle.bus.specs.Line.{mayGo, cutAfter, send, byteOut, sendAll, sent, goesO
 use Rattle.bus_polling.specs.Polling.{waiting, polls, outcomeOf, endedAs}
 use Rattle.bus_polling.specs.Outcomes.{isPassed, isFailed, isSilent, isCut}
 use Rattle.bus_polling.specs.declared.Outcome.the-variants.{Passed}
-use Rattle.bus_sequences.specs.Cycles.{readCycles, readOutcome, outputs, readOutputs}
+use Rattle.bus_sequences.specs.Cycles.{readCycles, readOutcome, putOut, readOutputs}
 use Rattle.operations.specs.Trace.{ArrayOperation, startedBy}
 use Rattle.pages.specs.Check.{zeroBits}
 use Rattle.pages.specs.Layout.{tableKind, label, whole, allOnes, storedCheck, countedCheck, kindOf, numberWidth, isDataKind, isTableKind, labelOf, numberOf, bytesOf, labelBytes, encoded}
@@ -38,7 +38,7 @@ use Rattle.fill_tables.specs.Tables.{Tabled, afterFill, tryBlock, tryTable, tab
 use Rattle.write_changes.specs.Changes.{writeUpdate, afterTry, copyTried, copiesFilled, thenTable, changeRun}
 use Rattle.recovery.specs.Book.{Change, write, entered, Account, blankAccount, changed, mounted, settled, fed}
 use Rattle.recovery.specs.Copy.{isDataProgram, sentPage, sentPages, hasCopy}
-use Rattle.recovery.specs.Calls.{Lent, toRead, Store, failedAfter, afterMount, step}
+use Rattle.recovery.specs.Calls.{Lent, toRead, toIdentify, Store, failedAfter, afterMount, step}
 
 abbrev small : Geometry
 small = record { main = 32; spare = 16; pages = 4; blocks = 4; logical = 2 }
@@ -71,7 +71,7 @@ told t =
 
 -- a cut write that survives, one that does not, and one that would have changed no byte
 cut-writes : told (cut 255 165) ++ (told (cut 0 165) ++ told (cut 255 255)) ≡ 11 ∷ 1 ∷ 0 ∷ 165 ∷ 11 ∷ 0 ∷ 0 ∷ 255 ∷ 11 ∷ 1 ∷ 0 ∷ 255 ∷ []
-unfolding ones begun statusMode readMode plainCommand addressFits latched addressed fateWord nextFate started statusByte fitting readStarted programStarted eraseStarted completed isConfirm confirmed confirmable commanded dataTaken dataGiven dataByte finished statusRead exec programmed weakened raised put mayGo cutAfter send byteOut sendAll sent goesOn waiting polls outcomeOf isPassed endedAs readCycles readOutcome outputs readOutputs startedBy readOn stopAnswer isSilent isCut bitAt withBit zeroBits numberWidth bytesOf numberOf labelBytes encoded kindOf eraseOn programOn isFailed mainOf mainRead pageFilled pagesFilled tableMain permitted searchAfter afterFill tryBlock tryTable tablesFilled table.tablePage isDataKind isTableKind copyBits copyTried afterTry copiesFilled thenTable dataSource isGiven hasCopy sentPages sentPage isDataProgram someBelow better pick isMarked agrees completeTo isComplete isTable isData isCopyOf currentTable currentCopy current.pageOf sharesNumber clashesAt clashes judgeTable mountAnswer whole allOnes storedCheck countedCheck labelOf countBits clearFrom table.clearWhere table.rightFirst table.rightPage table.rightTo table.rightTable
+unfolding ones begun statusMode readMode plainCommand addressFits latched addressed fateWord nextFate started statusByte fitting readStarted programStarted eraseStarted completed isConfirm confirmed confirmable commanded dataTaken dataGiven dataByte finished statusRead exec programmed weakened raised put mayGo cutAfter send byteOut sendAll sent goesOn waiting polls outcomeOf isPassed endedAs readCycles readOutcome putOut readOutputs startedBy readOn stopAnswer isSilent isCut bitAt withBit zeroBits numberWidth bytesOf numberOf labelBytes encoded kindOf eraseOn programOn isFailed mainOf mainRead pageFilled pagesFilled tableMain permitted searchAfter afterFill tryBlock tryTable tablesFilled table.tablePage isDataKind isTableKind copyBits copyTried afterTry copiesFilled thenTable dataSource isGiven hasCopy sentPages sentPage isDataProgram someBelow better pick isMarked agrees completeTo isComplete isTable isData isCopyOf currentTable currentCopy current.pageOf sharesNumber clashesAt clashes judgeTable mountAnswer whole allOnes storedCheck countedCheck labelOf countBits clearFrom table.clearWhere table.rightFirst table.rightPage table.rightTo table.rightTable
 cut-writes = refl
 
 -- the book after it, a silent mount and a mount answered 0: first byte of logical block 0, page 0
@@ -89,6 +89,11 @@ books-later = refl
 read-unbooked : (g : Geometry) (a : Lent) (logical page : ℕ) (buffer : List ℕ) (y : Store) → step g (toRead a logical page buffer) y .account ≡ y .account
 unfolding step
 read-unbooked g a logical page buffer y = refl
+
+-- asking the chip for its size changes neither book nor note, nor what is known of marked and failed blocks
+identify-unbooked : (g : Geometry) (a : Lent) (parameters : List ℕ) (logical : ℕ) (y : Store) → let z = step g (toIdentify a parameters logical) y in (z .account ≡ y .account) × (z .marked ≡ y .marked) × (z .failed ≡ y .failed)
+unfolding step
+identify-unbooked g a parameters logical y = (refl, refl, refl)
 
 refused-unbooked : (g : Geometry) (c : Change) (y : Account) → (fed g (changed c 1 []) y ≡ y) × (fed g (changed c 7 []) y ≡ y) × (fed g (changed c 2 []) y ≡ y) × (fed g (changed c 3 []) y ≡ y) × (fed g (mounted 1 false) y ≡ y)
 unfolding fed

@@ -20,9 +20,10 @@ use Rattle.read_page.specs.Fetching.{ReadResult, pageProgress}
 use Rattle.read.specs.Reading.{readingPage}
 use Rattle.mount.specs.Mount.{mountRun, mounting}
 use Rattle.format.specs.Format.{formatRun, formatting}
+use Rattle.identify.specs.Identify.{Identified, identifying}
 use Rattle.write_changes.specs.Changes.{writeUpdate, eraseUpdate, changeRun, writing, eraseRefusal, erasingLogical}
 use Rattle.damage.specs.Run.{failedIn}
-use Rattle.recovery.specs.Book.{Change, write, erase, Note, Account, blankAccount, Entry, changed, mounted, fed}
+use Rattle.recovery.specs.Book.{Change, write, erase, Note, Account, blankAccount, changed, mounted, fed}
 use Rattle.recovery.specs.Copy.{hasCopy}
 
 -- what each call brings of its own beside its arguments: the mask, the fate words and the cycles allowed
@@ -31,12 +32,14 @@ pub record Lent : Type 0 where
   pub fates : List ℕ
   pub allowed : ℕ
 
--- a mount; a read of a logical page into a buffer; a write of a logical page; an erase of a logical block
+-- a mount; a read of a logical page into a buffer; a write of a logical page; an erase of a logical block; the chip asked for its size,
+-- with the parameter page and the number of logical blocks
 pub data Call : Type 0 where
   toMount : Lent → Call
   toRead : Lent → ℕ → ℕ → List ℕ → Call
   toWrite : Lent → ℕ → ℕ → List ℕ → Call
   toErase : Lent → ℕ → Call
+  toIdentify : Lent → List ℕ → ℕ → Call
 
 -- of a call nothing is assumed but that bytes are bytes
 abbrev pub Typed : Call → Type 0
@@ -44,6 +47,7 @@ Typed (toMount a) = Bytes (a .mask)
 Typed (toRead a logical page buffer) = Bytes (a .mask)
 Typed (toWrite a logical page bytes) = Bytes (a .mask) × Bytes bytes
 Typed (toErase a logical) = Bytes (a .mask)
+Typed (toIdentify a parameters logical) = Unit {0}
 
 unfoldable pub AllTyped : List Call → Type 0
 AllTyped [] = Unit {0}
@@ -82,7 +86,11 @@ writeOn g a logical page bytes y = writing (settingOf g a) (y .chip) (a .allowed
 abbrev pub eraseOf : Geometry → Lent → ℕ → Store → Result
 eraseOf g a logical y = erasingLogical (settingOf g a) (y .chip) (a .allowed) (y .state) logical
 
--- the array operations that a call starts, none where it is refused
+abbrev pub identifyOf : Lent → List ℕ → ℕ → Store → Identified
+identifyOf a parameters logical y =
+    identifying (a .mask) (a .fates) (y .chip) (a .allowed) (y .state) parameters logical
+
+-- the array operations that a call starts, none where it is refused or where the chip is asked for its size
 unfoldable pub traceOf : Geometry → Call → Store → List ArrayOperation
 traceOf g (toMount a) y =
     cond (sizedFor (settingOf g a) (y .chip)) (mountRun (settingOf g a) (callLine (y .chip) (a .allowed)) .started) []
@@ -99,6 +107,7 @@ traceOf g (toErase a logical) y =
     cond (eqb (eraseRefusal (settingOf g a) (y .chip) (y .state) logical) 0)
     (changeRun (settingOf g a) (y .state) (eraseUpdate logical) (progress (callLine (y .chip) (a .allowed)) Passed [] []) .progress .started)
     []
+traceOf g (toIdentify a parameters logical) y = []
 
 -- the blocks that failed before, and those that fail in a trace
 abbrev pub failedAfter : (ℕ → Bool) → List ArrayOperation → ℕ → Bool
@@ -129,6 +138,8 @@ step g (toRead a logical page buffer) y =
 step g (toWrite a logical page bytes) y =
     afterChange g y (write logical page bytes) (writeOn g a logical page bytes y) (traceOf g (toWrite a logical page bytes) y)
 step g (toErase a logical) y = afterChange g y (erase logical) (eraseOf g a logical y) (traceOf g (toErase a logical) y)
+step g (toIdentify a parameters logical) y =
+    let r = identifyOf a parameters logical y .returned in store (r .state) (r .chip) (y .account) (y .marked) (y .failed)
 
 -- one call after the other
 unfoldable pub after : Geometry → List Call → Store → Store

@@ -31,7 +31,7 @@ use Rattle.damage.specs.Run.{failedIn}
 use Rattle.damage.specs.Touched.{Each, Some, first}
 use Rattle.damage.proofs.EachLaws.{each-left, each-right, some-append-right}
 use Rattle.damage.proofs.TraceLaws.{or-assoc}
-use Rattle.recovery.specs.Calls.{Lent, Call, toMount, toRead, toWrite, toErase, Typed, Store, settingOf, traceOf, failedAfter}
+use Rattle.recovery.specs.Calls.{Lent, Call, toMount, toRead, toWrite, toErase, toIdentify, Typed, Store, settingOf, traceOf, failedAfter}
 use Rattle.recovery.specs.Recovery.{Always, SparesBad, SparedBy, Spared, Spares}
 use Rattle.recovery_proof.specs.Cycles.{WritesSent, ErasesSent}
 use Rattle.recovery_proof.proofs.RecoveryLaws.{spares}
@@ -40,7 +40,7 @@ use Rattle.recovery_cycles.specs.Starts.{takes, failsNext, start, Start,
 use Rattle.recovery_cycles.specs.Spared.{OnlyReads, NamesGood, TracesCycles, SparesEach, cyclesOf, startsOf, SparesCycles, FailsRead}
 use Rattle.recovery_cycles.proofs.StartLaws.{starts-append}
 use Rattle.recovery_cycles.proofs.TraceLaws.{change-traced, mount-traced, page-traced}
-use Rattle.recovery_cycles.proofs.ReadOnlyLaws.{mount-only-reads, page-only-reads}
+use Rattle.recovery_cycles.proofs.ReadOnlyLaws.{mount-only-reads, page-only-reads, changes-confirm, identify-only-reads, identify-starts-none}
 
 divided : (g : Geometry) (ts us : List Start) (t : Start) (os : List ArrayOperation) → Traced g (ts ++ (t ∷ us)) os → Divided g ts t os
 unfolding Traced
@@ -79,11 +79,6 @@ spared-at g marked failed (x ∷ earlier) o later h =
     subst (λ (k : ℕ → Bool). SparedBy g marked k o)
     (fun-ext (λ b. or-assoc (failed b) (cond (eqb (x .block) b) (isFailed (x .answer)) false) (failedIn b earlier)))
     (spared-at g marked f earlier o later (h .1))
-
-changes-confirm : (code : ℕ) → Changes code → isConfirm code ≡ true
-unfolding isConfirm
-changes-confirm code k =
-    ⊎-elim (λ e. subst (λ (x : ℕ). isConfirm x ≡ true) (sym e) refl) (λ e. subst (λ (x : ℕ). isConfirm x ≡ true) (sym e) refl) k
 
 not-read : (code : ℕ) → Changes code → kindOf code ≡ 1 → ⊥
 unfolding kindOf
@@ -211,8 +206,10 @@ call-traced g (toErase a logical) y =
     cases (eqb (eraseRefusal (settingOf g a) (y .chip) (y .state) logical) 0)
     (λ t. rw t (change-traced (settingOf g a) (y .chip) (a .allowed) (y .state) (eraseUpdate logical)))
     (λ f. rw f tt)
+call-traced g (toIdentify a parameters logical) y =
+    rw (identify-starts-none (settingOf g a) (callLine (y .chip) (a .allowed) .chip) (a .mask) (a .fates) (y .chip) (a .allowed) parameters) tt
 
--- mounts and reads of any store send no 10h and no D0h
+-- mounts, reads and calls that ask for the chip's size, of any store, send no 10h and no D0h
 pub mount-sends : (g : Geometry) (y : Store) (a : Lent) → OnlyReads (cyclesOf g (toMount a) y)
 unfolding cyclesOf
 mount-sends g y a xs ys code e k =
@@ -229,6 +226,10 @@ read-sends g y a logical page buffer xs ys code e k =
     (λ u. none-there xs ys (command code) (rw (t, u) at e))
     (λ u. page-only-reads s (y .chip) (a .allowed) (getD (y .state .map) logical 0) page xs ys code (rw (t, u) at e) k))
     (λ f. none-there xs ys (command code) (rw f at e))
+
+pub identify-sends : (g : Geometry) (y : Store) (a : Lent) (parameters : List ℕ) (logical : ℕ) → OnlyReads (cyclesOf g (toIdentify a parameters logical) y)
+unfolding cyclesOf
+identify-sends g y a parameters logical = identify-only-reads (a .mask) (a .fates) (y .chip) (a .allowed) parameters
 
 -- each cycle of a write or an erase is legal
 module _ (g : Geometry) (y : Store) where
@@ -255,6 +256,7 @@ module _ (g : Geometry) (y : Store) where
   calls-spare sp v w (toErase a logical) t =
       spares-each (settingOf g a) (y .marked) (y .failed) (callLine (y .chip) (a .allowed) .chip) (cyclesOf g (toErase a logical) y) (traceOf g (toErase a logical) y)
       (call-traced g (toErase a logical) y) (erase-legal w a logical t) (sp (toErase a logical) t)
+  calls-spare sp v w (toIdentify a parameters logical) t = λ xs ys code e k. absurd (identify-sends g y a parameters logical xs ys code e k)
 
   calls-trace : Spares g y → WritesSent g y → ErasesSent g y → TracesCycles g y
   calls-trace sp v w (toMount a) t = λ xs ys code e k. absurd (mount-sends g y a xs ys code e k)
@@ -265,6 +267,7 @@ module _ (g : Geometry) (y : Store) where
   calls-trace sp v w (toErase a logical) t =
       let c = toErase a logical in
       traces-each (settingOf g a) (callLine (y .chip) (a .allowed) .chip) (cyclesOf g c y) (traceOf g c y) (call-traced g c y) (erase-legal w a logical t) (spared-on-chip g (y .marked) (y .failed) (traceOf g c y) (sp c t))
+  calls-trace sp v w (toIdentify a parameters logical) t = λ xs ys code e k. absurd (identify-sends g y a parameters logical xs ys code e k)
 
 pub traces-cycles : Always TracesCycles
 traces-cycles g a d st m z cs t =

@@ -28,10 +28,11 @@ use Rattle.bus_polling.specs.Outcomes.{isFailed}
 use Rattle.bus_polling.specs.Polling.{waiting, polls, outcomeOf}
 use Rattle.recovery_cycles.specs.Starts.{takes, givesFailed, failsNext}
 
--- a chip that is asked for its status while an operation is under way
+-- a chip that is asked for its status while a read, program or erase is under way
 pub record Asked (s : Setting) (d : Device) : Type 0 where
   pub asked : d .interface .phase ≡ 8
   pub legal : d .interface .illegal ≡ 0
+  pub of-array : eqb (d .interface .operation) 4 ≡ false
   pub fits : lengthsFit (s .geometry) d ≡ true
   pub row : rowAt (d .interface) < rowCount (s .geometry)
 
@@ -112,7 +113,7 @@ module _ (s : Setting) where
       let next : send s l status ≡ spent l (exec s d status) = send-on s l status t in
       cases (eqb (d .interface .busy) 0)
       (λ z.
-      let ready = ready-read s d (a .asked) (eqb-true _ _ z) (a .fits) (a .row) in
+      let ready = ready-read s d (a .asked) (eqb-true _ _ z) (a .of-array) (a .fits) (a .row) in
       let r = completed-reported (s .geometry) d (a .legal) in
       rw (t, next, ready, r .settled, asked-ready (d .interface) (a .asked) (eqb-true _ _ z))
       (or-none (eqb (statusByte 1 (d .interface .failed)) 225)
@@ -124,14 +125,14 @@ module _ (s : Setting) where
       let busy : exec s d status ≡ e = one-busy s (d .interface) (d .array) (d .register) (d .history) (a .asked) (omega (arith, eqb-false (d .interface .busy) 0 z)) in
       let waits : waiting e ≡ true = rw (eq-eqb _ _ (a .asked), eq-eqb _ _ (a .legal)) in
       rw (t, next, busy, waits, asked-busy (d .interface) (a .asked) z)
-      (polls-fail n (spent l e) (record { uncut = g .uncut; legal = a .legal }) (record { asked = a .asked; legal = a .legal; fits = a .fits; row = a .row })
+      (polls-fail n (spent l e) (record { uncut = g .uncut; legal = a .legal }) (record { asked = a .asked; legal = a .legal; of-array = a .of-array; fits = a .fits; row = a .row })
       ∙ ap (λ (x : Line). isFailed (outcomeOf (sendAll s x (replicate (polls s n e) status)))) (sym (next ∙ ap (spent l) busy)))))
       (λ f. rw f (sym (ap (λ (x : Line). isFailed (outcomeOf x)) (ap (λ (x : Line). sendAll s x (replicate k status)) (send-off s l status f) ∙ sendAll-stopped s (blocked l) (replicate k status) (blocked-stops l)) ∙ cut-unfailed l g)))
 
   -- a status read leaves whether an operation failed
   status-failed : (d : Device) → exec s d status .interface .failed ≡ d .interface .failed
   unfolding exec statusRead finished completed
-  status-failed d = search (same-arms) depth 12
+  status-failed d = search (same-arms) depth 14
 
   -- where none failed none of them gives E1h
   pub polls-pass : (n : ℕ) (l : Line) (d : Device) → d .interface .failed ≡ 0 → failsNext s d (sent s l (replicate n status)) ≡ false
@@ -144,7 +145,7 @@ module _ (s : Setting) where
 
 -- a confirm cycle that is taken leaves the chip busy with the same address
 record Busied (d e : Device) : Type 0 where
-  told : e .interface .illegal ≡ 0 → (e .interface .phase ≡ 7) × (e .interface .address ≡ d .interface .address)
+  told : e .interface .illegal ≡ 0 → (e .interface .phase ≡ 7) × (e .interface .address ≡ d .interface .address) × (eqb (e .interface .operation) 4 ≡ false)
 
 busied-arms : (d : Device) (b : Bool) (x y : Device) → Busied d x → Busied d y → Busied d (cond b x y)
 busied-arms d true x y p q = p
@@ -153,9 +154,9 @@ busied-arms d false x y p q = q
 busied-refused : (d : Device) → Busied d (illegalCycle d)
 busied-refused d = record { told = λ e. one-zero e }
 
-busied-started : (d : Device) (operation : ℕ) (fates a r h : List ℕ) → Busied d (device (started operation fates (d .interface)) a r h)
+busied-started : (d : Device) (operation : ℕ) (fates a r h : List ℕ) → eqb operation 4 ≡ false → Busied d (device (started operation fates (d .interface)) a r h)
 unfolding started
-busied-started d operation fates a r h = record { told = λ e. (refl, refl) }
+busied-started d operation fates a r h o = record { told = λ e. (refl, refl, o) }
 
 module _ (s : Setting) (d : Device) where
   confirmed-busied : (code : ℕ) → Busied d (confirmed code s d)
@@ -189,6 +190,7 @@ module _ (s : Setting) (d : Device) where
         (record {
           asked = refl;
           legal = taken;
+          of-array = commanded-busied code c .told taken .2;
           fits = fitting-holds (s .geometry) _ _ _ (t .0 .is-valid) (l .array ∙ t .0 .array-long) (l .register ∙ t .0 .register-long) (l .history ∙ t .0 .history-long);
           row = subst (λ (a : ℕ). a / 65536 < rowCount (s .geometry)) (sym (commanded-busied code c .told taken .1)) (t .1 .1);
         })

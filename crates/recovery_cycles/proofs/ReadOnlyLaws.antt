@@ -1,19 +1,22 @@
--- No mount and no read, of any chip, sends a 10h or D0h cycle. Assumes nothing.
+-- No mount, no read and no call that asks for the chip's size, of any chip, sends a 10h or D0h cycle, and the last starts no operation on the
+-- array at all. Assumes nothing.
 use Prim.Native.Nat.{ℕ, zero, suc}
-use mathlib.Core.Bool.{cond}
+use mathlib.Core.Bool.{true, false, cond}
 use mathlib.Core.List.{List, [], _∷_, _++_}
 use mathlib.Core.Logic.{⊎-elim}
-use mathlib.Core.Path.{subst}
+use mathlib.Core.Path.{_≡_, refl, sym, subst}
 use native.Mathlib.Omega.{arith}
 use borrow.Table.Steps.{cases}
-use lib.ListN.{replicate}
+use lib.Dec.{eqb}
+use lib.ListN.{length, replicate}
+use Rattle.bools.proofs.BoolLaws.{clash}
 use Rattle.geometry.specs.Sizes.{pageSize, rowOf, columnBytes, rowBytes}
-use Rattle.chip_array.specs.Device.{Device, Setting}
-use Rattle.chip.specs.Chip.{Cycle}
-use Rattle.chip.specs.Chip.Cycle.{command, address, dataIn, dataOut, status}
+use Rattle.chip_array.specs.Device.{Device, Setting, setting}
+use Rattle.chip.specs.Chip.{Cycle, isConfirm}
+use Rattle.chip.specs.Chip.Cycle.{command, address, dataIn, dataOut, status, parameterAddress, parameterOut}
 use Rattle.bus.specs.Line.{Line, sendAll, sent}
 use Rattle.bus_polling.specs.Outcomes.{isPassed}
-use Rattle.bus_polling.specs.Polling.{polls, outcomeOf, statusReads}
+use Rattle.bus_polling.specs.Polling.{polls, outcomeOf, endedAs, statusReads}
 use Rattle.bus_polling.specs.declared.Outcome.the-variants.{Passed}
 use Rattle.bus_sequences.specs.Cycles.{resetCycles, confirmCycles, readAddress, pageLine, readCycles}
 use Rattle.progress.specs.Progress.{Progress, progress, readOn, resetOn}
@@ -21,10 +24,15 @@ use Rattle.scan_block.specs.Pages.{pagesRead}
 use Rattle.scan.specs.Scan.{blocksRead}
 use Rattle.read_page.specs.Fetching.{pageProgress}
 use Rattle.request.specs.Call.{callLine}
+use Rattle.request.specs.Start.{startLine}
 use Rattle.mount.specs.Mount.{mountRun}
-use Rattle.recovery_cycles.specs.Starts.{Changes}
+use Rattle.parameter_read.specs.Cycles.{parameterLoad, parameterOutput, parameterCycles}
+use Rattle.identify.specs.Identify.{unknown, parametersOn}
+use Rattle.identify.specs.Ends.{identifyCycles}
+use Rattle.recovery_cycles.specs.Starts.{takes, startsIn, Changes}
 use Rattle.recovery_cycles.specs.Spared.{OnlyReads}
-use Rattle.recovery_cycles.proofs.AllLaws.{All, all-append, all-mapped, all-repeated, all-sent, all-at}
+use Rattle.recovery_cycles.proofs.AllLaws.{All, all-append, all-mapped, all-repeated, all-sent, all-at, all-weaker}
+use Rattle.recovery_cycles.proofs.StartLaws.{Idle, idle-starts}
 
 -- neither 10h nor D0h
 abbrev Harmless : Cycle → Type 0
@@ -33,6 +41,8 @@ Harmless (address byte) = Unit {0}
 Harmless (dataIn byte) = Unit {0}
 Harmless dataOut = Unit {0}
 Harmless status = Unit {0}
+Harmless (parameterAddress byte) = Unit {0}
+Harmless (parameterOut page) = Unit {0}
 
 only-reads : (cycles : List Cycle) → All Harmless cycles → OnlyReads cycles
 only-reads cycles h xs ys code e k = all-at Harmless xs ys (command code) (subst (All Harmless) e h) k
@@ -96,3 +106,69 @@ module _ (s : Setting) where
   page-only-reads d n block page =
       only-reads (pageProgress s d n block page .cycles)
       (read-harmless (rowOf (s .geometry) block page) 0 (s .geometry .main) (progress (callLine d n) Passed [] []) tt)
+
+pub changes-confirm : (code : ℕ) → Changes code → isConfirm code ≡ true
+unfolding isConfirm
+changes-confirm code k =
+    ⊎-elim (λ e. subst (λ (x : ℕ). isConfirm x ≡ true) (sym e) refl) (λ e. subst (λ (x : ℕ). isConfirm x ≡ true) (sym e) refl) k
+
+-- no confirm cycle
+abbrev Unconfirming : Cycle → Type 0
+Unconfirming (command code) = isConfirm code ≡ false
+Unconfirming (address byte) = Unit {0}
+Unconfirming (dataIn byte) = Unit {0}
+Unconfirming dataOut = Unit {0}
+Unconfirming status = Unit {0}
+Unconfirming (parameterAddress byte) = Unit {0}
+Unconfirming (parameterOut page) = Unit {0}
+
+unconfirming-idle : (c : Cycle) → Unconfirming c → Idle c
+unfolding takes
+unconfirming-idle (command code) h = λ s d. rw h
+unconfirming-idle (address byte) h = λ s d. refl
+unconfirming-idle (dataIn byte) h = λ s d. refl
+unconfirming-idle dataOut h = λ s d. refl
+unconfirming-idle status h = λ s d. refl
+unconfirming-idle (parameterAddress byte) h = λ s d. refl
+unconfirming-idle (parameterOut page) h = λ s d. refl
+
+unconfirming-harmless : (c : Cycle) → Unconfirming c → Harmless c
+unconfirming-harmless (command code) h = λ k. clash (changes-confirm code k) h
+unconfirming-harmless (address byte) h = tt
+unconfirming-harmless (dataIn byte) h = tt
+unconfirming-harmless dataOut h = tt
+unconfirming-harmless status h = tt
+unconfirming-harmless (parameterAddress byte) h = tt
+unconfirming-harmless (parameterOut page) h = tt
+
+parameter-cycles : (s : Setting) (l : Line) (page : List ℕ) (n : ℕ) → All Unconfirming (parameterCycles s l page n)
+unfolding parameterCycles isConfirm
+parameter-cycles s l page n =
+    let first = command 236 ∷ parameterAddress 0 ∷ command 112 ∷ [] in
+    let asked = sendAll s l first .chip in
+    all-append Unconfirming (first ++ statusReads s asked) (cond (isPassed (outcomeOf (sendAll s l (parameterLoad s l)))) (parameterOutput page n) [])
+    (all-append Unconfirming first (statusReads s asked) (refl, (tt, (refl, tt))) (all-repeated Unconfirming (polls s 256 asked) status tt))
+    (cases (isPassed (outcomeOf (sendAll s l (parameterLoad s l)))) (λ t. rw t (refl, all-repeated Unconfirming n (parameterOut page) tt)) (λ t. rw t tt))
+
+identify-unconfirming : (mask fates : List ℕ) (d : Device) (n : ℕ) (page : List ℕ) → All Unconfirming (identifyCycles mask fates d n page)
+unfolding identifyCycles parametersOn resetOn isPassed isConfirm
+identify-unconfirming mask fates d n page =
+    let s = setting unknown mask fates in
+    let reset = all-sent Unconfirming s (callLine d n) resetCycles (refl, (refl, (tt, tt))) in
+    let cs = parameterCycles s (startLine s d n) page 768 in
+    cases (eqb (length page) 768)
+    (λ t. cases (isPassed (endedAs (startLine s d n)))
+    (λ u. rw (t, u) (all-append Unconfirming (sent s (callLine d n) resetCycles) (sent s (startLine s d n) cs) reset (all-sent Unconfirming s (startLine s d n) cs (parameter-cycles s (startLine s d n) page 768))))
+    (λ u. rw (t, u) reset))
+    (λ f. rw f tt)
+
+pub identify-only-reads : (mask fates : List ℕ) (d : Device) (n : ℕ) (page : List ℕ) → OnlyReads (identifyCycles mask fates d n page)
+identify-only-reads mask fates d n page =
+    only-reads (identifyCycles mask fates d n page)
+    (all-weaker Unconfirming Harmless unconfirming-harmless (identifyCycles mask fates d n page) (identify-unconfirming mask fates d n page))
+
+-- with any setting
+pub identify-starts-none : (s : Setting) (e : Device) (mask fates : List ℕ) (d : Device) (n : ℕ) (page : List ℕ) → startsIn s e (identifyCycles mask fates d n page) ≡ []
+identify-starts-none s e mask fates d n page =
+    idle-starts s e (identifyCycles mask fates d n page)
+    (all-weaker Unconfirming Idle unconfirming-idle (identifyCycles mask fates d n page) (identify-unconfirming mask fates d n page))

@@ -10,7 +10,7 @@ use lib.ListN.{replicate}
 use Rattle.bools.proofs.BoolLaws.{both, clash}
 use Rattle.chip_array.specs.Device.{Device, Setting}
 use Rattle.chip.specs.Chip.{Cycle, exec, isConfirm}
-use Rattle.chip.specs.Chip.Cycle.{command, address, dataIn, dataOut, status}
+use Rattle.chip.specs.Chip.Cycle.{command, address, dataIn, dataOut, status, parameterAddress, parameterOut}
 use Rattle.bus.specs.Line.{Line, mayGo, admits, blocked, send, sendAll, sent, run, goesOn, Going}
 use Rattle.bus.proofs.LineLaws.{sendAll-append, sendAll-stopped, send-on, send-off, blocked-stops, admits-stopped, going}
 use Rattle.chip_laws.proofs.ReplayLaws.{sent-append, sent-runs}
@@ -67,6 +67,8 @@ module _ (s : Setting) where
   idle-at d (dataIn byte) b h = refl
   idle-at d dataOut b h = refl
   idle-at d status b h = refl
+  idle-at d (parameterAddress byte) b h = refl
+  idle-at d (parameterOut page) b h = refl
 
   -- idle cycles start nothing, and plain ones read no E1h
   pub idle-starts : (d : Device) (cs : List Cycle) → All Idle cs → startsIn s d cs ≡ []

@@ -21,8 +21,9 @@ use Rattle.request.specs.Call.{sizedFor, callLine}
 use Rattle.request_refusals.specs.Refusals.{refusalOf}
 use Rattle.read_page.specs.Fetching.{pageProgress}
 use Rattle.mount.specs.Mount.{mountRun}
+use Rattle.identify.specs.Ends.{identifyCycles}
 use Rattle.write_changes.specs.Changes.{writeUpdate, eraseUpdate, changeRun, eraseRefusal}
-use Rattle.recovery.specs.Calls.{Lent, Call, toMount, toRead, toWrite, toErase, Typed, Store, settingOf, traceOf}
+use Rattle.recovery.specs.Calls.{Lent, Call, toMount, toRead, toWrite, toErase, toIdentify, Typed, Store, settingOf, traceOf}
 use Rattle.damage.specs.Run.{failedIn}
 use Rattle.recovery_cycles.specs.Starts.{Start, startsIn, failedRead, Changes, TracesEach}
 
@@ -64,12 +65,15 @@ cyclesOf g (toErase a logical) y =
     cond (eqb (eraseRefusal (settingOf g a) (y .chip) (y .state) logical) 0)
     (changeRun (settingOf g a) (y .state) (eraseUpdate logical) (progress (callLine (y .chip) (a .allowed)) Passed [] []) .progress .cycles)
     []
+cyclesOf g (toIdentify a parameters logical) y =
+    identifyCycles (a .mask) (a .fates) (y .chip) (a .allowed) parameters
 
 abbrev pub lentFor : Call → Lent
 lentFor (toMount a) = a
 lentFor (toRead a logical page buffer) = a
 lentFor (toWrite a logical page bytes) = a
 lentFor (toErase a logical) = a
+lentFor (toIdentify a parameters logical) = a
 
 -- the chip on which it begins, and the confirm cycles that it sends
 abbrev pub chipFor : Call → Store → Device

@@ -9,7 +9,7 @@ use Rattle.geometry.specs.declared.Geometry.{Geometry}
 use Rattle.chip_interface.specs.Interface.{readConfirm, programConfirm, eraseConfirm}
 use Rattle.chip_array.specs.Device.{Device, Setting, blockAt, pageAt}
 use Rattle.chip.specs.Chip.{Cycle, exec, isConfirm, statusShown}
-use Rattle.chip.specs.Chip.Cycle.{command, address, dataIn, dataOut, status}
+use Rattle.chip.specs.Chip.Cycle.{command, address, dataIn, dataOut, status, parameterAddress, parameterOut}
 use Rattle.bus.specs.Line.{run}
 use Rattle.bus_polling.specs.Outcomes.{isFailed}
 use Rattle.operations.specs.Trace.{ArrayOperation}
@@ -23,6 +23,8 @@ takes s d (address byte) = false
 takes s d (dataIn byte) = false
 takes s d dataOut = false
 takes s d status = false
+takes s d (parameterAddress byte) = false
+takes s d (parameterOut page) = false
 
 -- a status read that gives E1h
 unfoldable pub givesFailed : Device → Cycle → Bool
@@ -31,6 +33,8 @@ givesFailed d (address byte) = false
 givesFailed d (dataIn byte) = false
 givesFailed d dataOut = false
 givesFailed d status = eqb (statusShown (d .interface)) 225
+givesFailed d (parameterAddress byte) = false
+givesFailed d (parameterOut page) = false
 
 -- whether cycles from chip d on read E1h before the next confirm cycle that is taken
 unfoldable pub failsNext : Setting → Device → List Cycle → Bool
@@ -52,6 +56,8 @@ startsAt s d (address byte) failed = []
 startsAt s d (dataIn byte) failed = []
 startsAt s d dataOut failed = []
 startsAt s d status failed = []
+startsAt s d (parameterAddress byte) failed = []
+startsAt s d (parameterOut page) failed = []
 
 -- those of a list of cycles that begins on chip d
 unfoldable pub startsIn : Setting → Device → List Cycle → List Start

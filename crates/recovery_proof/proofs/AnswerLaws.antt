@@ -6,15 +6,16 @@ use Rattle.geometry.specs.declared.Geometry.{Geometry}
 use Rattle.bools.proofs.BoolLaws.{clash}
 use Rattle.mount_laws.proofs.MountingLaws.{mount-unsized, mount-heard}
 use Rattle.state.specs.State.{mounted}
-use Rattle.recovery.specs.Calls.{Call, toMount, toRead, toWrite, toErase, Typed, Store, settingOf, afterMount, step}
+use Rattle.recovery.specs.Calls.{Call, toMount, toRead, toWrite, toErase, toIdentify, Typed, Store, settingOf, afterMount, step}
 use Rattle.recovery.specs.Recovery.{Always}
 use Rattle.recovery_proof.specs.Answers.{RightlyCalled, ComesBack, ReadsAnswered, WritesAnswered, ErasesAnswered}
 use Rattle.recovery_proof.specs.Cycles.{WritesSent, ErasesSent}
-use Rattle.recovery_proof.specs.Acknowledged.{answerOf, DoneReads}
+use Rattle.recovery_proof.specs.Acknowledged.{answerOf, OfMounted, DoneReads}
 use Rattle.recovery_proof.specs.Invariant.{Inv}
 use Rattle.recovery_proof.proofs.InvariantLaws.{fit-sizes}
 use Rattle.recovery_proof.proofs.MountSteps.{mount-mounted}
 use Rattle.recovery_proof.proofs.ReadSteps.{read-mounted, reads-back, read-told}
+use Rattle.recovery_proof.proofs.IdentifySteps.{identify-mounted}
 use Rattle.recovery_proof.proofs.ChangeSteps.{write-answers, write-sent, write-mounted, erase-answers, erase-sent, erase-mounted}
 use Rattle.recovery_proof.proofs.RecoveryLaws.{step-inv, by-inv}
 
@@ -53,15 +54,16 @@ pub erases-sent : Always ErasesSent
 erases-sent =
     by-inv ErasesSent (λ g y i a logical m. erase-sent g y i a m logical)
 
--- a call answered 0 leaves a state that counts as mounted
-done-mounted : (g : Geometry) (y : Store) → Inv g y → (c : Call) → Typed c → answerOf g c y ≡ 0 → mounted (step g c y .state) (g .blocks) (g .logical) ≡ true
+-- a call answered 0 leaves a state that counts as mounted, or left it so
+done-mounted : (g : Geometry) (y : Store) → Inv g y → (c : Call) → Typed c → OfMounted g c y → answerOf g c y ≡ 0 → mounted (step g c y .state) (g .blocks) (g .logical) ≡ true
 unfolding step afterMount answerOf
-done-mounted g y i (toMount a) t z = mount-mounted g y i a z
-done-mounted g y i (toRead a logical page buffer) t z = read-mounted g y i a logical page buffer z
-done-mounted g y i (toWrite a logical page bytes) t z = write-mounted g y i a (t .0) logical page bytes (t .1) z
-done-mounted g y i (toErase a logical) t z = erase-mounted g y i a t logical z
+done-mounted g y i (toMount a) t m z = mount-mounted g y i a z
+done-mounted g y i (toRead a logical page buffer) t m z = read-mounted g y i a logical page buffer z
+done-mounted g y i (toWrite a logical page bytes) t m z = write-mounted g y i a (t .0) logical page bytes (t .1) z
+done-mounted g y i (toErase a logical) t m z = erase-mounted g y i a t logical z
+done-mounted g y i (toIdentify a parameters logical) t m z = identify-mounted g y a parameters logical m z
 
 pub done-reads : Always DoneReads
 done-reads =
     by-inv DoneReads
-    (λ g y i c t z. reads-back g (step g c y) (step-inv g c t y i) (done-mounted g y i c t z))
+    (λ g y i c t m z. reads-back g (step g c y) (step-inv g c t y i) (done-mounted g y i c t m z))

@@ -18,8 +18,8 @@ use Rattle.request.specs.Call.{sized, sizedFor}
 use Rattle.damage.specs.Run.{failedIn}
 use Rattle.recovery_stored.specs.Stored.{Stored}
 use Rattle.copies.specs.Blocks.{blockIn, isMarked}
-use Rattle.recovery_write.specs.Changed.{MarkedBy}
-use Rattle.recovery.specs.Book.{Same, Note, Account, settled}
+use Rattle.recovery_write.specs.Changed.{Agrees, MarkedBy}
+use Rattle.recovery.specs.Book.{Book, Same, Note, Account, settled}
 use Rattle.recovery.specs.Calls.{Store, copyOfNote, failedAfter}
 use Rattle.recovery_proof.specs.Invariant.{dueOf, Up, Inv}
 
@@ -64,6 +64,12 @@ stopped-inv g y i z f a b m s =
           (subst (λ (x : Account). Same g (reading g (y .chip .array) (i .table)) (dueOf g (y .chip .array) x)) (sym b) (i .reads));
       is = inr s;
     }
+
+-- a mounted state that goes with the same array
+pub agrees-moved : {g : Geometry} {array array' : List ℕ} {st st' : State} {book : Book} {f f' : ℕ → Bool} → array' ≡ array → st' ≡ st → f' ≡ f → Agrees g array st book f → Agrees g array' st' book f'
+agrees-moved {g} {array} {array'} {st} {st'} {book} {f} {f'} a s e x =
+    subst (λ (q : List ℕ). Agrees g q st' book f') (sym a)
+    (subst (λ (q : State). Agrees g array q book f') (sym s) (subst (λ (q : ℕ → Bool). Agrees g array st book q) (sym e) x))
 
 -- a stopped state does not count as mounted
 stopped-unmounted : (blocks logical : ℕ) → mounted (blank 2) blocks logical ≡ false

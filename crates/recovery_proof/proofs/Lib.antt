@@ -1,3 +1,4 @@
+pub mod IdentifySteps
 pub mod InvariantLaws
 pub mod StartLaws
 pub mod MountSteps

@@ -30,21 +30,14 @@ use Rattle.request_laws.specs.Unready.{AnyReadAnswer, of-ready, is-refused}
 use Rattle.request_laws.proofs.PageReadLaws.{reads-as, read-replayed, read-unfailed}
 use Rattle.request_laws.proofs.UnreadyLaws.{read-answers-any, read-255}
 use Rattle.copies.specs.Blocks.{blockIn, isMarked}
-use Rattle.recovery.specs.Book.{Book}
 use Rattle.recovery.specs.Calls.{Lent, toRead, Store, store, settingOf, readOf, traceOf, failedAfter, step}
-use Rattle.recovery_write.specs.Changed.{Agrees}
 use Rattle.recovery_proof.specs.Acknowledged.{ReadsBack}
 use Rattle.recovery_proof.specs.Invariant.{Up, Inv}
-use Rattle.recovery_proof.proofs.InvariantLaws.{sizes-fit, fit-sizes, is-up, up-inv, stopped-inv, failed-none}
+use Rattle.recovery_proof.proofs.InvariantLaws.{sizes-fit, fit-sizes, agrees-moved, is-up, up-inv, stopped-inv, failed-none}
 
 -- operations of which none failed
 failed-same : (f : ℕ → Bool) (os : List ArrayOperation) → ((b : ℕ) → failedIn b os ≡ false) → failedAfter f os ≡ f
 failed-same f os none = fun-ext (λ b. ap (cond (f b) true) (none b) ∙ or-none (f b))
-
-agrees-moved : {g : Geometry} {array array' : List ℕ} {st st' : State} {book : Book} {f f' : ℕ → Bool} → array' ≡ array → st' ≡ st → f' ≡ f → Agrees g array st book f → Agrees g array' st' book f'
-agrees-moved {g} {array} {array'} {st} {st'} {book} {f} {f'} a s e x =
-    subst (λ (q : List ℕ). Agrees g q st' book f') (sym a)
-    (subst (λ (q : State). Agrees g array q book f') (sym s) (subst (λ (q : ℕ → Bool). Agrees g array st book q) (sym e) x))
 
 module _ (g : Geometry) (y : Store) (i : Inv g y) (a : Lent) (logical page : ℕ) (buffer : List ℕ) where
   abbrev s : Setting

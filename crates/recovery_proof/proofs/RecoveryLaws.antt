@@ -3,13 +3,14 @@
 use mathlib.Core.List.{List, [], _∷_}
 use Rattle.geometry.specs.declared.Geometry.{Geometry}
 use Rattle.read.proofs.ReadingLaws.{read-keeps}
-use Rattle.recovery.specs.Calls.{Call, toMount, toRead, toWrite, toErase, Typed, AllTyped, Store, settingOf, step, after, begun}
+use Rattle.recovery.specs.Calls.{Call, toMount, toRead, toWrite, toErase, toIdentify, Typed, AllTyped, Store, settingOf, step, after, begun}
 use Rattle.recovery.specs.Recovery.{Always, Recovers, ReadsRight, Spares}
 use Rattle.recovery_proof.specs.Invariant.{Inv}
 use Rattle.recovery_proof.proofs.StartLaws.{start-inv}
 use Rattle.recovery_proof.proofs.MountSteps.{mount-step}
 use Rattle.recovery_proof.proofs.ReadSteps.{read-step, read-gives-book}
 use Rattle.recovery_proof.proofs.ChangeSteps.{write-step, write-spared, erase-step, erase-spared}
+use Rattle.recovery_proof.proofs.IdentifySteps.{identify-step, identify-spared}
 use Rattle.recovery_proof.proofs.ReadOnlyLaws.{mount-spared, read-spared}
 use Rattle.recovery_proof.proofs.MountReads.{inv-recovered}
 
@@ -19,6 +20,7 @@ step-inv g (toMount a) t y i = mount-step g y i a
 step-inv g (toRead a logical page buffer) t y i = read-step g y i a logical page buffer
 step-inv g (toWrite a logical page bytes) t y i = write-step g y i a (t .0) logical page bytes (t .1)
 step-inv g (toErase a logical) t y i = erase-step g y i a t logical
+step-inv g (toIdentify a parameters logical) t y i = identify-step g y a parameters logical i
 
 after-inv : (g : Geometry) (cs : List Call) → AllTyped cs → (y : Store) → Inv g y → Inv g (after g cs y)
 unfolding after AllTyped
@@ -50,6 +52,7 @@ spared-by g y i (toMount a) t = mount-spared g y a
 spared-by g y i (toRead a logical page buffer) t = read-spared g y a logical page buffer
 spared-by g y i (toWrite a logical page bytes) t = write-spared g y i a (t .0) logical page bytes (t .1)
 spared-by g y i (toErase a logical) t = erase-spared g y i a t logical
+spared-by g y i (toIdentify a parameters logical) t = identify-spared g y a parameters logical
 
 pub spares : Always Spares
 spares = by-inv Spares spared-by

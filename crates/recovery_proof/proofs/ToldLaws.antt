@@ -1,8 +1,8 @@
 -- After every list on a chip of bytes each write and erase that is not refused ends as on any chip. Assumes nothing.
-use Prim.Native.Nat.{ℕ, _≤_}
+use Prim.Native.Nat.{ℕ}
 use mathlib.Core.Bool.{true, false}
 use mathlib.Core.List.{List, [], _∷_}
-use mathlib.Core.Path.{_≡_, refl, sym, ap, subst, _∙_}
+use mathlib.Core.Path.{_≡_, sym, ap, subst, _∙_}
 use native.Mathlib.Omega.{arith}
 use borrow.Table.Steps.{cases}
 use lib.Dec.{eqb}
@@ -13,7 +13,6 @@ use Rattle.chip_array.specs.Device.{Device, Setting}
 use Rattle.chip.specs.Chip.{Cycle}
 use Rattle.chip_laws.proofs.ByteLaws.{run-bytes}
 use Rattle.bus.specs.Line.{run}
-use Rattle.state.specs.State.{mounted}
 use Rattle.state.specs.declared.State.{State}
 use Rattle.request.specs.Call.{Result, result, callLine, sizedFor}
 use Rattle.request_refusals.specs.Refusals.{refusalOf}
@@ -27,9 +26,10 @@ use Rattle.write_changes.specs.Changes.{Update, writeUpdate, eraseUpdate, chang
 use Rattle.write_laws.specs.Changing.{InRange}
 use Rattle.write_laws.proofs.ChangingLaws.{write-ends, erase-ends}
 use Rattle.recovery_stored.proofs.KnowsLaws.{knows-bits}
-use Rattle.recovery.specs.Calls.{Lent, Call, toMount, toRead, toWrite, toErase, Typed, AllTyped, Store, settingOf, formatOn, afterMount, step, after, begun}
+use Rattle.recovery.specs.Calls.{Lent, Call, toMount, toRead, toWrite, toErase, toIdentify, Typed, AllTyped, Store, settingOf, formatOn, afterMount, step, after, begun}
 use Rattle.recovery_proof.specs.Invariant.{Up, Inv}
 use Rattle.recovery_proof.specs.Told.{AlwaysOfBytes, WritesTold, ErasesTold}
+use Rattle.recovery_proof.proofs.IdentifySteps.{identify-array}
 use Rattle.recovery_proof.proofs.InvariantLaws.{is-up}
 use Rattle.recovery_proof.proofs.SizeLaws.{change-leads}
 use Rattle.recovery_proof.proofs.RecoveryLaws.{always}
@@ -72,6 +72,7 @@ step-bytes g (toRead a logical page buffer) t y h =
     subst Bytes (sym (read-array-kept (settingOf g a) (y .chip) (y .state) logical page buffer (a .allowed) .same-array)) h
 step-bytes g (toWrite a logical page bytes) t y h = write-bytes (settingOf g a) (y .chip) (a .allowed) (y .state) h (t .0) logical page bytes
 step-bytes g (toErase a logical) t y h = erase-bytes (settingOf g a) (y .chip) (a .allowed) (y .state) h t logical
+step-bytes g (toIdentify a parameters logical) t y h = subst Bytes (sym (identify-array g y a parameters logical)) h
 
 after-bytes : (g : Geometry) (cs : List Call) → AllTyped cs → (y : Store) → Bytes (y .chip .array) → Bytes (after g cs y .chip .array)
 unfolding after AllTyped

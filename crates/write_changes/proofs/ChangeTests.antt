@@ -7,14 +7,14 @@ use lib.ListN.{replicate, set}
 use Rattle.geometry.specs.declared.Geometry.{Geometry}
 use Rattle.cells.specs.Cells.{programmed, weakened, raised}
 use Rattle.cells.specs.Part.{put}
-use Rattle.bitmaps.specs.Bitmap.{bitAt, withBit, countBits}
+use Rattle.bitmaps.specs.Bitmap.{bitAt, withBit}
 use Rattle.chip_interface.specs.Interface.{poweredOn, begun, statusMode, readMode, plainCommand, addressFits, latched, addressed, fateWord, nextFate, started, statusByte}
 use Rattle.chip_array.specs.Device.{Device, Setting, device, setting, fitting, readStarted, programStarted, eraseStarted, completed}
 use Rattle.chip.specs.Chip.{isConfirm, confirmed, confirmable, commanded, dataTaken, dataGiven, dataByte, finished, statusRead, exec}
 use Rattle.bus.specs.Line.{mayGo, cutAfter, send, byteOut, sendAll, sent, goesOn}
 use Rattle.bus_polling.specs.Polling.{waiting, polls, outcomeOf, endedAs}
 use Rattle.bus_polling.specs.Outcomes.{isPassed, isFailed, isSilent, isCut}
-use Rattle.bus_sequences.specs.Cycles.{readCycles, readOutcome, outputs, readOutputs}
+use Rattle.bus_sequences.specs.Cycles.{readCycles, readOutcome, putOut, readOutputs}
 use Rattle.operations.specs.Trace.{startedBy}
 use Rattle.pages.specs.Check.{zeroBits}
 use Rattle.pages.specs.Layout.{numberWidth, isDataKind, isTableKind, bytesOf, numberOf, labelBytes, encoded, kindOf}
@@ -27,7 +27,7 @@ use Rattle.progress.specs.Steps.{eraseOn, programOn}
 use Rattle.request.specs.Call.{Result, stopAnswer}
 use Rattle.fill.specs.Fill.{mainOf, mainRead, pageFilled, pagesFilled, tableMain, dataSource, isGiven}
 use Rattle.fill_tables.specs.Tables.{afterFill, tryBlock, tryTable, tablesFilled}
-use Rattle.write_changes.specs.Changes.{Update, writeUpdate, eraseUpdate, afterTry, copyTried, copiesFilled, thenTable, changing}
+use Rattle.write_changes.specs.Changes.{writeUpdate, eraseUpdate, afterTry, copyTried, copiesFilled, thenTable, changing}
 
 abbrev small : Geometry
 small = record { main = 32; spare = 16; pages = 4; blocks = 4; logical = 2 }
@@ -54,39 +54,39 @@ told r = r .answer ∷ r .sent ∷ r .state .table ∷ r .state .last ∷ r .sta
 
 -- without an old copy: 235 cycles, in block 1 under number 2
 first-write : told (written [] (state 0 2 65535)) ≡ 0 ∷ 235 ∷ 0 ∷ 1 ∷ 3 ∷ []
-unfolding ones begun statusMode readMode plainCommand addressFits latched addressed fateWord nextFate started statusByte fitting readStarted programStarted eraseStarted completed isConfirm confirmed confirmable commanded dataTaken dataGiven dataByte finished statusRead exec programmed weakened raised put mayGo cutAfter send byteOut sendAll sent goesOn waiting polls outcomeOf isPassed endedAs readCycles readOutcome outputs readOutputs startedBy readOn stopAnswer isSilent isCut bitAt withBit zeroBits numberWidth bytesOf numberOf labelBytes encoded kindOf eraseOn programOn isFailed mainOf mainRead pageFilled pagesFilled tableMain permitted searchAfter afterFill tryBlock tryTable tablesFilled table.tablePage isDataKind isTableKind copyBits copyTried afterTry copiesFilled thenTable dataSource isGiven
+unfolding ones begun statusMode readMode plainCommand addressFits latched addressed fateWord nextFate started statusByte fitting readStarted programStarted eraseStarted completed isConfirm confirmed confirmable commanded dataTaken dataGiven dataByte finished statusRead exec programmed weakened raised put mayGo cutAfter send byteOut sendAll sent goesOn waiting polls outcomeOf isPassed endedAs readCycles readOutcome putOut readOutputs startedBy readOn stopAnswer isSilent isCut bitAt withBit zeroBits numberWidth bytesOf numberOf labelBytes encoded kindOf eraseOn programOn isFailed mainOf mainRead pageFilled pagesFilled tableMain permitted searchAfter afterFill tryBlock tryTable tablesFilled table.tablePage isDataKind isTableKind copyBits copyTried afterTry copiesFilled thenTable dataSource isGiven
 first-write = refl
 
 -- over an old copy in block 1 three pages are read: 361 cycles, in block 2
 second-write : told (written [] (state 1 3 1)) ≡ 0 ∷ 361 ∷ 0 ∷ 2 ∷ 4 ∷ []
-unfolding ones begun statusMode readMode plainCommand addressFits latched addressed fateWord nextFate started statusByte fitting readStarted programStarted eraseStarted completed isConfirm confirmed confirmable commanded dataTaken dataGiven dataByte finished statusRead exec programmed weakened raised put mayGo cutAfter send byteOut sendAll sent goesOn waiting polls outcomeOf isPassed endedAs readCycles readOutcome outputs readOutputs startedBy readOn stopAnswer isSilent isCut bitAt withBit zeroBits numberWidth bytesOf numberOf labelBytes encoded kindOf eraseOn programOn isFailed mainOf mainRead pageFilled pagesFilled tableMain permitted searchAfter afterFill tryBlock tryTable tablesFilled table.tablePage isDataKind isTableKind copyBits copyTried afterTry copiesFilled thenTable dataSource isGiven
+unfolding ones begun statusMode readMode plainCommand addressFits latched addressed fateWord nextFate started statusByte fitting readStarted programStarted eraseStarted completed isConfirm confirmed confirmable commanded dataTaken dataGiven dataByte finished statusRead exec programmed weakened raised put mayGo cutAfter send byteOut sendAll sent goesOn waiting polls outcomeOf isPassed endedAs readCycles readOutcome putOut readOutputs startedBy readOn stopAnswer isSilent isCut bitAt withBit zeroBits numberWidth bytesOf numberOf labelBytes encoded kindOf eraseOn programOn isFailed mainOf mainRead pageFilled pagesFilled tableMain permitted searchAfter afterFill tryBlock tryTable tablesFilled table.tablePage isDataKind isTableKind copyBits copyTried afterTry copiesFilled thenTable dataSource isGiven
 second-write = refl
 
 -- an erase fills a copy of FFh, with nothing read
 erase-copy : told (changing (call []) chip 10000 (state 1 3 1) (eraseUpdate 0)) ≡ 0 ∷ 235 ∷ 0 ∷ 2 ∷ 4 ∷ []
-unfolding ones begun statusMode readMode plainCommand addressFits latched addressed fateWord nextFate started statusByte fitting readStarted programStarted eraseStarted completed isConfirm confirmed confirmable commanded dataTaken dataGiven dataByte finished statusRead exec programmed weakened raised put mayGo cutAfter send byteOut sendAll sent goesOn waiting polls outcomeOf isPassed endedAs readCycles readOutcome outputs readOutputs startedBy readOn stopAnswer isSilent isCut bitAt withBit zeroBits numberWidth bytesOf numberOf labelBytes encoded kindOf eraseOn programOn isFailed mainOf mainRead pageFilled pagesFilled tableMain permitted searchAfter afterFill tryBlock tryTable tablesFilled table.tablePage isDataKind isTableKind copyBits copyTried afterTry copiesFilled thenTable dataSource isGiven
+unfolding ones begun statusMode readMode plainCommand addressFits latched addressed fateWord nextFate started statusByte fitting readStarted programStarted eraseStarted completed isConfirm confirmed confirmable commanded dataTaken dataGiven dataByte finished statusRead exec programmed weakened raised put mayGo cutAfter send byteOut sendAll sent goesOn waiting polls outcomeOf isPassed endedAs readCycles readOutcome putOut readOutputs startedBy readOn stopAnswer isSilent isCut bitAt withBit zeroBits numberWidth bytesOf numberOf labelBytes encoded kindOf eraseOn programOn isFailed mainOf mainRead pageFilled pagesFilled tableMain permitted searchAfter afterFill tryBlock tryTable tablesFilled table.tablePage isDataKind isTableKind copyBits copyTried afterTry copiesFilled thenTable dataSource isGiven
 erase-copy = refl
 
 -- the first erase fails: another fill in block 3, then a table in block 1, which the old copy left
 failed-erase : told (written (65536 ∷ []) (state 1 3 1)) ≡ 0 ∷ 603 ∷ 1 ∷ 1 ∷ 6 ∷ []
-unfolding ones begun statusMode readMode plainCommand addressFits latched addressed fateWord nextFate started statusByte fitting readStarted programStarted eraseStarted completed isConfirm confirmed confirmable commanded dataTaken dataGiven dataByte finished statusRead exec programmed weakened raised put mayGo cutAfter send byteOut sendAll sent goesOn waiting polls outcomeOf isPassed endedAs readCycles readOutcome outputs readOutputs startedBy readOn stopAnswer isSilent isCut bitAt withBit zeroBits numberWidth bytesOf numberOf labelBytes encoded kindOf eraseOn programOn isFailed mainOf mainRead pageFilled pagesFilled tableMain permitted searchAfter afterFill tryBlock tryTable tablesFilled table.tablePage isDataKind isTableKind copyBits copyTried afterTry copiesFilled thenTable dataSource isGiven
+unfolding ones begun statusMode readMode plainCommand addressFits latched addressed fateWord nextFate started statusByte fitting readStarted programStarted eraseStarted completed isConfirm confirmed confirmable commanded dataTaken dataGiven dataByte finished statusRead exec programmed weakened raised put mayGo cutAfter send byteOut sendAll sent goesOn waiting polls outcomeOf isPassed endedAs readCycles readOutcome putOut readOutputs startedBy readOn stopAnswer isSilent isCut bitAt withBit zeroBits numberWidth bytesOf numberOf labelBytes encoded kindOf eraseOn programOn isFailed mainOf mainRead pageFilled pagesFilled tableMain permitted searchAfter afterFill tryBlock tryTable tablesFilled table.tablePage isDataKind isTableKind copyBits copyTried afterTry copiesFilled thenTable dataSource isGiven
 failed-erase = refl
 
 -- the last number is used, and the next fill has none
 last-number : told (written [] (state 1 4294967295 1)) ≡ 0 ∷ 361 ∷ 0 ∷ 2 ∷ 4294967296 ∷ []
-unfolding ones begun statusMode readMode plainCommand addressFits latched addressed fateWord nextFate started statusByte fitting readStarted programStarted eraseStarted completed isConfirm confirmed confirmable commanded dataTaken dataGiven dataByte finished statusRead exec programmed weakened raised put mayGo cutAfter send byteOut sendAll sent goesOn waiting polls outcomeOf isPassed endedAs readCycles readOutcome outputs readOutputs startedBy readOn stopAnswer isSilent isCut bitAt withBit zeroBits numberWidth bytesOf numberOf labelBytes encoded kindOf eraseOn programOn isFailed mainOf mainRead pageFilled pagesFilled tableMain permitted searchAfter afterFill tryBlock tryTable tablesFilled table.tablePage isDataKind isTableKind copyBits copyTried afterTry copiesFilled thenTable dataSource isGiven
+unfolding ones begun statusMode readMode plainCommand addressFits latched addressed fateWord nextFate started statusByte fitting readStarted programStarted eraseStarted completed isConfirm confirmed confirmable commanded dataTaken dataGiven dataByte finished statusRead exec programmed weakened raised put mayGo cutAfter send byteOut sendAll sent goesOn waiting polls outcomeOf isPassed endedAs readCycles readOutcome putOut readOutputs startedBy readOn stopAnswer isSilent isCut bitAt withBit zeroBits numberWidth bytesOf numberOf labelBytes encoded kindOf eraseOn programOn isFailed mainOf mainRead pageFilled pagesFilled tableMain permitted searchAfter afterFill tryBlock tryTable tablesFilled table.tablePage isDataKind isTableKind copyBits copyTried afterTry copiesFilled thenTable dataSource isGiven
 last-number = refl
 
 spent : told (written [] (state 1 4294967296 1)) ≡ 9 ∷ 0 ∷ 0 ∷ 0 ∷ 0 ∷ []
-unfolding ones begun statusMode readMode plainCommand addressFits latched addressed fateWord nextFate started statusByte fitting readStarted programStarted eraseStarted completed isConfirm confirmed confirmable commanded dataTaken dataGiven dataByte finished statusRead exec programmed weakened raised put mayGo cutAfter send byteOut sendAll sent goesOn waiting polls outcomeOf isPassed endedAs readCycles readOutcome outputs readOutputs startedBy readOn stopAnswer isSilent isCut bitAt withBit zeroBits numberWidth bytesOf numberOf labelBytes encoded kindOf eraseOn programOn isFailed mainOf mainRead pageFilled pagesFilled tableMain permitted searchAfter afterFill tryBlock tryTable tablesFilled table.tablePage isDataKind isTableKind copyBits copyTried afterTry copiesFilled thenTable dataSource isGiven
+unfolding ones begun statusMode readMode plainCommand addressFits latched addressed fateWord nextFate started statusByte fitting readStarted programStarted eraseStarted completed isConfirm confirmed confirmable commanded dataTaken dataGiven dataByte finished statusRead exec programmed weakened raised put mayGo cutAfter send byteOut sendAll sent goesOn waiting polls outcomeOf isPassed endedAs readCycles readOutcome putOut readOutputs startedBy readOn stopAnswer isSilent isCut bitAt withBit zeroBits numberWidth bytesOf numberOf labelBytes encoded kindOf eraseOn programOn isFailed mainOf mainRead pageFilled pagesFilled tableMain permitted searchAfter afterFill tryBlock tryTable tablesFilled table.tablePage isDataKind isTableKind copyBits copyTried afterTry copiesFilled thenTable dataSource isGiven
 spent = refl
 
 -- both blocks that are left fail: worn
 worn : told (written (65536 ∷ 65536 ∷ []) (state 1 3 1)) ≡ 8 ∷ 14 ∷ 0 ∷ 0 ∷ 0 ∷ []
-unfolding ones begun statusMode readMode plainCommand addressFits latched addressed fateWord nextFate started statusByte fitting readStarted programStarted eraseStarted completed isConfirm confirmed confirmable commanded dataTaken dataGiven dataByte finished statusRead exec programmed weakened raised put mayGo cutAfter send byteOut sendAll sent goesOn waiting polls outcomeOf isPassed endedAs readCycles readOutcome outputs readOutputs startedBy readOn stopAnswer isSilent isCut bitAt withBit zeroBits numberWidth bytesOf numberOf labelBytes encoded kindOf eraseOn programOn isFailed mainOf mainRead pageFilled pagesFilled tableMain permitted searchAfter afterFill tryBlock tryTable tablesFilled table.tablePage isDataKind isTableKind copyBits copyTried afterTry copiesFilled thenTable dataSource isGiven
+unfolding ones begun statusMode readMode plainCommand addressFits latched addressed fateWord nextFate started statusByte fitting readStarted programStarted eraseStarted completed isConfirm confirmed confirmable commanded dataTaken dataGiven dataByte finished statusRead exec programmed weakened raised put mayGo cutAfter send byteOut sendAll sent goesOn waiting polls outcomeOf isPassed endedAs readCycles readOutcome putOut readOutputs startedBy readOn stopAnswer isSilent isCut bitAt withBit zeroBits numberWidth bytesOf numberOf labelBytes encoded kindOf eraseOn programOn isFailed mainOf mainRead pageFilled pagesFilled tableMain permitted searchAfter afterFill tryBlock tryTable tablesFilled table.tablePage isDataKind isTableKind copyBits copyTried afterTry copiesFilled thenTable dataSource isGiven
 worn = refl
 
 -- 256 busy status reads: silent, and stopped
 silent : told (written (256 ∷ []) (state 1 3 1)) ≡ 10 ∷ 262 ∷ 0 ∷ 0 ∷ 0 ∷ []
-unfolding ones begun statusMode readMode plainCommand addressFits latched addressed fateWord nextFate started statusByte fitting readStarted programStarted eraseStarted completed isConfirm confirmed confirmable commanded dataTaken dataGiven dataByte finished statusRead exec programmed weakened raised put mayGo cutAfter send byteOut sendAll sent goesOn waiting polls outcomeOf isPassed endedAs readCycles readOutcome outputs readOutputs startedBy readOn stopAnswer isSilent isCut bitAt withBit zeroBits numberWidth bytesOf numberOf labelBytes encoded kindOf eraseOn programOn isFailed mainOf mainRead pageFilled pagesFilled tableMain permitted searchAfter afterFill tryBlock tryTable tablesFilled table.tablePage isDataKind isTableKind copyBits copyTried afterTry copiesFilled thenTable dataSource isGiven
+unfolding ones begun statusMode readMode plainCommand addressFits latched addressed fateWord nextFate started statusByte fitting readStarted programStarted eraseStarted completed isConfirm confirmed confirmable commanded dataTaken dataGiven dataByte finished statusRead exec programmed weakened raised put mayGo cutAfter send byteOut sendAll sent goesOn waiting polls outcomeOf isPassed endedAs readCycles readOutcome putOut readOutputs startedBy readOn stopAnswer isSilent isCut bitAt withBit zeroBits numberWidth bytesOf numberOf labelBytes encoded kindOf eraseOn programOn isFailed mainOf mainRead pageFilled pagesFilled tableMain permitted searchAfter afterFill tryBlock tryTable tablesFilled table.tablePage isDataKind isTableKind copyBits copyTried afterTry copiesFilled thenTable dataSource isGiven
 silent = refl

@@ -10,7 +10,7 @@ use lib.ListN.{length, replicate}
 use Rattle.cells.specs.Cells.{over}
 use Rattle.chip_array.specs.Device.{Setting}
 use Rattle.chip.specs.Chip.{Cycle}
-use Rattle.bus.specs.Line.{line, sendAll}
+use Rattle.bus.specs.Line.{line, sendAll, byteOut}
 use Rattle.bus_sequences.specs.Cycles.{outputs}
 use Rattle.bus_sequences.proofs.DataLaws.{filled, repeat-goes, repeat-stops, repeat-done, fill-goes, fill-stops, fill-done}
 use Rattle.bus_sequences.proofs.take_data.Statement.{statement}
@@ -20,7 +20,7 @@ abbrev Inv-loop : tie.InvT-loop
 Inv-loop register buffer₀ b₀ i₀ buffer b i =
     (i ≤ length buffer₀) × (length buffer ≡ length buffer₀)
     × ((s : Setting) (a h : List ℕ) → sendAll s (line b a register h) (replicate (length buffer₀ - i) Cycle.dataOut) ≡ sendAll s (line b₀ a register h) (replicate (length buffer₀) Cycle.dataOut))
-    × ((s : Setting) (a h : List ℕ) → filled s (length buffer₀ - i) (line b a register h) i buffer ≡ over (outputs s (length buffer₀) (line b₀ a register h)) buffer₀)
+    × ((s : Setting) (a h : List ℕ) → filled s Cycle.dataOut byteOut (length buffer₀ - i) (line b a register h) i buffer ≡ over (outputs s (length buffer₀) (line b₀ a register h)) buffer₀)
 
 abbrev μ-loop : tie.MeasureT-loop
 μ-loop register buffer₀ b₀ i₀ buffer b i = length buffer₀ - i
@@ -40,7 +40,7 @@ same-length c = search needs
 returns : tie.Need-returns Inv-loop μ-loop
 returns c = (
   λ s a h. repeat-stops s _ _ _ (c .before .before .before .before .before .loop .i) (omega arith) (c .before .before .before .data-out .ensures .0 s a h) (sym (c .before .goes-on .ensures _ _ _) ∙ not-true _ (c .if1 .taken)) ∙ c .before .before .before .before .before .loop .inv .2 s a h,
-  λ s a h. fill-stops s _ _ (c .before .before .before .before .before .loop .i) _ (omega arith) (c .before .before .before .data-out .ensures .0 s a h) (sym (c .before .goes-on .ensures _ _ _) ∙ not-true _ (c .if1 .taken)) ∙ c .before .before .before .before .before .loop .inv .3 s a h,
+  λ s a h. fill-stops s Cycle.dataOut byteOut _ _ (c .before .before .before .before .before .loop .i) _ (omega arith) (c .before .before .before .data-out .ensures .0 s a h) (sym (c .before .goes-on .ensures _ _ _) ∙ not-true _ (c .if1 .taken)) ∙ c .before .before .before .before .before .loop .inv .3 s a h,
 )
 
 slice-write-buffer : tie.Need-slice-write-buffer Inv-loop μ-loop
@@ -57,7 +57,7 @@ loop-again c = (
   omega arith,
   search needs,
   λ s a h. repeat-goes s _ _ _ (c .before .before .before .before .before .loop .i) (omega arith) (c .before .before .before .data-out .ensures .0 s a h) ∙ c .before .before .before .before .before .loop .inv .2 s a h,
-  λ s a h. fill-goes s _ _ (c .before .before .before .before .before .loop .i) _ (omega arith) (omega arith) (c .before .before .before .data-out .ensures .0 s a h) (c .before .before .before .data-out .ensures .1 a h) (sym (c .before .goes-on .ensures _ _ _) ∙ not-false _ (c .if1 .left)) ∙ c .before .before .before .before .before .loop .inv .3 s a h,
+  λ s a h. fill-goes s Cycle.dataOut byteOut _ _ (c .before .before .before .before .before .loop .i) _ (omega arith) (omega arith) (c .before .before .before .data-out .ensures .0 s a h) (c .before .before .before .data-out .ensures .1 a h) (sym (c .before .goes-on .ensures _ _ _) ∙ not-false _ (c .if1 .left)) ∙ c .before .before .before .before .before .loop .inv .3 s a h,
 )
 
 same-length-2 : tie.Need-same-length-2 Inv-loop μ-loop
@@ -66,7 +66,7 @@ same-length-2 c = search needs
 returns-2 : tie.Need-returns-2 Inv-loop μ-loop
 returns-2 c = (
   λ s a h. repeat-done s _ _ _ (c .before .loop .i) (omega arith) ∙ c .before .loop .inv .2 s a h,
-  λ s a h. fill-done s _ _ (c .before .loop .i) _ (omega arith) ∙ c .before .loop .inv .3 s a h,
+  λ s a h. fill-done s Cycle.dataOut byteOut _ _ (c .before .loop .i) _ (omega arith) ∙ c .before .loop .inv .3 s a h,
 )
 
 pub take-data-spec : {M : Type 1} → statement M

@@ -43,12 +43,21 @@ returns-5 c =
     let begins : c .begin2 .result ≡ begun 5 2 (c .before .before .before .before .before .before .args .self) = c .begin2 .ensures in
     rw begins (search (eq-eqb, ne-eqb))
 
-refuse-requires : tie.Need-refuse-requires
-refuse-requires c κs = search needs
+begin-requires-3 : tie.Need-begin-requires-3
+begin-requires-3 c κs = search needs
 
 returns-6 : tie.Need-returns-6
 unfolding plainCommand
-returns-6 c = rw (c .refuse .ensures) (search (eq-eqb, ne-eqb))
+returns-6 c =
+    let begins : c .begin3 .result ≡ begun 9 0 (c .before .before .before .before .before .before .before .args .self) = c .begin3 .ensures in
+    rw begins (search (eq-eqb, ne-eqb))
+
+refuse-requires : tie.Need-refuse-requires
+refuse-requires c κs = search needs
+
+returns-7 : tie.Need-returns-7
+unfolding plainCommand
+returns-7 c = rw (c .refuse .ensures) (search (eq-eqb, ne-eqb))
 
 pub plain-command-spec : {M : Type 1} → statement M
 plain-command-spec =
@@ -64,5 +73,7 @@ plain-command-spec =
     returns-4
     begin-requires-2
     returns-5
+    begin-requires-3
+    returns-6
     refuse-requires
-    returns-6)
+    returns-7)

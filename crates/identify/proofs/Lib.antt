@@ -1,0 +1,5 @@
+pub mod AnswerLaws
+pub mod EndLaws
+pub mod FetchLaws
+pub mod IdentifyTests
+pub mod SentLaws

@@ -1,0 +1,3 @@
+pub mod CycleLaws
+pub mod ParameterLaws
+pub mod ReadTests
