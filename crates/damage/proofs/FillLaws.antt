@@ -206,7 +206,7 @@ module _ (s : Setting) (p : Progress) (block : ℕ) (below : block < s .geometry
     provided-next from page (from-copy old old-below x) e =
         kept-next old old-below _ (ap (λ (row : List ℕ). copyPage (s .geometry) c n (mainIn (s .geometry) row n)) (r .others old old-below x) ∙ e)
 
-    page-next : Filled s p (pageFilled s block c n (source n) q) block pages (suc n) (k + sourceMost (s .geometry) (source n))
+    pub page-next : Filled s p (pageFilled s block c n (source n) q) block pages (suc n) (k + sourceMost (s .geometry) (source n))
     page-next = provided-next (source n) (pages n) (meant .provides n page-below) refl
 
   -- the first n pages, from q right after the erase, where no page sends more than some number of cycles

@@ -42,18 +42,18 @@ use Rattle.damage.proofs.FillLaws.{source-most, all-over, damage-next, 
 use Rattle.damage.proofs.EachLaws.{each-append, each-map, each-one, some-append-left, some-append-right}
 use Rattle.bools.proofs.BoolLaws.{and-none}
 
-abbrev Unfailed : ArrayOperation → Type 0
+abbrev pub Unfailed : ArrayOperation → Type 0
 Unfailed o = isFailed (o .answer) ≡ false
 
 -- a fill whose erase has passed, on its way from p to q: the operations that it started
-record Underway (s : Setting) (p q : Progress) (block : ℕ) (pages : ℕ → List ℕ) : Type 0 where
-  adds : List ArrayOperation
-  started-is : q .started ≡ p .started ++ adds
-  each : Each (TouchedBy (s .geometry) (p .line .chip .array) block pages) adds
-  since : Since s q block pages adds
-  steady : Steady adds
-  failures : (b : ℕ) → failedIn b adds ≡ cond (eqb block b) (isFailed (q .outcome)) false
-  unfailed : isPassed (q .outcome) ≡ true → Each Unfailed adds
+pub record Underway (s : Setting) (p q : Progress) (block : ℕ) (pages : ℕ → List ℕ) : Type 0 where
+  pub adds : List ArrayOperation
+  pub started-is : q .started ≡ p .started ++ adds
+  pub each : Each (TouchedBy (s .geometry) (p .line .chip .array) block pages) adds
+  pub since : Since s q block pages adds
+  pub steady : Steady adds
+  pub failures : (b : ℕ) → failedIn b adds ≡ cond (eqb block b) (isFailed (q .outcome)) false
+  pub unfailed : isPassed (q .outcome) ≡ true → Each Unfailed adds
 
 -- a read starts none but reads
 pub reads-only : (s : Setting) (l : Line) (row column : ℕ) → Each (λ o. o .kind ≡ 1) (readStarts s l row column)
@@ -206,7 +206,7 @@ module _ (s : Setting) (p : Progress) (block : ℕ) (below : block < s .geometry
           (program-touches fetch n page-below (k + readMost (s .geometry .main)) (fetch-leaves s p block below c source pages meant mask-bytes q n page-below k r t old old-below) y fetch-touches))
           (λ f. subst (λ (z : Progress). Underway s p z block pages) (sym (program-stopped s block n bytes fetch f)) fetch-touches)
 
-    provided-touches : (from : Source) (page : List ℕ) → Provides (s .geometry) (p .line .chip .array) block c n from page → page ≡ pages n → Underway s p (pageFilled s block c n from q) block pages
+    pub provided-touches : (from : Source) (page : List ℕ) → Provides (s .geometry) (p .line .chip .array) block c n from page → page ≡ pages n → Underway s p (pageFilled s block c n from q) block pages
     unfolding pageFilled mainOf mainRead
     provided-touches from page (from-caller main) e =
         subst (λ (z : List ℕ). Underway s p (programOn s block n z q) block pages) (sym e) (program-touches q n page-below k r t x)
@@ -262,7 +262,7 @@ module _ (s : Setting) (p : Progress) (block : ℕ) (below : block < s .geometry
     no-program : Each (λ o. o .kind ≡ 2 → ⊥) begun
     no-program = subst (Each (λ o. o .kind ≡ 2 → ⊥)) (sym begun-is) (each-one (λ o. o .kind ≡ 2 → ⊥) (leb (p .line .left) 4) erasing (λ e. omega (arith, e)))
 
-    after-erase : isPassed (erased .outcome) ≡ true → Underway s p erased block pages
+    pub after-erase : isPassed (erased .outcome) ≡ true → Underway s p erased block pages
     after-erase y =
         let r = erase-filled s p block below c source pages meant mask-bytes t called in
         record {
@@ -278,7 +278,7 @@ module _ (s : Setting) (p : Progress) (block : ℕ) (below : block < s .geometry
           unfailed = begun-unfailed;
         }
 
-    erase-unpassed : isPassed (erased .outcome) ≡ false → Touched s p erased block pages
+    pub erase-unpassed : isPassed (erased .outcome) ≡ false → Touched s p erased block pages
     erase-unpassed f =
         record {
           adds = begun;
@@ -288,6 +288,10 @@ module _ (s : Setting) (p : Progress) (block : ℕ) (below : block < s .geometry
           steady = begun-steady;
           failures = begun-failed;
         }
+
+    -- an erase that passed has begun the fill; one that did not is the whole of it
+    pub erase-begins : ((isPassed (erased .outcome) ≡ true) × Underway s p erased block pages) ⊎ ((isPassed (erased .outcome) ≡ false) × Touched s p erased block pages)
+    erase-begins = cases (isPassed (erased .outcome)) (λ y. inl (y, after-erase y)) (λ f. inr (f, erase-unpassed f))
 
     touches : Touched s p (filled s block c source p) block pages
     unfolding pagesFilled

@@ -43,9 +43,7 @@ use Rattle.fill.proofs.KeepLaws.{filled-keeps}
 use Rattle.damage.specs.Run.{Labelled, Meant, Sound, Slow, Filled, failedIn, fillMost}
 use Rattle.damage.specs.Touched.{Each, Touched}
 use Rattle.damage.proofs.EachLaws.{each-append}
-use Rattle.damage.proofs.ReplayLaws.{Leads, leads-first, leads-kept}
-use Rattle.chip_laws.proofs.LengthLaws.{run-lengths}
-use Rattle.chip_laws.specs.Lengths.{SameLengths}
+use Rattle.recovery_write.proofs.LongLaws.{Long, long-kept}
 use Rattle.mount_laws.proofs.StateLaws.{right-at}
 use Rattle.write_changes.specs.Changes.{Update, Copied, copied, copyFilled, stoppedAt, copiesFilled}
 use Rattle.write_changes.proofs.LoopLaws.{Copying, copies-end}
@@ -88,10 +86,6 @@ entered-other g (erase logical) book st l p x = rw (ne-eqb l logical x)
 either-book : (g : Geometry) (c : Change) (book : Book) (st : State) (d : Bool) (l p : ℕ) → (l ≡ updateOf st c .logical → ⊥) → cond d (entered g c book) book l p ≡ entered g c book l p
 either-book g c book st true l p x = refl
 either-book g c book st false l p x = sym (entered-other g c book st l p x)
-
--- the array of a request is as long as that of its first chip
-pub leads-long : (s : Setting) (first : Line) (k : ℕ) → length (first .chip .array) ≡ k → (p : Progress) → Leads s (first .chip) p → length (p .line .chip .array) ≡ k
-leads-long s first k long p e = subst (SameLengths (first .chip)) e (run-lengths s (first .chip) (p .cycles)) .array ∙ long
 
 module _ (s : Setting) (mask-bytes : Bytes (s .mask)) (first : Line) (called : Called s first) (st₀ : State) (c : Change) (book : Book) (marked₀ failed₀ : ℕ → Bool)
     (marks₀ : MarkedBy (s .geometry) (first .chip .array) marked₀) (agrees : Agrees (s .geometry) (first .chip .array) st₀ book failed₀) (proper : Proper (s .geometry) c) where
@@ -167,7 +161,7 @@ module _ (s : Setting) (mask-bytes : Bytes (s .mask)) (first : Line) (called : C
     pub state-is : st ≡ moved (st .number) (st .invalid)
     pub passed : isPassed (p .outcome) ≡ true
     pub sound : Sound s p
-    pub leads : Leads s (first .chip) p
+    pub long : Long (chipSize g) p
     pub rest : Rest (st .number) (st .invalid) (p .line .chip .array) (p .started)
     pub clean : failed ≡ false → st .invalid ≡ st₀ .invalid
 
@@ -178,7 +172,7 @@ module _ (s : Setting) (mask-bytes : Bytes (s .mask)) (first : Line) (called : C
     pub state-is : st ≡ withCopy logical block (moved (st .number) (st .invalid))
     pub passed : isPassed (p .outcome) ≡ true
     pub sound : Sound s p
-    pub leads : Leads s (first .chip) p
+    pub long : Long (chipSize g) p
     pub stored : Stored g (p .line .chip .array)
     pub table-is : currentTable g (p .line .chip .array) ≡ at t
     pub table-same : blockIn g (p .line .chip .array) t ≡ blockIn g array₀ t
@@ -236,7 +230,7 @@ module _ (s : Setting) (mask-bytes : Bytes (s .mask)) (first : Line) (called : C
         state-is = refl;
         passed = refl;
         sound = record { legal = called .legal; known = refl; used-up = λ e. clash e refl; silent-by = λ e. clash e refl; failed-by = λ e. clash e refl; called = λ e. called };
-        leads = leads-first s first;
+        long = called .array-long;
         rest = rest-first;
         clean = λ e. refl;
       }
@@ -290,7 +284,7 @@ module _ (s : Setting) (mask-bytes : Bytes (s .mask)) (first : Line) (called : C
     fits : Labelled (copy dataKind logical n)
     fits = data-label logical n logical-fits number-fits
 
-    meant : Meant s before b (copy dataKind logical n) (dataSource g (u .old) (u .first) (u .count) (u .bytes)) (λ i. copyPage g (copy dataKind logical n) i (main i))
+    pub meant : Meant s before b (copy dataKind logical n) (dataSource g (u .old) (u .first) (u .count) (u .bytes)) (λ i. copyPage g (copy dataKind logical n) i (main i))
     meant = content.content-meant s v array₀ held u main x n fits before b (is .unheld) (r .kept)
 
     p-called : Called s (p .line)
@@ -299,220 +293,221 @@ module _ (s : Setting) (mask-bytes : Bytes (s .mask)) (first : Line) (called : C
     abbrev pages : ℕ → List ℕ
     pages i = copyPage g (copy dataKind logical n) i (main i)
 
-    abbrev q : Progress
-    q = copyFilled s u st b p
+    -- a fill that ended so
+    pub tried-so : (q : Progress) → Filled s p q b pages (g .pages) (fillMost g) → Touched s p q b pages → tries.Tried s p q t b pages
+    tried-so q leaves touches = tries.tried-from s mask-bytes p t b (r .stored) (r .table-is) free (copy dataKind logical n) fits main (x .long) (x .bytes) q leaves touches
 
-    try : tries.Tried s p q t b pages
-    try = tries.tried s mask-bytes p (m .passed) p-called t b (r .stored) (r .table-is) free (copy dataKind logical n) fits main (x .long) (x .bytes) _ meant
+    -- the whole fill in one call
+    plain-try : tries.Tried s p (copyFilled s u st b p) t b pages
+    plain-try = tries.tried s mask-bytes p (m .passed) p-called t b (r .stored) (r .table-is) free (copy dataKind logical n) fits main (x .long) (x .bytes) _ meant
 
-    abbrev adds : List ArrayOperation
-    adds = try .touched .adds
+    plain-long : Long (chipSize g) (copyFilled s u st b p)
+    plain-long = filled-keeps s (Long (chipSize g)) (long-kept s (chipSize g)) b _ _ p (m .long)
 
-    abbrev after : List ℕ
-    after = q .line .chip .array
+    -- however the fill was carried out
+    module _ (q : Progress) (try : tries.Tried s p q t b pages) (long : Long (chipSize g) q) where
+      abbrev adds : List ArrayOperation
+      adds = try .touched .adds
 
-    leads-next : Leads s (first .chip) q
-    leads-next = filled-keeps s (Leads s (first .chip)) (leads-kept s (first .chip)) b _ _ p (m .leads)
+      abbrev after : List ℕ
+      after = q .line .chip .array
 
-    long : length after ≡ chipSize g
-    long = leads-long s first (chipSize g) (called .array-long) q leads-next
+      -- the block has not failed before
+      unfailed : failedAfter failed₀ os b ≡ false
+      unfailed = cases (failedAfter failed₀ os b) (λ y. clash (r .failures b below y) (is .valid)) (λ f. f)
 
-    -- the block has not failed before
-    unfailed : failedAfter failed₀ os b ≡ false
-    unfailed = cases (failedAfter failed₀ os b) (λ y. clash (r .failures b below y) (is .valid)) (λ f. f)
+      unmarked : marked₀ b ≡ false
+      unmarked = sym (marks₀ b below) ∙ sym (r .marks b below) ∙ free .unmarked
 
-    unmarked : marked₀ b ≡ false
-    unmarked = sym (marks₀ b below) ∙ sym (r .marks b below) ∙ free .unmarked
+      spared-next : Spared g marked₀ failed₀ (os ++ adds)
+      spared-next =
+          spared-append g marked₀ failed₀ os adds (r .spared)
+          (spared-steady g marked₀ (failedAfter failed₀ os) adds
+          (try .spares marked₀ (failedAfter failed₀ os) unmarked unfailed) (try .touched .steady))
 
-    spared-next : Spared g marked₀ failed₀ (os ++ adds)
-    spared-next =
-        spared-append g marked₀ failed₀ os adds (r .spared)
-        (spared-steady g marked₀ (failedAfter failed₀ os) adds
-        (try .spares marked₀ (failedAfter failed₀ os) unmarked unfailed) (try .touched .steady))
+      kinds : (i : ℕ) → i < g .pages → isDataKind (kindOf (g .main) (pages i)) ≡ true
+      kinds i h = ap isDataKind (page-kind g v (copy dataKind logical n) fits main (x .long) i h) ∙ data-is
 
-    kinds : (i : ℕ) → i < g .pages → isDataKind (kindOf (g .main) (pages i)) ≡ true
-    kinds i h = ap isDataKind (page-kind g v (copy dataKind logical n) fits main (x .long) i h) ∙ data-is
+      abbrev more-invalid : List ℕ
+      more-invalid = withBit invalid b
 
-    abbrev more-invalid : List ℕ
-    more-invalid = withBit invalid b
+      few : g .blocks ≤ 4096
+      few = v .blocks-most
 
-    few : g .blocks ≤ 4096
-    few = v .blocks-most
+      kept-next : (k : ℕ) → k < g .blocks → bitAt held k ≡ true → blockIn g after k ≡ blockIn g array₀ k
+      kept-next k h y = try .leaves .others k h (off-held k y) ∙ r .kept k h y
 
-    kept-next : (k : ℕ) → k < g .blocks → bitAt held k ≡ true → blockIn g after k ≡ blockIn g array₀ k
-    kept-next k h y = try .leaves .others k h (off-held k y) ∙ r .kept k h y
+      untried-next : (k : ℕ) → bitAt more-invalid k ≡ false → Each (λ o. o .kind ≡ 2 → o .block ≡ k → ⊥) (os ++ adds)
+      untried-next k f =
+          let was = was-clear (g .blocks) invalid b few below (r .bits) k f in
+          each-append (λ o. o .kind ≡ 2 → o .block ≡ k → ⊥) os adds (r .untried k (was .0)) (try .elsewhere k (was .1))
 
-    untried-next : (k : ℕ) → bitAt more-invalid k ≡ false → Each (λ o. o .kind ≡ 2 → o .block ≡ k → ⊥) (os ++ adds)
-    untried-next k f =
-        let was = was-clear (g .blocks) invalid b few below (r .bits) k f in
-        each-append (λ o. o .kind ≡ 2 → o .block ≡ k → ⊥) os adds (r .untried k (was .0)) (try .elsewhere k (was .1))
+      failures-next : (k : ℕ) → k < g .blocks → failedAfter failed₀ (os ++ adds) k ≡ true → bitAt more-invalid k ≡ true
+      failures-next k h y =
+          cases (eqb k b)
+          (λ e. ap (bitAt more-invalid) (eqb-true k b e) ∙ now-set (g .blocks) invalid b few below (r .bits))
+          (λ e.
+          let other = eqb-false k b e in
+          still-set (g .blocks) invalid b few below (r .bits) k
+          (r .failures k h (sym (none-here k other) ∙ y)))
+        where
+          none-here : (k : ℕ) → (k ≡ b → ⊥) → failedAfter failed₀ (os ++ adds) k ≡ failedAfter failed₀ os k
+          none-here k other =
+              failed-after-append failed₀ os adds k
+              ∙ ap (cond (failedAfter failed₀ os k) true) (try .touched .failures k ∙ ap (λ (z : Bool). cond z (isFailed (q .outcome)) false) (ne-eqb b k (λ e. other (sym e))))
+              ∙ or-none (failedAfter failed₀ os k)
 
-    failures-next : (k : ℕ) → k < g .blocks → failedAfter failed₀ (os ++ adds) k ≡ true → bitAt more-invalid k ≡ true
-    failures-next k h y =
-        cases (eqb k b)
-        (λ e. ap (bitAt more-invalid) (eqb-true k b e) ∙ now-set (g .blocks) invalid b few below (r .bits))
-        (λ e.
-        let other = eqb-false k b e in
-        still-set (g .blocks) invalid b few below (r .bits) k
-        (r .failures k h (sym (none-here k other) ∙ y)))
-      where
-        none-here : (k : ℕ) → (k ≡ b → ⊥) → failedAfter failed₀ (os ++ adds) k ≡ failedAfter failed₀ os k
-        none-here k other =
-            failed-after-append failed₀ os adds k
-            ∙ ap (cond (failedAfter failed₀ os k) true) (try .touched .failures k ∙ ap (λ (z : Bool). cond z (isFailed (q .outcome)) false) (ne-eqb b k (λ e. other (sym e))))
+      -- what follows whether or not the block is complete
+      rest-with : Stored g after → currentTable g after ≡ at t → MarksSame g before after → Below g after (n + 1)
+          → ((l : ℕ) → l < g .logical → (l ≡ logical → ⊥) → currentCopy g after t l ≡ currentCopy g before t l)
+          → ((k : ℕ) → currentCopy g after t logical ≡ at k → (currentCopy g before t logical ≡ at k) ⊎ (k ≡ b))
+          → Same g (reading g after t) (cond (hasCopy g after (os ++ adds)) (entered g c book) book)
+          → Rest (n + 1) more-invalid after (os ++ adds)
+      rest-with stored table-is marks numbers copies copy-from reads =
+          record {
+            stored = stored;
+            table-is = table-is;
+            kept = kept-next;
+            marks = λ k h. marks k h ∙ r .marks k h;
+            bits = bits-more (g .blocks) invalid b few below (r .bits);
+            more = λ k y. still-set (g .blocks) invalid b few below (r .bits) k (r .more k y);
+            numbers = numbers;
+            copies = λ l h e. copies l h e ∙ r .copies l h e;
+            copy-from = λ k e.
+                ⊎-elim (λ y. ⊎-elim inl (λ z. inr (still-set (g .blocks) invalid b few below (r .bits) k z)) (r .copy-from k y))
+                (λ y. inr (ap (bitAt more-invalid) y ∙ now-set (g .blocks) invalid b few below (r .bits))) (copy-from k e);
+            valid = λ k y f. still-clear (g .blocks) invalid b few below (r .bits) k (off-held k y) (r .valid k y f);
+            apart = λ k h y. still-clear (g .blocks) invalid b few below (r .bits) k (off-marked k h y) (r .apart k h y);
+            reads = reads;
+            untried = untried-next;
+            failures = failures-next;
+            spared = spared-next;
+          }
+        where
+          off-marked : (k : ℕ) → k < g .blocks → isMarked g (blockIn g array₀ k) ≡ true → k ≡ b → ⊥
+          off-marked k h y e = clash y (sym (r .marks k h) ∙ ap (λ (j : ℕ). isMarked g (blockIn g before j)) e ∙ free .unmarked)
+
+      rest-quiet : tries.Quiet g before after t b adds → Rest (n + 1) more-invalid after (os ++ adds)
+      rest-quiet k =
+          rest-with (k .calm .stored) (k .calm .table-is) (k .calm .marks) (λ j h y. omega (arith, k .below n (r .numbers) j h y))
+          (λ l h e. k .calm .copies l h) (λ j e. inl (sym (k .calm .copies logical (x .logical-below)) ∙ e))
+          (λ l i h j. k .calm .reads l i h j ∙ r .reads l i h j ∙ ap (λ (z : Bool). cond z (entered g c book) book l i) (sym same-has))
+        where
+          same-has : hasCopy g after (os ++ adds) ≡ hasCopy g before os
+          same-has = has-still g v before after b (try .leaves .others) os adds (try .elsewhere) (r .untried b (is .valid)) (k .unsent)
+
+      -- the block is complete
+      module _ (k : tries.Made g before after b pages adds) where
+        renewed : Renewed g before after t logical b main × Below g after (n + 1)
+        renewed = (
+          near-data g before after t b n logical (r .stored) (r .table-is) free (r .numbers) number-fits (x .logical-below) main (x .long) (x .bytes) (k .after-new) (k .complete),
+          data-below g before after t b n logical (r .stored) (r .table-is) free (r .numbers) number-fits (x .logical-below) main (x .long) (x .bytes) (k .after-new) (k .complete),
+        )
+
+        sent : sentPages g b (os ++ adds) (g .pages) ≡ true
+        sent = sent-here g v before after b (try .leaves .others) os adds (try .elsewhere) pages kinds (k .sent)
+
+        has : hasCopy g after (os ++ adds) ≡ true
+        has = has-some g after (os ++ adds) b below sent (k .complete)
+
+        reads-new : Same g (reading g after t) (entered g c book)
+        reads-new l i h j =
+            cases (eqb l logical)
+            (λ e. subst (λ (z : ℕ). reading g after t z i ≡ entered g c book z i) (sym (eqb-true l logical e)) (renewed .0 .reads-new i j))
+            (λ e.
+            let other = eqb-false l logical e in
+            renewed .0 .reads l i h j other ∙ r .reads l i h j ∙ either-book g c book st₀ (hasCopy g before os) l i other)
+
+        rest-made : Rest (n + 1) more-invalid after (os ++ adds)
+        rest-made =
+            rest-with (renewed .0 .stored) (renewed .0 .table-is) (renewed .0 .marks) (renewed .1) (renewed .0 .copies)
+            (λ j e. inr (same-at (sym e ∙ renewed .0 .copy-is)))
+            (λ l i h j. reads-new l i h j ∙ ap (λ (z : Bool). cond z (entered g c book) book l i) (sym has))
+
+      came : ((isPassed (q .outcome) ≡ false) × tries.Quiet g before after t b adds) ⊎ tries.Made g before after b pages adds
+      came = try .comes long
+
+      rest-next : Rest (n + 1) more-invalid after (q .started)
+      rest-next = subst (Rest (n + 1) more-invalid after) (sym (try .touched .started-is)) (⊎-elim (λ k. rest-quiet (k .1)) rest-made came)
+
+      -- it passed
+      module _ (y : isPassed (q .outcome) ≡ true) where
+        made : tries.Made g before after b pages adds
+        made = ⊎-elim (λ k. clash y (k .0)) (λ k. k) came
+
+        next-unfailed : (k : ℕ) → failedAfter failed₀ (q .started) k ≡ failedAfter failed₀ os k
+        next-unfailed k =
+            ap (λ (z : List ArrayOperation). failedAfter failed₀ z k) (try .touched .started-is)
+            ∙ failed-after-append failed₀ os adds k
+            ∙ ap (cond (failedAfter failed₀ os k) true) (try .touched .failures k ∙ ap (λ (z : Bool). cond (eqb b k) z false) (passed-unfailed (q .outcome) y) ∙ and-none (eqb b k))
             ∙ or-none (failedAfter failed₀ os k)
 
-    -- what follows whether or not the block is complete
-    rest-with : Stored g after → currentTable g after ≡ at t → MarksSame g before after → Below g after (n + 1)
-        → ((l : ℕ) → l < g .logical → (l ≡ logical → ⊥) → currentCopy g after t l ≡ currentCopy g before t l)
-        → ((k : ℕ) → currentCopy g after t logical ≡ at k → (currentCopy g before t logical ≡ at k) ⊎ (k ≡ b))
-        → Same g (reading g after t) (cond (hasCopy g after (os ++ adds)) (entered g c book) book)
-        → Rest (n + 1) more-invalid after (os ++ adds)
-    rest-with stored table-is marks numbers copies copy-from reads =
-        record {
-          stored = stored;
-          table-is = table-is;
-          kept = kept-next;
-          marks = λ k h. marks k h ∙ r .marks k h;
-          bits = bits-more (g .blocks) invalid b few below (r .bits);
-          more = λ k y. still-set (g .blocks) invalid b few below (r .bits) k (r .more k y);
-          numbers = numbers;
-          copies = λ l h e. copies l h e ∙ r .copies l h e;
-          copy-from = λ k e.
-              ⊎-elim (λ y. ⊎-elim inl (λ z. inr (still-set (g .blocks) invalid b few below (r .bits) k z)) (r .copy-from k y))
-              (λ y. inr (ap (bitAt more-invalid) y ∙ now-set (g .blocks) invalid b few below (r .bits))) (copy-from k e);
-          valid = λ k y f. still-clear (g .blocks) invalid b few below (r .bits) k (off-held k y) (r .valid k y f);
-          apart = λ k h y. still-clear (g .blocks) invalid b few below (r .bits) k (off-marked k h y) (r .apart k h y);
-          reads = reads;
-          untried = untried-next;
-          failures = failures-next;
-          spared = spared-next;
-        }
-      where
-        off-marked : (k : ℕ) → k < g .blocks → isMarked g (blockIn g array₀ k) ≡ true → k ≡ b → ⊥
-        off-marked k h y e = clash y (sym (r .marks k h) ∙ ap (λ (j : ℕ). isMarked g (blockIn g before j)) e ∙ free .unmarked)
+        pub data-done : Done (withCopy logical b (taken st)) failed q
+        data-done =
+            record {
+              block = b;
+              below = below;
+              state-is = ap (λ (z : State). withCopy logical b (taken z)) (m .state-is);
+              passed = y;
+              sound = try .leaves .sound;
+              long = long;
+              stored = rest-next .stored;
+              table-is = rest-next .table-is;
+              table-same = rest-next .kept t table-below table-held;
+              marks = rest-next .marks;
+              bits = r .bits;
+              more = r .more;
+              numbers = rest-next .numbers;
+              copies = rest-next .copies;
+              copy-is = renewed made .0 .copy-is;
+              valid = r .valid;
+              block-valid = is .valid;
+              apart = r .apart;
+              reads = reads-new made;
+              complete = made .complete;
+              sent = ap (λ (z : List ArrayOperation). sentPages g b z (g .pages)) (try .touched .started-is) ∙ sent made;
+              failures = λ k h z. r .failures k h (sym (next-unfailed k) ∙ z);
+              spared = rest-next .spared;
+              clean = m .clean;
+            }
 
-    rest-quiet : tries.Quiet g before after t b adds → Rest (n + 1) more-invalid after (os ++ adds)
-    rest-quiet k =
-        rest-with (k .calm .stored) (k .calm .table-is) (k .calm .marks) (λ j h y. omega (arith, k .below n (r .numbers) j h y))
-        (λ l h e. k .calm .copies l h) (λ j e. inl (sym (k .calm .copies logical (x .logical-below)) ∙ e))
-        (λ l i h j. k .calm .reads l i h j ∙ r .reads l i h j ∙ ap (λ (z : Bool). cond z (entered g c book) book l i) (sym same-has))
-      where
-        same-has : hasCopy g after (os ++ adds) ≡ hasCopy g before os
-        same-has = has-still g v before after b (try .leaves .others) os adds (try .elsewhere) (r .untried b (is .valid)) (k .unsent)
-
-    -- the block is complete
-    module _ (k : tries.Made g before after b pages adds) where
-      renewed : Renewed g before after t logical b main × Below g after (n + 1)
-      renewed = (
-        near-data g before after t b n logical (r .stored) (r .table-is) free (r .numbers) number-fits (x .logical-below) main (x .long) (x .bytes) (k .after-new) (k .complete),
-        data-below g before after t b n logical (r .stored) (r .table-is) free (r .numbers) number-fits (x .logical-below) main (x .long) (x .bytes) (k .after-new) (k .complete),
-      )
-
-      sent : sentPages g b (os ++ adds) (g .pages) ≡ true
-      sent = sent-here g v before after b (try .leaves .others) os adds (try .elsewhere) pages kinds (k .sent)
-
-      has : hasCopy g after (os ++ adds) ≡ true
-      has = has-some g after (os ++ adds) b below sent (k .complete)
-
-      reads-new : Same g (reading g after t) (entered g c book)
-      reads-new l i h j =
-          cases (eqb l logical)
-          (λ e. subst (λ (z : ℕ). reading g after t z i ≡ entered g c book z i) (sym (eqb-true l logical e)) (renewed .0 .reads-new i j))
-          (λ e.
-          let other = eqb-false l logical e in
-          renewed .0 .reads l i h j other ∙ r .reads l i h j ∙ either-book g c book st₀ (hasCopy g before os) l i other)
-
-      rest-made : Rest (n + 1) more-invalid after (os ++ adds)
-      rest-made =
-          rest-with (renewed .0 .stored) (renewed .0 .table-is) (renewed .0 .marks) (renewed .1) (renewed .0 .copies)
-          (λ j e. inr (same-at (sym e ∙ renewed .0 .copy-is)))
-          (λ l i h j. reads-new l i h j ∙ ap (λ (z : Bool). cond z (entered g c book) book l i) (sym has))
-
-    came : ((isPassed (q .outcome) ≡ false) × tries.Quiet g before after t b adds) ⊎ tries.Made g before after b pages adds
-    came = try .comes long
-
-    rest-next : Rest (n + 1) more-invalid after (q .started)
-    rest-next = subst (Rest (n + 1) more-invalid after) (sym (try .touched .started-is)) (⊎-elim (λ k. rest-quiet (k .1)) rest-made came)
-
-    -- it passed
-    module _ (y : isPassed (q .outcome) ≡ true) where
-      made : tries.Made g before after b pages adds
-      made = ⊎-elim (λ k. clash y (k .0)) (λ k. k) came
-
-      next-unfailed : (k : ℕ) → failedAfter failed₀ (q .started) k ≡ failedAfter failed₀ os k
-      next-unfailed k =
-          ap (λ (z : List ArrayOperation). failedAfter failed₀ z k) (try .touched .started-is)
-          ∙ failed-after-append failed₀ os adds k
-          ∙ ap (cond (failedAfter failed₀ os k) true) (try .touched .failures k ∙ ap (λ (z : Bool). cond (eqb b k) z false) (passed-unfailed (q .outcome) y) ∙ and-none (eqb b k))
-          ∙ or-none (failedAfter failed₀ os k)
-
-      data-done : Done (withCopy logical b (taken st)) failed q
-      data-done =
+      -- it failed: the block is invalid, and another is tried
+      pub data-failed : isFailed (q .outcome) ≡ true → Mid (withInvalid b (taken st)) true (resumed q)
+      unfolding isPassed isIllegal isCut isSilent isFailed
+      data-failed w =
           record {
-            block = b;
-            below = below;
-            state-is = ap (λ (z : State). withCopy logical b (taken z)) (m .state-is);
-            passed = y;
-            sound = try .leaves .sound;
-            leads = leads-next;
-            stored = rest-next .stored;
-            table-is = rest-next .table-is;
-            table-same = rest-next .kept t table-below table-held;
-            marks = rest-next .marks;
-            bits = r .bits;
-            more = r .more;
-            numbers = rest-next .numbers;
-            copies = rest-next .copies;
-            copy-is = renewed made .0 .copy-is;
-            valid = r .valid;
-            block-valid = is .valid;
-            apart = r .apart;
-            reads = reads-new made;
-            complete = made .complete;
-            sent = ap (λ (z : List ArrayOperation). sentPages g b z (g .pages)) (try .touched .started-is) ∙ sent made;
-            failures = λ k h z. r .failures k h (sym (next-unfailed k) ∙ z);
-            spared = rest-next .spared;
-            clean = m .clean;
+            state-is = ap (λ (z : State). withInvalid b (taken z)) (m .state-is);
+            passed = refl;
+            sound = record { legal = try .leaves .sound .legal; known = refl; used-up = λ e. clash e refl; silent-by = λ e. clash e refl; failed-by = λ e. clash e refl; called = λ e. try .leaves .sound .called (failed-answered (q .outcome) w) };
+            long = long;
+            rest = rest-next;
+            clean = λ e. clash refl e;
           }
 
-    -- it failed: the block is invalid, and another is tried
-    data-failed : isFailed (q .outcome) ≡ true → Mid (withInvalid b (taken st)) true (resumed q)
-    unfolding isPassed isIllegal isCut isSilent isFailed
-    data-failed w =
-        record {
-          state-is = ap (λ (z : State). withInvalid b (taken z)) (m .state-is);
-          passed = refl;
-          sound = record { legal = try .leaves .sound .legal; known = refl; used-up = λ e. clash e refl; silent-by = λ e. clash e refl; failed-by = λ e. clash e refl; called = λ e. try .leaves .sound .called (failed-answered (q .outcome) w) };
-          leads = leads-next;
-          rest = rest-next;
-          clean = λ e. clash refl e;
-        }
-
-    -- it was silent or cut
-    data-stopped : isPassed (q .outcome) ≡ false → isFailed (q .outcome) ≡ false → Ends (stoppedAt q)
-    data-stopped n f =
-        let which = stop-answer (q .outcome) (unfailed-end (q .outcome) (try .leaves .sound .known) f) n in
-        record {
-          done = λ z. absurd (⊎-elim (λ e. omega (arith, e, z)) (λ e. omega (arith, e, z)) which);
-          halted = λ z.
-              record {
-                answers = ⊎-elim (λ e. subst ChangeAnswer (sym e) is-silent) (λ e. subst ChangeAnswer (sym e) is-cut) which;
-                legal = try .leaves .sound .legal;
-                stored = rest-next .stored;
-                table = t;
-                table-is = rest-next .table-is;
-                reads = rest-next .reads;
-                marks = λ k h. rest-next .marks k h ∙ marks₀ k h;
-                spared = rest-next .spared;
-                silent-by = λ e. try .leaves .sound .silent-by (stop-silent (q .outcome) e);
-                used-up = λ e. try .leaves .sound .used-up (stop-cut (q .outcome) e);
-              };
-          stopped = λ z. refl;
-        }
+      -- it was silent or cut
+      pub data-stopped : isPassed (q .outcome) ≡ false → isFailed (q .outcome) ≡ false → Ends (stoppedAt q)
+      data-stopped n f =
+          let which = stop-answer (q .outcome) (unfailed-end (q .outcome) (try .leaves .sound .known) f) n in
+          record {
+            done = λ z. absurd (⊎-elim (λ e. omega (arith, e, z)) (λ e. omega (arith, e, z)) which);
+            halted = λ z.
+                record {
+                  answers = ⊎-elim (λ e. subst ChangeAnswer (sym e) is-silent) (λ e. subst ChangeAnswer (sym e) is-cut) which;
+                  legal = try .leaves .sound .legal;
+                  stored = rest-next .stored;
+                  table = t;
+                  table-is = rest-next .table-is;
+                  reads = rest-next .reads;
+                  marks = λ k h. rest-next .marks k h ∙ marks₀ k h;
+                  spared = rest-next .spared;
+                  silent-by = λ e. try .leaves .sound .silent-by (stop-silent (q .outcome) e);
+                  used-up = λ e. try .leaves .sound .used-up (stop-cut (q .outcome) e);
+                };
+            stopped = λ z. refl;
+          }
 
   -- no number or no block is left
-  data-none : (answer : ℕ) → ChangeAnswer answer → 0 < answer → answer < 10 → (st : State) (failed : Bool) (p : Progress) → Mid st failed p → Ends (copied p answer (blank 2) failed)
+  pub data-none : (answer : ℕ) → ChangeAnswer answer → 0 < answer → answer < 10 → (st : State) (failed : Bool) (p : Progress) → Mid st failed p → Ends (copied p answer (blank 2) failed)
   data-none answer is some few st failed p m =
       record {
         done = λ z. absurd (omega (arith, z, some));
@@ -532,7 +527,7 @@ module _ (s : Setting) (mask-bytes : Bytes (s .mask)) (first : Line) (called : C
         stopped = λ z. refl;
       }
 
-  last-same : (st : State) (failed : Bool) (p : Progress) → Mid st failed p → st .last < g .blocks
+  pub last-same : (st : State) (failed : Bool) (p : Progress) → Mid st failed p → st .last < g .blocks
   last-same st failed p m = omega (arith, ap (λ (z : State). z .last) (m .state-is), agrees .knows .last-below)
 
   copying : Copying s held u Mid Ends
@@ -541,9 +536,9 @@ module _ (s : Setting) (mask-bytes : Bytes (s .mask)) (first : Line) (called : C
         last-below = last-same;
         spent = λ st f p m h. data-none 9 is-spent (omega arith) (omega arith) st f p m;
         worn = λ st f p m h none. data-none 8 is-worn (omega arith) (omega arith) st f p m;
-        passed = λ st f p m h b l may y. record { done = λ z. data-done st f p m h b l may y; halted = λ z. absurd (z refl); stopped = λ z. absurd (z refl) };
-        failed = λ st f p m h b l may w. data-failed st f p m h b l may w;
-        stopped = λ st f p m h b l may n w. data-stopped st f p m h b l may n w;
+        passed = λ st f p m h b l may y. record { done = λ z. data-done st f p m h b l may (copyFilled s u st b p) (plain-try st f p m h b l may) (plain-long st f p m h b l may) y; halted = λ z. absurd (z refl); stopped = λ z. absurd (z refl) };
+        failed = λ st f p m h b l may w. data-failed st f p m h b l may (copyFilled s u st b p) (plain-try st f p m h b l may) (plain-long st f p m h b l may) w;
+        stopped = λ st f p m h b l may n w. data-stopped st f p m h b l may (copyFilled s u st b p) (plain-try st f p m h b l may) (plain-long st f p m h b l may) n w;
       }
 
   pub data-ends : Ends (copiesFilled s held u (numbersLeft st₀) false st₀ (progress first Passed [] []))

@@ -1,6 +1,17 @@
+pub mod LongLaws
+pub mod HoldingLaws
 pub mod ContentLaws
 pub mod CopyLaws
 pub mod TryLaws
 pub mod DataLaws
 pub mod TableLaws
 pub mod ChangeLaws
+pub mod PauseLaws
+pub mod TablePauseLaws
+pub mod EraseLaws
+pub mod ActLaws
+pub mod OtherCallLaws
+pub mod ShownLaws
+pub mod PausedCalmLaws
+pub mod TraceLaws
+pub mod StandsLaws

@@ -43,9 +43,10 @@ use Rattle.progress.specs.Steps.{resumed}
 use Rattle.fill.specs.Fill.{copyPage, tableCopy, tableMain, tableSource, tableFilled}
 use Rattle.fill.proofs.KeepLaws.{filled-keeps}
 use Rattle.fill_tables.specs.Tables.{Tabled, tabled, tablesFilled}
-use Rattle.damage.specs.Run.{Labelled, Meant, from-caller, Sound}
+use Rattle.damage.specs.Run.{Labelled, Meant, from-caller, Sound, Filled, fillMost}
+use Rattle.damage.specs.Touched.{Touched}
 use Rattle.damage.proofs.CopyLaws.{copy-long, copy-bytes}
-use Rattle.damage.proofs.ReplayLaws.{Leads, leads-kept}
+use Rattle.recovery_write.proofs.LongLaws.{Long, long-kept}
 use Rattle.write_changes.proofs.LoopLaws.{Tabling, tables-end}
 use Rattle.recovery_stored.specs.Stored.{Stored}
 use Rattle.recovery_stored.specs.After.{Below, Free, MarksSame, Calm, Listed}
@@ -66,7 +67,7 @@ use Rattle.recovery_write.proofs.ContentLaws as content
 use Rattle.recovery_write.proofs.CopyLaws.{Permitted, permitted-so, now-set, still-set, was-clear, still-clear, sent-elsewhere}
 use Rattle.recovery_write.proofs.TryLaws as tries
 use Rattle.recovery_write.proofs.DataLaws as phase
-use Rattle.recovery_write.proofs.DataLaws.{Halted, leads-long}
+use Rattle.recovery_write.proofs.DataLaws.{Halted}
 
 -- a request that was not acknowledged
 pub halted-changed : (s : Setting) (c : Change) (book : Book) (marked failed : ℕ → Bool) (answer : ℕ) (p : Progress) → 0 < answer → Halted s c book marked failed answer p → Changed s c book marked failed (tabled p answer (blank 2))
@@ -105,7 +106,7 @@ module _ (s : Setting) (mask-bytes : Bytes (s .mask)) (first : Line) (called : C
   abbrev logical : ℕ
   logical = updateOf st₀ c .logical
 
-  abbrev held : List ℕ
+  abbrev pub held : List ℕ
   held = heldBits st₁ (g .logical)
 
   v : Valid g
@@ -168,44 +169,44 @@ module _ (s : Setting) (mask-bytes : Bytes (s .mask)) (first : Line) (called : C
   block-held = copy-held logical (d .block) logical-below (d .copy-is)
 
   -- the state with other invalid blocks and another number
-  abbrev moved : ℕ → List ℕ → State
+  abbrev pub moved : ℕ → List ℕ → State
   moved n invalid =
       record { status = st₁ .status; table = st₁ .table; last = st₁ .last; number = n; marked = st₁ .marked; invalid = invalid; map = st₁ .map }
 
   -- array and trace, while n is the next number, these blocks are invalid and this table is current
-  record Rest (n : ℕ) (invalid : List ℕ) (table : ℕ) (array : List ℕ) (os : List ArrayOperation) : Type 0 where
-    stored : Stored g array
-    table-is : currentTable g array ≡ at table
-    table-from : (table ≡ t) ⊎ (bitAt invalid table ≡ true)
-    listed : (b : ℕ) → b < g .blocks → lists g (blockIn g array table) b ≡ true → bitAt invalid b ≡ true
-    marks : MarksSame g array₀ array
-    bits : Bitmap (g .blocks) invalid
-    numbers : Below g array n
-    copies : (l : ℕ) → l < g .logical → currentCopy g array table l ≡ currentCopy g array₁ t l
-    valid : (l b : ℕ) → l < g .logical → currentCopy g array₁ t l ≡ at b → bitAt invalid b ≡ false
-    apart : (b : ℕ) → b < g .blocks → isMarked g (blockIn g array₀ b) ≡ true → bitAt invalid b ≡ false
-    reads : Same g (reading g array table) (entered g c book)
-    complete : isComplete g (blockIn g array (d .block)) ≡ true
-    sent : sentPages g (d .block) os (g .pages) ≡ true
-    failures : (b : ℕ) → b < g .blocks → failedAfter failed₀ os b ≡ true → bitAt invalid b ≡ true
-    spared : Spared g marked₀ failed₀ os
+  pub record Rest (n : ℕ) (invalid : List ℕ) (table : ℕ) (array : List ℕ) (os : List ArrayOperation) : Type 0 where
+    pub stored : Stored g array
+    pub table-is : currentTable g array ≡ at table
+    pub table-from : (table ≡ t) ⊎ (bitAt invalid table ≡ true)
+    pub listed : (b : ℕ) → b < g .blocks → lists g (blockIn g array table) b ≡ true → bitAt invalid b ≡ true
+    pub marks : MarksSame g array₀ array
+    pub bits : Bitmap (g .blocks) invalid
+    pub numbers : Below g array n
+    pub copies : (l : ℕ) → l < g .logical → currentCopy g array table l ≡ currentCopy g array₁ t l
+    pub valid : (l b : ℕ) → l < g .logical → currentCopy g array₁ t l ≡ at b → bitAt invalid b ≡ false
+    pub apart : (b : ℕ) → b < g .blocks → isMarked g (blockIn g array₀ b) ≡ true → bitAt invalid b ≡ false
+    pub reads : Same g (reading g array table) (entered g c book)
+    pub complete : isComplete g (blockIn g array (d .block)) ≡ true
+    pub sent : sentPages g (d .block) os (g .pages) ≡ true
+    pub failures : (b : ℕ) → b < g .blocks → failedAfter failed₀ os b ≡ true → bitAt invalid b ≡ true
+    pub spared : Spared g marked₀ failed₀ os
 
   -- before each table fill
-  record Mid (st : State) (p : Progress) : Type 0 where
-    state-is : st ≡ moved (st .number) (st .invalid)
-    passed : isPassed (p .outcome) ≡ true
-    sound : Sound s p
-    leads : Leads s (first .chip) p
-    table : ℕ
-    rest : Rest (st .number) (st .invalid) table (p .line .chip .array) (p .started)
+  pub record Mid (st : State) (p : Progress) : Type 0 where
+    pub state-is : st ≡ moved (st .number) (st .invalid)
+    pub passed : isPassed (p .outcome) ≡ true
+    pub sound : Sound s p
+    pub long : Long (chipSize g) p
+    pub table : ℕ
+    pub rest : Rest (st .number) (st .invalid) table (p .line .chip .array) (p .started)
 
-  mid-first : Mid st₁ p₁
+  pub mid-first : Mid st₁ p₁
   mid-first =
       record {
         state-is = refl;
         passed = d .passed;
         sound = d .sound;
-        leads = d .leads;
+        long = d .long;
         table = t;
         rest = record {
           stored = d .stored;
@@ -286,7 +287,7 @@ module _ (s : Setting) (mask-bytes : Bytes (s .mask)) (first : Line) (called : C
     abbrev pages : ℕ → List ℕ
     pages i = copyPage g (tableCopy n) i (tableMain g invalid i)
 
-    meant : Meant s before b (tableCopy n) (tableSource g invalid) pages
+    pub meant : Meant s before b (tableCopy n) (tableSource g invalid) pages
     meant =
         record {
           long = copy-long g v (tableCopy n) fits (tableMain g invalid) main-long main-bytes;
@@ -297,199 +298,200 @@ module _ (s : Setting) (mask-bytes : Bytes (s .mask)) (first : Line) (called : C
     p-called : Called s (p .line)
     p-called = m .sound .called (passed-answered (p .outcome) (m .passed))
 
-    abbrev q : Progress
-    q = tableFilled s b (nextNumber st) invalid p
+    -- a fill that ended so
+    pub tried-so : (q : Progress) → Filled s p q b pages (g .pages) (fillMost g) → Touched s p q b pages → tries.Tried s p q table b pages
+    tried-so q leaves touches = tries.tried-from s mask-bytes p table b (r .stored) (r .table-is) free (tableCopy n) fits (tableMain g invalid) main-long main-bytes q leaves touches
 
-    try : tries.Tried s p q table b pages
-    try = tries.tried s mask-bytes p (m .passed) p-called table b (r .stored) (r .table-is) free (tableCopy n) fits (tableMain g invalid) main-long main-bytes _ meant
+    -- the whole fill in one call
+    plain-try : tries.Tried s p (tableFilled s b (nextNumber st) invalid p) table b pages
+    plain-try = tries.tried s mask-bytes p (m .passed) p-called table b (r .stored) (r .table-is) free (tableCopy n) fits (tableMain g invalid) main-long main-bytes _ meant
 
-    abbrev adds : List ArrayOperation
-    adds = try .touched .adds
+    plain-long : Long (chipSize g) (tableFilled s b (nextNumber st) invalid p)
+    plain-long = filled-keeps s (Long (chipSize g)) (long-kept s (chipSize g)) b _ _ p (m .long)
 
-    abbrev after : List ℕ
-    after = q .line .chip .array
+    -- however the fill was carried out
+    module _ (q : Progress) (try : tries.Tried s p q table b pages) (long : Long (chipSize g) q) where
+      abbrev adds : List ArrayOperation
+      adds = try .touched .adds
 
-    leads-next : Leads s (first .chip) q
-    leads-next = filled-keeps s (Leads s (first .chip)) (leads-kept s (first .chip)) b _ _ p (m .leads)
+      abbrev after : List ℕ
+      after = q .line .chip .array
 
-    long : length after ≡ chipSize g
-    long = leads-long s first (chipSize g) (called .array-long) q leads-next
+      unfailed : failedAfter failed₀ os b ≡ false
+      unfailed = cases (failedAfter failed₀ os b) (λ y. clash (r .failures b below y) (is .valid)) (λ f. f)
 
-    unfailed : failedAfter failed₀ os b ≡ false
-    unfailed = cases (failedAfter failed₀ os b) (λ y. clash (r .failures b below y) (is .valid)) (λ f. f)
+      spared-next : Spared g marked₀ failed₀ (os ++ adds)
+      spared-next =
+          spared-append g marked₀ failed₀ os adds (r .spared) (spared-steady g marked₀ (failedAfter failed₀ os) adds (try .spares marked₀ (failedAfter failed₀ os) (sym (marks₀ b below) ∙ sym (r .marks b below) ∙ free .unmarked) unfailed) (try .touched .steady))
 
-    spared-next : Spared g marked₀ failed₀ (os ++ adds)
-    spared-next =
-        spared-append g marked₀ failed₀ os adds (r .spared) (spared-steady g marked₀ (failedAfter failed₀ os) adds (try .spares marked₀ (failedAfter failed₀ os) (sym (marks₀ b below) ∙ sym (r .marks b below) ∙ free .unmarked) unfailed) (try .touched .steady))
+      abbrev more-invalid : List ℕ
+      more-invalid = withBit invalid b
 
-    abbrev more-invalid : List ℕ
-    more-invalid = withBit invalid b
+      few : g .blocks ≤ 4096
+      few = v .blocks-most
 
-    few : g .blocks ≤ 4096
-    few = v .blocks-most
+      more-set : (k : ℕ) → bitAt invalid k ≡ true → bitAt more-invalid k ≡ true
+      more-set = still-set (g .blocks) invalid b few below (r .bits)
 
-    more-set : (k : ℕ) → bitAt invalid k ≡ true → bitAt more-invalid k ≡ true
-    more-set = still-set (g .blocks) invalid b few below (r .bits)
+      here-set : bitAt more-invalid b ≡ true
+      here-set = now-set (g .blocks) invalid b few below (r .bits)
 
-    here-set : bitAt more-invalid b ≡ true
-    here-set = now-set (g .blocks) invalid b few below (r .bits)
-
-    failures-next : (k : ℕ) → k < g .blocks → failedAfter failed₀ (os ++ adds) k ≡ true → bitAt more-invalid k ≡ true
-    failures-next k h y =
-        cases (eqb k b)
-        (λ e. ap (bitAt more-invalid) (eqb-true k b e) ∙ here-set)
-        (λ e. more-set k (r .failures k h (sym (none-here k (eqb-false k b e)) ∙ y)))
-      where
-        none-here : (k : ℕ) → (k ≡ b → ⊥) → failedAfter failed₀ (os ++ adds) k ≡ failedAfter failed₀ os k
-        none-here k other =
-            failed-after-append failed₀ os adds k
-            ∙ ap (cond (failedAfter failed₀ os k) true) (try .touched .failures k ∙ ap (λ (z : Bool). cond z (isFailed (q .outcome)) false) (ne-eqb b k (λ e. other (sym e))))
-            ∙ or-none (failedAfter failed₀ os k)
-
-    off-marked : (k : ℕ) → k < g .blocks → isMarked g (blockIn g array₀ k) ≡ true → k ≡ b → ⊥
-    off-marked k h y e = clash y (sym (r .marks k h) ∙ ap (λ (j : ℕ). isMarked g (blockIn g before j)) e ∙ free .unmarked)
-
-    -- the new copy stays
-    off-block : d .block ≡ b → ⊥
-    off-block = off-held (d .block) block-held
-
-    -- what follows whether or not the block is complete
-    rest-with : (now : ℕ) → Stored g after → currentTable g after ≡ at now → (now ≡ t) ⊎ (bitAt more-invalid now ≡ true)
-        → ((k : ℕ) → k < g .blocks → lists g (blockIn g after now) k ≡ true → bitAt invalid k ≡ true) → MarksSame g before after → Below g after (n + 1)
-        → ((l : ℕ) → l < g .logical → currentCopy g after now l ≡ currentCopy g before table l) → ((l i : ℕ) → l < g .logical → i < g .pages → reading g after now l i ≡ reading g before table l i)
-        → Rest (n + 1) more-invalid now after (os ++ adds)
-    rest-with now stored table-is table-from listed marks numbers copies reads =
-        record {
-          stored = stored;
-          table-is = table-is;
-          table-from = table-from;
-          listed = λ k h y. more-set k (listed k h y);
-          marks = λ k h. marks k h ∙ r .marks k h;
-          bits = bits-more (g .blocks) invalid b few below (r .bits);
-          numbers = numbers;
-          copies = λ l h. copies l h ∙ r .copies l h;
-          valid = λ l k h e. still-clear (g .blocks) invalid b few below (r .bits) k (off-held k (copy-held l k h e)) (r .valid l k h e);
-          apart = λ k h y. still-clear (g .blocks) invalid b few below (r .bits) k (off-marked k h y) (r .apart k h y);
-          reads = λ l i h j. reads l i h j ∙ r .reads l i h j;
-          complete = ap (isComplete g) (try .leaves .others (d .block) (d .below) off-block) ∙ r .complete;
-          sent = sent-elsewhere g v before after b (try .leaves .others) os adds (try .elsewhere) (d .block) off-block ∙ r .sent;
-          failures = failures-next;
-          spared = spared-next;
-        }
-
-    rest-quiet : tries.Quiet g before after table b adds → Rest (n + 1) more-invalid table after (os ++ adds)
-    rest-quiet k =
-        rest-with table (k .calm .stored) (k .calm .table-is) (⊎-elim inl (λ z. inr (more-set table z)) (r .table-from))
-        (λ j h y. r .listed j h (ap (λ (row : List ℕ). lists g row j) (sym (k .calm .table-same)) ∙ y))
-        (k .calm .marks) (λ j h y. omega (arith, k .below n (r .numbers) j h y)) (k .calm .copies) (k .calm .reads)
-
-    -- the block is complete
-    module _ (k : tries.Made g before after b pages adds) where
-      renewed : Listed g before after table b invalid × (bitsAt g after b ≡ invalid) × Below g after (n + 1)
-      renewed = (
-        near-table g before after table b n (r .stored) (r .table-is) free (r .numbers) number-fits invalid (r .bits) (k .after-new) (k .complete) (r .listed) (is .valid)
-            (λ l j h e. r .valid l j h (sym (r .copies l h) ∙ e)) (λ j h y. r .apart j h (sym (r .marks j h) ∙ y)),
-        bits-are g before after table b n (r .stored) (r .table-is) free (r .numbers) number-fits invalid (r .bits) (k .after-new) (k .complete),
-        table-below g before after table b n (r .stored) (r .table-is) free (r .numbers) number-fits invalid (r .bits) (k .after-new) (k .complete),
-      )
-
-      rest-made : Rest (n + 1) more-invalid b after (os ++ adds)
-      rest-made =
-          rest-with b (renewed .0 .stored) (renewed .0 .table-is) (inr here-set) (λ j h y. sym (renewed .0 .lists-are j h) ∙ y) (renewed .0 .marks) (renewed .2) (renewed .0 .copies) (renewed .0 .reads)
-
-    came : ((isPassed (q .outcome) ≡ false) × tries.Quiet g before after table b adds) ⊎ tries.Made g before after b pages adds
-    came = try .comes long
-
-    -- a table is current, and the rest holds of it
-    record Next : Type 0 where
-      now : ℕ
-      rest : Rest (n + 1) more-invalid now after (q .started)
-
-    next : Next
-    next =
-        ⊎-elim
-        (λ k. record { now = table; rest = subst (Rest (n + 1) more-invalid table after) (sym (try .touched .started-is)) (rest-quiet (k .1)) })
-        (λ k. record { now = b; rest = subst (Rest (n + 1) more-invalid b after) (sym (try .touched .started-is)) (rest-made k) }) came
-
-    table-failed : isFailed (q .outcome) ≡ true → Mid (withInvalid b (taken st)) (resumed q)
-    unfolding isPassed isIllegal isCut isSilent isFailed
-    table-failed w =
-        record {
-          state-is = ap (λ (z : State). withInvalid b (taken z)) (m .state-is);
-          passed = refl;
-          sound = record { legal = try .leaves .sound .legal; known = refl; used-up = λ e. clash e refl; silent-by = λ e. clash e refl; failed-by = λ e. clash e refl; called = λ e. try .leaves .sound .called (failed-answered (q .outcome) w) };
-          leads = leads-next;
-          table = next .now;
-          rest = next .rest;
-        }
-
-    -- it was silent or cut
-    table-stopped : isPassed (q .outcome) ≡ false → isFailed (q .outcome) ≡ false → Halted s c book marked₀ failed₀ (stopAnswer (q .outcome)) q
-    table-stopped y f =
-        let which = stop-answer (q .outcome) (unfailed-end (q .outcome) (try .leaves .sound .known) f) y in
-        record {
-          answers = ⊎-elim (λ e. subst ChangeAnswer (sym e) is-silent) (λ e. subst ChangeAnswer (sym e) is-cut) which;
-          legal = try .leaves .sound .legal;
-          stored = next .rest .stored;
-          table = next .now;
-          table-is = next .rest .table-is;
-          reads = λ l i h j. next .rest .reads l i h j ∙ ap (λ (z : Bool). cond z (entered g c book) book l i) (sym (has-some g after (q .started) (d .block) (d .below) (next .rest .sent) (next .rest .complete)));
-          marks = λ k h. next .rest .marks k h ∙ marks₀ k h;
-          spared = next .rest .spared;
-          silent-by = λ e. try .leaves .sound .silent-by (stop-silent (q .outcome) e);
-          used-up = λ e. try .leaves .sound .used-up (stop-cut (q .outcome) e);
-        }
-
-    -- it passed
-    module _ (y : isPassed (q .outcome) ≡ true) where
-      made : tries.Made g before after b pages adds
-      made = ⊎-elim (λ k. clash y (k .0)) (λ k. k) came
-
-      table-passed : Agrees g after (withTable b (taken st)) (entered g c book) (failedAfter failed₀ (q .started))
-      table-passed =
-          record {
-            stored = renewed made .0 .stored;
-            knows = record {
-              status-one = ap (λ (z : State). z .status) (m .state-is) ∙ ap (λ (z : State). z .status) (d .state-is) ∙ agrees .knows .status-one;
-              table-is = renewed made .0 .table-is;
-              marked-is = ap (λ (z : State). z .marked) (m .state-is) ∙ marked-same ∙ agrees .knows .marked-is ∙ sym (marks-follow g array₀ after (λ k h. renewed made .0 .marks k h ∙ r .marks k h));
-              invalid-is = sym (renewed made .1);
-              map-is = ap (λ (z : State). z .map) (m .state-is) ∙ map-of after b (λ l h. renewed made .0 .copies l h ∙ r .copies l h);
-              last-below = below;
-              numbers = renewed made .2;
-            };
-            reads = λ l i h j. renewed made .0 .reads l i h j ∙ r .reads l i h j;
-            failed-listed = λ k h z. r .failures k h (sym (same-failed k) ∙ z);
-          }
+      failures-next : (k : ℕ) → k < g .blocks → failedAfter failed₀ (os ++ adds) k ≡ true → bitAt more-invalid k ≡ true
+      failures-next k h y =
+          cases (eqb k b)
+          (λ e. ap (bitAt more-invalid) (eqb-true k b e) ∙ here-set)
+          (λ e. more-set k (r .failures k h (sym (none-here k (eqb-false k b e)) ∙ y)))
         where
-          same-failed : (k : ℕ) → failedAfter failed₀ (q .started) k ≡ failedAfter failed₀ os k
-          same-failed k =
-              ap (λ (z : List ArrayOperation). failedAfter failed₀ z k) (try .touched .started-is)
-              ∙ failed-after-append failed₀ os adds k
-              ∙ ap (cond (failedAfter failed₀ os k) true) (try .touched .failures k ∙ ap (λ (z : Bool). cond (eqb b k) z false) (passed-unfailed (q .outcome) y) ∙ and-none (eqb b k))
+          none-here : (k : ℕ) → (k ≡ b → ⊥) → failedAfter failed₀ (os ++ adds) k ≡ failedAfter failed₀ os k
+          none-here k other =
+              failed-after-append failed₀ os adds k
+              ∙ ap (cond (failedAfter failed₀ os k) true) (try .touched .failures k ∙ ap (λ (z : Bool). cond z (isFailed (q .outcome)) false) (ne-eqb b k (λ e. other (sym e))))
               ∙ or-none (failedAfter failed₀ os k)
 
-    -- acknowledged
-    table-changed : isPassed (q .outcome) ≡ true → Changed s c book marked₀ failed₀ (tabled q 0 (withTable b (taken st)))
-    table-changed y =
-        record {
-          answers = is-done;
-          legal = try .leaves .sound .legal;
-          stored = table-passed y .stored;
-          done = λ z. table-passed y;
-          ready = λ z. try .leaves .sound .called (passed-answered (q .outcome) y) .ready;
-          stopped = λ z. absurd (z refl);
-          table = b;
-          table-is = table-passed y .knows .table-is;
-          reads = λ z. absurd (z refl);
-          marks = λ k h. next .rest .marks k h ∙ marks₀ k h;
-          spared = next .rest .spared;
-          silent-by = λ z. absurd (omega (arith, z));
-          used-up = λ z. absurd (omega (arith, z));
-        }
+      off-marked : (k : ℕ) → k < g .blocks → isMarked g (blockIn g array₀ k) ≡ true → k ≡ b → ⊥
+      off-marked k h y e = clash y (sym (r .marks k h) ∙ ap (λ (j : ℕ). isMarked g (blockIn g before j)) e ∙ free .unmarked)
+
+      -- the new copy stays
+      off-block : d .block ≡ b → ⊥
+      off-block = off-held (d .block) block-held
+
+      -- what follows whether or not the block is complete
+      rest-with : (now : ℕ) → Stored g after → currentTable g after ≡ at now → (now ≡ t) ⊎ (bitAt more-invalid now ≡ true)
+          → ((k : ℕ) → k < g .blocks → lists g (blockIn g after now) k ≡ true → bitAt invalid k ≡ true) → MarksSame g before after → Below g after (n + 1)
+          → ((l : ℕ) → l < g .logical → currentCopy g after now l ≡ currentCopy g before table l) → ((l i : ℕ) → l < g .logical → i < g .pages → reading g after now l i ≡ reading g before table l i)
+          → Rest (n + 1) more-invalid now after (os ++ adds)
+      rest-with now stored table-is table-from listed marks numbers copies reads =
+          record {
+            stored = stored;
+            table-is = table-is;
+            table-from = table-from;
+            listed = λ k h y. more-set k (listed k h y);
+            marks = λ k h. marks k h ∙ r .marks k h;
+            bits = bits-more (g .blocks) invalid b few below (r .bits);
+            numbers = numbers;
+            copies = λ l h. copies l h ∙ r .copies l h;
+            valid = λ l k h e. still-clear (g .blocks) invalid b few below (r .bits) k (off-held k (copy-held l k h e)) (r .valid l k h e);
+            apart = λ k h y. still-clear (g .blocks) invalid b few below (r .bits) k (off-marked k h y) (r .apart k h y);
+            reads = λ l i h j. reads l i h j ∙ r .reads l i h j;
+            complete = ap (isComplete g) (try .leaves .others (d .block) (d .below) off-block) ∙ r .complete;
+            sent = sent-elsewhere g v before after b (try .leaves .others) os adds (try .elsewhere) (d .block) off-block ∙ r .sent;
+            failures = failures-next;
+            spared = spared-next;
+          }
+
+      rest-quiet : tries.Quiet g before after table b adds → Rest (n + 1) more-invalid table after (os ++ adds)
+      rest-quiet k =
+          rest-with table (k .calm .stored) (k .calm .table-is) (⊎-elim inl (λ z. inr (more-set table z)) (r .table-from))
+          (λ j h y. r .listed j h (ap (λ (row : List ℕ). lists g row j) (sym (k .calm .table-same)) ∙ y))
+          (k .calm .marks) (λ j h y. omega (arith, k .below n (r .numbers) j h y)) (k .calm .copies) (k .calm .reads)
+
+      -- the block is complete
+      module _ (k : tries.Made g before after b pages adds) where
+        renewed : Listed g before after table b invalid × (bitsAt g after b ≡ invalid) × Below g after (n + 1)
+        renewed = (
+          near-table g before after table b n (r .stored) (r .table-is) free (r .numbers) number-fits invalid (r .bits) (k .after-new) (k .complete) (r .listed) (is .valid)
+              (λ l j h e. r .valid l j h (sym (r .copies l h) ∙ e)) (λ j h y. r .apart j h (sym (r .marks j h) ∙ y)),
+          bits-are g before after table b n (r .stored) (r .table-is) free (r .numbers) number-fits invalid (r .bits) (k .after-new) (k .complete),
+          table-below g before after table b n (r .stored) (r .table-is) free (r .numbers) number-fits invalid (r .bits) (k .after-new) (k .complete),
+        )
+
+        rest-made : Rest (n + 1) more-invalid b after (os ++ adds)
+        rest-made =
+            rest-with b (renewed .0 .stored) (renewed .0 .table-is) (inr here-set) (λ j h y. sym (renewed .0 .lists-are j h) ∙ y) (renewed .0 .marks) (renewed .2) (renewed .0 .copies) (renewed .0 .reads)
+
+      came : ((isPassed (q .outcome) ≡ false) × tries.Quiet g before after table b adds) ⊎ tries.Made g before after b pages adds
+      came = try .comes long
+
+      -- a table is current, and the rest holds of it
+      record Next : Type 0 where
+        now : ℕ
+        rest : Rest (n + 1) more-invalid now after (q .started)
+
+      next : Next
+      next =
+          ⊎-elim
+          (λ k. record { now = table; rest = subst (Rest (n + 1) more-invalid table after) (sym (try .touched .started-is)) (rest-quiet (k .1)) })
+          (λ k. record { now = b; rest = subst (Rest (n + 1) more-invalid b after) (sym (try .touched .started-is)) (rest-made k) }) came
+
+      pub table-failed : isFailed (q .outcome) ≡ true → Mid (withInvalid b (taken st)) (resumed q)
+      unfolding isPassed isIllegal isCut isSilent isFailed
+      table-failed w =
+          record {
+            state-is = ap (λ (z : State). withInvalid b (taken z)) (m .state-is);
+            passed = refl;
+            sound = record { legal = try .leaves .sound .legal; known = refl; used-up = λ e. clash e refl; silent-by = λ e. clash e refl; failed-by = λ e. clash e refl; called = λ e. try .leaves .sound .called (failed-answered (q .outcome) w) };
+            long = long;
+            table = next .now;
+            rest = next .rest;
+          }
+
+      -- it was silent or cut
+      pub table-stopped : isPassed (q .outcome) ≡ false → isFailed (q .outcome) ≡ false → Halted s c book marked₀ failed₀ (stopAnswer (q .outcome)) q
+      table-stopped y f =
+          let which = stop-answer (q .outcome) (unfailed-end (q .outcome) (try .leaves .sound .known) f) y in
+          record {
+            answers = ⊎-elim (λ e. subst ChangeAnswer (sym e) is-silent) (λ e. subst ChangeAnswer (sym e) is-cut) which;
+            legal = try .leaves .sound .legal;
+            stored = next .rest .stored;
+            table = next .now;
+            table-is = next .rest .table-is;
+            reads = λ l i h j. next .rest .reads l i h j ∙ ap (λ (z : Bool). cond z (entered g c book) book l i) (sym (has-some g after (q .started) (d .block) (d .below) (next .rest .sent) (next .rest .complete)));
+            marks = λ k h. next .rest .marks k h ∙ marks₀ k h;
+            spared = next .rest .spared;
+            silent-by = λ e. try .leaves .sound .silent-by (stop-silent (q .outcome) e);
+            used-up = λ e. try .leaves .sound .used-up (stop-cut (q .outcome) e);
+          }
+
+      -- it passed
+      module _ (y : isPassed (q .outcome) ≡ true) where
+        made : tries.Made g before after b pages adds
+        made = ⊎-elim (λ k. clash y (k .0)) (λ k. k) came
+
+        table-passed : Agrees g after (withTable b (taken st)) (entered g c book) (failedAfter failed₀ (q .started))
+        table-passed =
+            record {
+              stored = renewed made .0 .stored;
+              knows = record {
+                status-one = ap (λ (z : State). z .status) (m .state-is) ∙ ap (λ (z : State). z .status) (d .state-is) ∙ agrees .knows .status-one;
+                table-is = renewed made .0 .table-is;
+                marked-is = ap (λ (z : State). z .marked) (m .state-is) ∙ marked-same ∙ agrees .knows .marked-is ∙ sym (marks-follow g array₀ after (λ k h. renewed made .0 .marks k h ∙ r .marks k h));
+                invalid-is = sym (renewed made .1);
+                map-is = ap (λ (z : State). z .map) (m .state-is) ∙ map-of after b (λ l h. renewed made .0 .copies l h ∙ r .copies l h);
+                last-below = below;
+                numbers = renewed made .2;
+              };
+              reads = λ l i h j. renewed made .0 .reads l i h j ∙ r .reads l i h j;
+              failed-listed = λ k h z. r .failures k h (sym (same-failed k) ∙ z);
+            }
+          where
+            same-failed : (k : ℕ) → failedAfter failed₀ (q .started) k ≡ failedAfter failed₀ os k
+            same-failed k =
+                ap (λ (z : List ArrayOperation). failedAfter failed₀ z k) (try .touched .started-is)
+                ∙ failed-after-append failed₀ os adds k
+                ∙ ap (cond (failedAfter failed₀ os k) true) (try .touched .failures k ∙ ap (λ (z : Bool). cond (eqb b k) z false) (passed-unfailed (q .outcome) y) ∙ and-none (eqb b k))
+                ∙ or-none (failedAfter failed₀ os k)
+
+      -- acknowledged
+      pub table-changed : isPassed (q .outcome) ≡ true → Changed s c book marked₀ failed₀ (tabled q 0 (withTable b (taken st)))
+      table-changed y =
+          record {
+            answers = is-done;
+            legal = try .leaves .sound .legal;
+            stored = table-passed y .stored;
+            done = λ z. table-passed y;
+            ready = λ z. try .leaves .sound .called (passed-answered (q .outcome) y) .ready;
+            stopped = λ z. absurd (z refl);
+            table = b;
+            table-is = table-passed y .knows .table-is;
+            reads = λ z. absurd (z refl);
+            marks = λ k h. next .rest .marks k h ∙ marks₀ k h;
+            spared = next .rest .spared;
+            silent-by = λ z. absurd (omega (arith, z));
+            used-up = λ z. absurd (omega (arith, z));
+          }
 
   -- no number or no block is left
-  table-none : (answer : ℕ) → ChangeAnswer answer → 0 < answer → answer < 10 → (st : State) (p : Progress) → Mid st p → Changed s c book marked₀ failed₀ (tabled p answer (blank 2))
+  pub table-none : (answer : ℕ) → ChangeAnswer answer → 0 < answer → answer < 10 → (st : State) (p : Progress) → Mid st p → Changed s c book marked₀ failed₀ (tabled p answer (blank 2))
   table-none answer is some few st p m =
       halted-changed s c book marked₀ failed₀ answer p some
       (record {
@@ -511,10 +513,10 @@ module _ (s : Setting) (mask-bytes : Bytes (s .mask)) (first : Line) (called : C
         last-below = λ st p m. omega (arith, ap (λ (z : State). z .last) (m .state-is), ap (λ (z : State). z .last) (d .state-is), d .below);
         spent = λ st p m h. table-none 9 is-spent (omega arith) (omega arith) st p m;
         worn = λ st p m h none. table-none 8 is-worn (omega arith) (omega arith) st p m;
-        passed = λ st p m h b l may y. table-changed st p m h b l may y;
-        failed = λ st p m h b l may w. table-failed st p m h b l may w;
+        passed = λ st p m h b l may y. table-changed st p m h b l may (tableFilled s b (nextNumber st) (st .invalid) p) (plain-try st p m h b l may) (plain-long st p m h b l may) y;
+        failed = λ st p m h b l may w. table-failed st p m h b l may (tableFilled s b (nextNumber st) (st .invalid) p) (plain-try st p m h b l may) (plain-long st p m h b l may) w;
         stopped = λ st p m h b l may n w.
-            halted-changed s c book marked₀ failed₀ _ _ (omega (arith, stop-least (tableFilled s b (nextNumber st) (st .invalid) p .outcome))) (table-stopped st p m h b l may n w);
+            halted-changed s c book marked₀ failed₀ _ _ (omega (arith, stop-least (tableFilled s b (nextNumber st) (st .invalid) p .outcome))) (table-stopped st p m h b l may (tableFilled s b (nextNumber st) (st .invalid) p) (plain-try st p m h b l may) (plain-long st p m h b l may) n w);
       }
 
   -- table fills until one passes

@@ -60,10 +60,10 @@ pub record Tried (s : Setting) (p q : Progress) (t b : ℕ) (pages : ℕ → Lis
   pub comes : length (q .line .chip .array) ≡ chipSize (s .geometry)
       → ((isPassed (q .outcome) ≡ false) × Quiet (s .geometry) (p .line .chip .array) (q .line .chip .array) t b (touched .adds)) ⊎ Made (s .geometry) (p .line .chip .array) (q .line .chip .array) b pages (touched .adds)
 
-module _ (s : Setting) (mask-bytes : Bytes (s .mask)) (p : Progress) (passed : isPassed (p .outcome) ≡ true) (called : Called s (p .line))
+module _ (s : Setting) (mask-bytes : Bytes (s .mask)) (p : Progress)
     (t b : ℕ) (stored : Stored (s .geometry) (p .line .chip .array)) (table-is : currentTable (s .geometry) (p .line .chip .array) ≡ at t) (free : Free (s .geometry) (p .line .chip .array) t b)
     (c : Copy) (labelled : Labelled c) (main : ℕ → List ℕ) (main-long : (i : ℕ) → i < s .geometry .pages → length (main i) ≡ s .geometry .main) (main-bytes : (i : ℕ) → i < s .geometry .pages → Bytes (main i))
-    (source : ℕ → Source) (meant : Meant s (p .line .chip .array) b c source (λ i. copyPage (s .geometry) c i (main i))) where
+    (q : Progress) (try-leaves : Filled s p q b (λ i. copyPage (s .geometry) c i (main i)) (s .geometry .pages) (fillMost (s .geometry))) (try-touches : Touched s p q b (λ i. copyPage (s .geometry) c i (main i))) where
   abbrev g : Geometry
   g = s .geometry
 
@@ -75,15 +75,6 @@ module _ (s : Setting) (mask-bytes : Bytes (s .mask)) (p : Progress) (passed : i
 
   abbrev pages : ℕ → List ℕ
   pages i = copyPage g c i (main i)
-
-  abbrev q : Progress
-  q = filled s b c source p
-
-  try-leaves : Filled s p q b pages (g .pages) (fillMost g)
-  try-leaves = fill-leaves s p b (free .below) c source pages meant mask-bytes passed called
-
-  try-touches : Touched s p q b pages
-  try-touches = fill-touches s p b (free .below) c source pages meant mask-bytes passed called
 
   -- an array on which every other block is as it was
   module _ (x : List ℕ) (long : length x ≡ chipSize g) (others : (k : ℕ) → k < g .blocks → (k ≡ b → ⊥) → blockIn g x k ≡ blockIn g before k) where
@@ -180,6 +171,14 @@ module _ (s : Setting) (mask-bytes : Bytes (s .mask)) (p : Progress) (passed : i
     try-comes : ((isPassed (q .outcome) ≡ false) × Quiet g before after t b (try-touches .adds)) ⊎ Made g before after b pages (try-touches .adds)
     try-comes = ⊎-elim (λ k. inl (k .unpassed, came-before k)) came-since (try-touches .here)
 
-  pub tried : Tried s p q t b pages
-  tried =
+  pub tried-from : Tried s p q t b pages
+  tried-from =
       record { leaves = try-leaves; touched = try-touches; spares = try-spares; elsewhere = try-elsewhere; comes = try-comes }
+
+pub tried : (s : Setting) → Bytes (s .mask) → (p : Progress) → isPassed (p .outcome) ≡ true → Called s (p .line)
+    → (t b : ℕ) → Stored (s .geometry) (p .line .chip .array) → currentTable (s .geometry) (p .line .chip .array) ≡ at t → Free (s .geometry) (p .line .chip .array) t b
+    → (c : Copy) → Labelled c → (main : ℕ → List ℕ) → ((i : ℕ) → i < s .geometry .pages → length (main i) ≡ s .geometry .main) → ((i : ℕ) → i < s .geometry .pages → Bytes (main i))
+    → (source : ℕ → Source) → Meant s (p .line .chip .array) b c source (λ i. copyPage (s .geometry) c i (main i)) → Tried s p (filled s b c source p) t b (λ i. copyPage (s .geometry) c i (main i))
+tried s mask-bytes p passed called t b stored table-is free c labelled main main-long main-bytes source meant =
+    tried-from s mask-bytes p t b stored table-is free c labelled main main-long main-bytes (filled s b c source p)
+    (fill-leaves s p b (free .below) c source _ meant mask-bytes passed called) (fill-touches s p b (free .below) c source _ meant mask-bytes passed called)

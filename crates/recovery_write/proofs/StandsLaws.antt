@@ -1,0 +1,151 @@
+-- An open request between two calls, told without a call: it stands so on a chip, after the operations of all its calls.
+-- Any call can take it up, and leaves it open again, or ended as a plain request ends. Assumes nothing.
+use Prim.Native.Nat.{ℕ, _≤_, _<_}
+use mathlib.Core.Bool.{Bool}
+use mathlib.Core.List.{List, []}
+use mathlib.Core.Path.{_≡_, refl, sym, ap, subst, _∙_}
+use native.Mathlib.Omega.{arith}
+use lib.ListN.{length}
+use Rattle.geometry.specs.declared.Geometry.{Geometry}
+use Rattle.geometry.specs.Sizes.{chipSize}
+use Rattle.cells.specs.Bytes.{Bytes}
+use Rattle.chip_array.specs.Device.{Device, Setting, setting}
+use Rattle.chip.specs.Chip.{Cycle}
+use Rattle.bus.specs.Line.{Line}
+use Rattle.bus_polling.specs.declared.Outcome.the-variants.{Passed}
+use Rattle.bus_polling.proofs.OutcomeLaws.{passed-answered}
+use Rattle.operations.specs.Ends.{Called}
+use Rattle.operations.specs.Trace.{ArrayOperation}
+use Rattle.state.specs.declared.State.{State}
+use Rattle.progress.specs.Progress.{Progress, progress}
+use Rattle.fill_tables.specs.Tables.{tabled}
+use Rattle.fill_cursor.specs.Cursor.{running, firstCursor}
+use Rattle.fill_cursor.specs.declared.Running.{Running}
+use Rattle.fill_driver.specs.Driver.{Ran, ran}
+use Rattle.write_changes.specs.Changes.{Update}
+use Rattle.recovery.specs.Book.{Book, Change}
+use Rattle.recovery_write.specs.Changed.{Agrees, MarkedBy, Proper, updateOf, Changed}
+use Rattle.recovery_write.proofs.HoldingLaws.{holding, holding-called}
+use Rattle.recovery_write.proofs.ActLaws as act
+use Rattle.recovery_write.proofs.ActLaws.At.{before-data, erase-data, in-data, before-table, erase-table, in-table, has-ended}
+use Rattle.recovery_write.proofs.OtherCallLaws.{at-any}
+use Rattle.recovery_write.proofs.ShownLaws.{Shown, at-shown}
+
+-- the chip takes the next command wherever an open request stands
+module _ (s : Setting) (mask-bytes : Bytes (s .mask)) (first : Line) (called : Called s first) (st₀ : State) (c : Change) (book : Book) (marked₀ failed₀ : ℕ → Bool)
+    (marks₀ : MarkedBy (s .geometry) (first .chip .array) marked₀) (agrees : Agrees (s .geometry) (first .chip .array) st₀ book failed₀) (proper : Proper (s .geometry) c) where
+  pub at-called : {r : Running} {p : Progress} → act.At s mask-bytes first called st₀ c book marked₀ failed₀ marks₀ agrees proper r p → r .cursor .phase < 2 → Called s (p .line)
+  at-called {r} {p} (before-data w) h = w .mid .sound .called (passed-answered (p .outcome) (w .mid .passed))
+  at-called {r} {p} (erase-data w) h = w .mid .sound .called (passed-answered (p .outcome) (w .mid .passed))
+  at-called (in-data w) h = subst (λ (x : Progress). Called s (x .line)) (sym (w .p-is)) (w .line-called)
+  at-called {r} {p} (before-table st₁ p₁ d w) h = w .mid .sound .called (passed-answered (p .outcome) (w .mid .passed))
+  at-called {r} {p} (erase-table st₁ p₁ d w) h = w .mid .sound .called (passed-answered (p .outcome) (w .mid .passed))
+  at-called (in-table st₁ p₁ d w) h = subst (λ (x : Progress). Called s (x .line)) (sym (w .p-is)) (w .line-called)
+  at-called (has-ended w) h = absurd (omega (arith, h, ap (λ (x : Running). x .cursor .phase) (w .r-is)))
+
+-- the request was opened on array₀, when the state was st₀
+module _ (g : Geometry) (array₀ : List ℕ) (long₀ : length array₀ ≡ chipSize g) (st₀ : State) (c : Change) (book : Book) (marked₀ failed₀ : ℕ → Bool)
+    (marks₀ : MarkedBy g array₀ marked₀) (agrees : Agrees g array₀ st₀ book failed₀) (proper : Proper g c) where
+  abbrev u : Update
+  u = updateOf st₀ c
+
+  pub record Stands (r : Running) (d : Device) (os : List ArrayOperation) : Type 0 where
+    pub mask' : List ℕ
+    pub fates' : List ℕ
+    pub mask-bytes' : Bytes mask'
+    pub l' : Line
+    pub called' : Called (setting g mask' fates') l'
+    pub p : Progress
+    pub is-at : act.At (setting g mask' fates') mask-bytes' (holding l' array₀) (holding-called (setting g mask' fates') l' called' array₀ long₀) st₀ c book marked₀ failed₀ marks₀ agrees proper r p
+    pub unended : r .cursor .phase < 2
+    pub array-is : p .line .chip .array ≡ d .array
+    pub history-is : p .line .chip .history ≡ d .history
+    pub started-is : p .started ≡ os
+
+  -- what a mount would find there
+  pub stands-shown : {r : Running} {d : Device} {os : List ArrayOperation} → Stands r d os → Shown g c book marked₀ failed₀ (d .array) os
+  stands-shown {r} {d} {os} w =
+      subst (λ (x : List ArrayOperation). Shown g c book marked₀ failed₀ (d .array) x) (w .started-is)
+      (subst (λ (a : List ℕ). Shown g c book marked₀ failed₀ a (w .p .started)) (w .array-is)
+      (at-shown (setting g (w .mask') (w .fates')) (w .mask-bytes') (holding (w .l') array₀) (holding-called (setting g (w .mask') (w .fates')) (w .l') (w .called') array₀ long₀) st₀ c book marked₀ failed₀ marks₀ agrees proper (w .is-at) (w .unended)))
+
+  -- a call
+  module _ (mask' fates' : List ℕ) (mask-bytes' : Bytes mask') (l' : Line) (called' : Called (setting g mask' fates') l') (cs : List Cycle) where
+    abbrev s' : Setting
+    s' = setting g mask' fates'
+
+    abbrev At' : Running → Progress → Type 0
+    At' = act.At (setting g mask' fates') mask-bytes' (holding l' array₀) (holding-called (setting g mask' fates') l' called' array₀ long₀) st₀ c book marked₀ failed₀ marks₀ agrees proper
+
+    -- the opening
+    pub stands-first : l' .chip .array ≡ array₀ → Stands (running (firstCursor 0 (u .logical) (u .first) (u .count) (u .old)) st₀) (l' .chip) []
+    stands-first e =
+        record {
+          mask' = mask';
+          fates' = fates';
+          mask-bytes' = mask-bytes';
+          l' = l';
+          called' = called';
+          p = progress (holding l' array₀) Passed [] [];
+          is-at = act.at-first (setting g mask' fates') mask-bytes' (holding l' array₀) (holding-called (setting g mask' fates') l' called' array₀ long₀) st₀ c book marked₀ failed₀ marks₀ agrees proper;
+          unended = omega arith;
+          array-is = sym e;
+          history-is = refl;
+          started-is = refl;
+        }
+
+    -- it takes up a request that stands open on its chip
+    module _ (r : Running) (os : List ArrayOperation) (w : Stands r (l' .chip) os) where
+      pub stands-at : At' r (progress l' Passed cs os)
+      stands-at =
+          subst (λ (x : List ArrayOperation). At' r (progress l' Passed cs x)) (w .started-is)
+          (at-any g (w .mask') (w .fates') (w .mask-bytes') (holding (w .l') array₀) (holding-called (setting g (w .mask') (w .fates')) (w .l') (w .called') array₀ long₀) st₀ c book marked₀ failed₀ marks₀ agrees proper
+          mask' fates' mask-bytes' l' called' (holding-called s' l' called' array₀ long₀) (w .p) (sym (w .array-is)) (sym (w .history-is)) cs (w .is-at) (w .unended))
+
+      module _ (n left : ℕ) where
+        abbrev came : Ran
+        came = ran s' (u .bytes) n left r (progress l' Passed cs os)
+
+        came-at : At' (came .running) (came .progress)
+        came-at = act.run-keeps (setting g mask' fates') mask-bytes' (holding l' array₀) (holding-called (setting g mask' fates') l' called' array₀ long₀) st₀ c book marked₀ failed₀ marks₀ agrees proper n left r (progress l' Passed cs os) stands-at
+
+        -- it has ended in this call, as a plain request ends
+        pub advance-ends : 2 ≤ came .running .cursor .phase → Changed s' c book marked₀ failed₀ (tabled (came .progress) (came .running .cursor .answer) (came .running .state))
+        advance-ends h = act.at-ended (setting g mask' fates') mask-bytes' (holding l' array₀) (holding-called (setting g mask' fates') l' called' array₀ long₀) st₀ c book marked₀ failed₀ marks₀ agrees proper came-at h
+
+        -- it stands open again, and the chip takes the next command
+        pub advance-stands : came .running .cursor .phase < 2 → Stands (came .running) (came .progress .line .chip) (came .progress .started)
+        advance-stands h =
+            record {
+              mask' = mask';
+              fates' = fates';
+              mask-bytes' = mask-bytes';
+              l' = l';
+              called' = called';
+              p = came .progress;
+              is-at = came-at;
+              unended = h;
+              array-is = refl;
+              history-is = refl;
+              started-is = refl;
+            }
+
+        pub advance-called : came .running .cursor .phase < 2 → Called s' (came .progress .line)
+        advance-called h = at-called (setting g mask' fates') mask-bytes' (holding l' array₀) (holding-called (setting g mask' fates') l' called' array₀ long₀) st₀ c book marked₀ failed₀ marks₀ agrees proper came-at h
+
+  -- reads in between leave array and history
+  pub stands-still : {r : Running} {d : Device} {os : List ArrayOperation} (d' : Device) → d' .array ≡ d .array → d' .history ≡ d .history → Stands r d os → Stands r d' os
+  stands-still d' same history w =
+      record {
+        mask' = w .mask';
+        fates' = w .fates';
+        mask-bytes' = w .mask-bytes';
+        l' = w .l';
+        called' = w .called';
+        p = w .p;
+        is-at = w .is-at;
+        unended = w .unended;
+        array-is = w .array-is ∙ sym same;
+        history-is = w .history-is ∙ sym history;
+        started-is = w .started-is;
+      }
