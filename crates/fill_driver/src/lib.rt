@@ -22,8 +22,8 @@ ghost use Rattle.fill.specs.Fill.{copy, Fillable, pageFilled, dataSource, table
 ghost use Rattle.fill_cursor.specs.Cursor.{pageAfter, running};
 ghost use Rattle.fill_driver.specs.Driver.{contentOf, performed, Due, RanAs};
 
-// More page programs than a request can send: 64 for each number, of data fills and of table fills.
-pub const PROGRAMS: u64 = 549755813889;
+// More page programs than a request can send: 64 for each block, of data fills and of table fills.
+pub const PROGRAMS: u64 = 524289;
 
 // Fills one page of a copy: its main bytes, read where they are kept, then its program.
 fn fill_page(

@@ -4,7 +4,7 @@ use mathlib.Core.List.{List, []}
 use mathlib.Core.Path.{_≡_, refl, ap, subst, _∙_}
 use native.Mathlib.Omega.{arith}
 use borrow.Author.Tests.{lt-ltb, le-ltb}
-use lib.ListN.{getD, replicate, getD-replicate}
+use lib.ListN.{length, getD, replicate, getD-replicate}
 use Rattle.geometry.specs.declared.Geometry.{Geometry}
 use Rattle.geometry.specs.Limits.{Valid}
 use Rattle.chip_array.specs.Device.{Setting}
@@ -24,6 +24,15 @@ use Rattle.fill_cursor.specs.declared.Running.{Running}
 use Rattle.fill_driver.specs.Driver.{Ran, RanAs}
 use Rattle.fill_laws.proofs.TableLaws.{tables-ran}
 use Rattle.format.specs.Format.{firstState, tooFew, tablesOf, endOfRun, tablesRun}
+
+-- the search starts on the chip
+pub last-small : (g : Geometry) (marked invalid : List ℕ) (greatest : ℕ) → Valid g → firstState g marked invalid greatest .last < g .blocks
+unfolding firstState
+last-small g marked invalid greatest v = omega (arith, v .blocks-least)
+
+first-size : (g : Geometry) (marked invalid : List ℕ) (greatest : ℕ) → length invalid ≡ 512 → length (firstState g marked invalid greatest .invalid) ≡ 512
+unfolding firstState
+first-size g marked invalid greatest e = e
 
 -- before the first table no block holds anything current
 empty-bits : (n : ℕ) (bits : List ℕ) → n ≤ 4096 → copyBits (replicate 4096 none) n bits ≡ bits
@@ -45,13 +54,13 @@ module _ (s : Setting) (n : ℕ) (marked invalid : List ℕ) (greatest : ℕ) (c
 
   -- the table fills as the loop ran them, from the state as it is built
   module _ (v : Valid (s .geometry)) (first : State) (e : first ≡ firstState (s .geometry) marked invalid greatest) (cursor : Cursor) (start : cursor ≡ firstCursor 1 0 0 0 none)
-      (l m : Line) (r : Running) (most : ℕ) (run : RanAs s [] most (running cursor first) l m r) (enough : 549755813888 < most) where
+      (l m : Line) (r : Running) (most : ℕ) (run : RanAs s [] most (running cursor first) l m r) (size : length invalid ≡ 512) (enough : 524288 < most) where
     tables-are : (cs : List Cycle) (os : List ArrayOperation) → endAt n (r .cursor .answer) (r .state) m ≡ endOfRun n (tablesOf s marked invalid greatest (progress l Passed cs os))
     tables-are cs os =
         let f = firstState (s .geometry) marked invalid greatest in
         let p = progress l Passed cs os in
         let from = subst (λ (x : Cursor). RanAs s [] most (running x f) l m r) start (subst (λ (x : State). RanAs s [] most (running cursor x) l m r) e run) in
-        let whole = tables-ran s v [] (firstCursor 1 0 0 0 none) refl refl f p most enough in
+        let whole = tables-ran s v [] (firstCursor 1 0 0 0 none) refl refl f p most (first-size (s .geometry) marked invalid greatest size) (last-small (s .geometry) marked invalid greatest v) (omega (arith, v .blocks-most, enough)) in
         let line-is = from .line-is cs os ∙ ap (λ (x : Ran). x .progress .line) whole in
         let running-is = from .running-is cs os ∙ ap (λ (x : Ran). x .running) whole in
         (λ i. endAt n (running-is i .cursor .answer) (running-is i .state) (line-is i))
@@ -60,8 +69,3 @@ module _ (s : Setting) (n : ℕ) (marked invalid : List ℕ) (greatest : ℕ) (c
     pub tables-end : s .geometry .logical + 2 ≤ count → (cs : List Cycle) (os : List ArrayOperation) → endAt n (r .cursor .answer) (r .state) m ≡ endOfRun n (tablesRun s marked invalid greatest (progress l Passed cs os))
     unfolding tablesRun tooFew
     tables-end h cs os = rw (← c, le-ltb count (s .geometry .logical + 2) h) (tables-are cs os)
-
--- the search starts on the chip
-pub last-small : (g : Geometry) (marked invalid : List ℕ) (greatest : ℕ) → Valid g → firstState g marked invalid greatest .last < g .blocks
-unfolding firstState
-last-small g marked invalid greatest v = omega (arith, v .blocks-least)

@@ -47,9 +47,9 @@ module _ (s : Setting) (d : Device) (n : ℕ) (st : State) (u : Update) (c : Cur
   pub change-left : m .left ≤ n
   change-left = omega (arith, run-left s (u .bytes) most (running c st) l m r run, ap (λ (x : Line). x .left) begins)
 
-  pub change-ends : Valid (s .geometry) → 549755813888 < most → endAt n (r .cursor .answer) (r .state) m ≡ changing s d n st u
-  change-ends v enough =
-      let whole = change-ran s v u st (progress (callLine d n) Passed [] []) most enough in
+  pub change-ends : Valid (s .geometry) → length (st .invalid) ≡ 512 → st .last < s .geometry .blocks → 524288 < most → endAt n (r .cursor .answer) (r .state) m ≡ changing s d n st u
+  change-ends v size last enough =
+      let whole = change-ran s v u st (progress (callLine d n) Passed [] []) most size last (omega (arith, v .blocks-most, enough)) in
       let from = subst (λ (x : Line). RanAs s (u .bytes) most (running (updateCursor u) st) x m r) begins (subst (λ (x : Cursor). RanAs s (u .bytes) most (running x st) l m r) start run) in
       let line-is = from .line-is [] [] ∙ ap (λ (x : Ran). x .progress .line) whole in
       let running-is = from .running-is [] [] ∙ ap (λ (x : Ran). x .running) whole in

@@ -1,6 +1,7 @@
 -- `format::fill_first` meets its contract. Assumes nothing.
+use lib.ListN.{length}
 use Prim.Native.Nat.{_<_}
-use mathlib.Core.Path.{sym, subst, _∙_}
+use mathlib.Core.Path.{_≡_, sym, subst, _∙_}
 use native.Mathlib.Nat.{zero-mul}
 use native.Mathlib.Omega.{arith}
 use denote.Ref.{now}
@@ -16,6 +17,9 @@ use Rattle.format.proofs.EndLaws.{few-end, tables-end, last-small}
 use borrow.Author.Needs.{needs}
 use Rattle.format.proofs.fill_first.Statement.{statement}
 use Rattle.format.proofs.fill_first.Tie as tie
+
+invalid-long : (s : tie.Start) → length (s .args .t9) ≡ 512
+invalid-long s = search needs
 
 count-permitted-requires : tie.Need-count-permitted-requires
 count-permitted-requires c κs = search needs
@@ -88,7 +92,7 @@ returns-2 c =
     let set = setting (s .args .g) (now (s .args .mask)) (now (s .args .fates)) in
     let l = line (s .args .from) (now (s .args .array)) (now (s .args .register)) (now (s .args .history)) in
     let r = at-run .run .result in
-    λ cs os. c .end2 .ensures _ _ _ ∙ tables-end set (s .args .allowed) (s .args .t8) (s .args .t9) (s .args .greatest) (at-count-permitted .count-permitted .result) (at-count-permitted .count-permitted .ensures) (s .pre .0 .is-valid) _ (at-first-state .first-state .ensures) _ (at-begin .begin .ensures) l _ (running (r .cursor) (r .state)) _ (at-run .run .ensures) (omega arith) (at-if1 .if1 .left) cs os
+    λ cs os. c .end2 .ensures _ _ _ ∙ tables-end set (s .args .allowed) (s .args .t8) (s .args .t9) (s .args .greatest) (at-count-permitted .count-permitted .result) (at-count-permitted .count-permitted .ensures) (s .pre .0 .is-valid) _ (at-first-state .first-state .ensures) _ (at-begin .begin .ensures) l _ (running (r .cursor) (r .state)) _ (at-run .run .ensures) (invalid-long s) (omega arith) (at-if1 .if1 .left) cs os
 
 pub fill-first-spec : {M : Type 1} → statement M
 fill-first-spec =

@@ -1,5 +1,6 @@
 -- `write::change` meets its contract. Assumes nothing.
-use mathlib.Core.Path.{sym, ap, subst, _∙_}
+use lib.ListN.{length}
+use mathlib.Core.Path.{_≡_, sym, ap, subst, _∙_}
 use native.Mathlib.Omega.{arith}
 use denote.Ref.{now}
 use Rattle.geometry.proofs.SizeLaws.{page-size-most}
@@ -15,6 +16,9 @@ use Rattle.write.proofs.EndLaws.{change-left, change-ends}
 use borrow.Author.Needs.{needs}
 use Rattle.write.proofs.change.Statement.{statement}
 use Rattle.write.proofs.change.Tie as tie
+
+invalid-long : (s : tie.Start) → length (s .args .state .invalid) ≡ 512
+invalid-long s = search needs
 
 begin-requires : tie.Need-begin-requires
 begin-requires c κs = search needs
@@ -80,7 +84,7 @@ returns c =
     let u = update (s .args .logical) (s .args .old) (s .args .first) (s .args .count) (now (s .args .bytes)) in
     let begins = ap (λ (x : Bus). line x (now (s .args .array)) (now (s .args .register)) (now (s .args .history))) (at-begin .begin .ensures) in
     let r = at-run .run .result in
-    c .end .ensures _ _ _ ∙ change-ends set d (s .args .allowed) (s .args .state) u _ (at-cursor .begin2 .ensures) _ _ begins (running (r .cursor) (r .state)) _ (at-run .run .ensures) (s .pre .0 .is-valid) (omega arith)
+    c .end .ensures _ _ _ ∙ change-ends set d (s .args .allowed) (s .args .state) u _ (at-cursor .begin2 .ensures) _ _ begins (running (r .cursor) (r .state)) _ (at-run .run .ensures) (s .pre .0 .is-valid) (invalid-long s) (s .pre .1 .0) (omega arith)
 
 pub change-spec : {M : Type 1} → statement M
 change-spec =
