@@ -16,16 +16,13 @@ use Rattle.cells.proofs.CellLaws.{getD-raised, bytes-drop, or-full}
 use Rattle.pages.specs.Layout.{whole}
 use Rattle.pages.specs.Over.{Over}
 use Rattle.copies.specs.Blocks.{blockIn, pageIn, markByte, isMarked}
-use Rattle.copies.specs.Pick.{at}
-use Rattle.copies.specs.Table.{lists}
-use Rattle.copies.specs.Current.{currentTable}
 use Rattle.fill.specs.Fill.{Copy, copyPage}
 use Rattle.damage.specs.Run.{Labelled}
 use Rattle.damage.proofs.PlaceLaws.{page-long}
 use Rattle.damage.proofs.CopyLaws.{no-mark, page-whole, raised-same, raised-unmarked}
 use Rattle.damage.proofs.CompleteLaws.{mark-bytes}
-use Rattle.recovery_stored.specs.Stored.{Left, Stored}
-use Rattle.recovery_stored.specs.After.{After}
+use Rattle.recovery_stored.specs.Stored.{Left}
+use Rattle.recovery_stored.specs.After.{After, Based}
 use Rattle.recovery_stored.proofs.PageLaws.{page-raised, left-raised, whole-kept}
 
 -- a partial erase leaves FFh as it was
@@ -44,13 +41,10 @@ module _ (g : Geometry) (v : Valid g) (row mask : List ℕ) (bytes : Bytes mask)
       no-mark g (raised row mask) (mark-raised 0 (omega (arith, v .pages-least)) (e .0)) (mark-raised 1 (omega (arith, v .pages-least)) (e .1))
 
 -- the old block, as it was or erased in part
-module _ (g : Geometry) (before after : List ℕ) (t b : ℕ) (mask : List ℕ) (s : Stored g before) (e : currentTable g before ≡ at t) (below : b < g .blocks) (clear : isMarked g (blockIn g before b) ≡ false)
-    (free : lists g (blockIn g before t) b ≡ false) (bytes : Bytes mask) (long : length after ≡ chipSize g) (others : (c : ℕ) → c < g .blocks → (c ≡ b → ⊥) → blockIn g after c ≡ blockIn g before c) where
+module _ (g : Geometry) (before after : List ℕ) (t b : ℕ) (mask : List ℕ) (s : Based g before t b) (bytes : Bytes mask) (long : length after ≡ chipSize g)
+    (others : (c : ℕ) → c < g .blocks → (c ≡ b → ⊥) → blockIn g after c ≡ blockIn g before c) where
   abbrev row : List ℕ
   row = blockIn g before b
-
-  page-left : (i : ℕ) → i < g .pages → Left g (pageIn g row i)
-  page-left i h = s .left t b i e below h clear free
 
   after-same : blockIn g after b ≡ row → After g before after b (λ i. pageIn g row i)
   after-same q =
@@ -58,8 +52,8 @@ module _ (g : Geometry) (before after : List ℕ) (t b : ℕ) (mask : List ℕ) 
         long = long;
         others = others;
         only = λ i h w. ap (λ (x : List ℕ). pageIn g x i) q;
-        left = λ i h. subst (λ (x : List ℕ). Left g (pageIn g x i)) (sym q) (page-left i h);
-        unmarked = ap (isMarked g) q ∙ clear;
+        left = λ i h. subst (λ (x : List ℕ). Left g (pageIn g x i)) (sym q) (s .left i h);
+        unmarked = ap (isMarked g) q ∙ s .unmarked;
       }
 
   after-raised : blockIn g after b ≡ raised row mask → After g before after b (λ i. pageIn g row i)
@@ -70,9 +64,9 @@ module _ (g : Geometry) (before after : List ℕ) (t b : ℕ) (mask : List ℕ) 
       record {
         long = long;
         others = others;
-        only = λ i h w. page i ∙ whole-kept g (pageIn g row i) (drop (i * pageSize g) mask) (page-left i h) (more i) (sym (ap (whole (g .main)) (page i)) ∙ w);
-        left = λ i h. subst (Left g) (sym (page i)) (left-raised g (pageIn g row i) (drop (i * pageSize g) mask) (page-left i h) (more i));
-        unmarked = ap (isMarked g) q ∙ unmarked-raised g (s .is-valid) row mask bytes (page-long g (s .is-valid) before (s .array-long) b below) clear;
+        only = λ i h w. page i ∙ whole-kept g (pageIn g row i) (drop (i * pageSize g) mask) (s .left i h) (more i) (sym (ap (whole (g .main)) (page i)) ∙ w);
+        left = λ i h. subst (Left g) (sym (page i)) (left-raised g (pageIn g row i) (drop (i * pageSize g) mask) (s .left i h) (more i));
+        unmarked = ap (isMarked g) q ∙ unmarked-raised g (s .is-valid) row mask bytes (page-long g (s .is-valid) before (s .array-long) b (s .below)) (s .unmarked);
       }
 
   pub after-old : (blockIn g after b ≡ row) ⊎ (blockIn g after b ≡ raised row mask) → After g before after b (λ i. pageIn g row i)

@@ -19,19 +19,11 @@ use Rattle.copies.proofs.PickLaws.{pick-is, picked-is, pick-fewer, pick-same}
 use Rattle.damage.proofs.CompleteLaws.{SamePages, complete-pages, table-complete, data-complete, copy-data, number-same, label-same, complete-same, table-same, data-same, copy-same}
 use Rattle.mount_laws.proofs.StateLaws.{Right, right-at, right-parts, mounts-by, clear-picked, picked-clear}
 use Rattle.recovery_stored.specs.Stored.{Left, Stored}
-use Rattle.recovery_stored.specs.After.{After, Below, Free, MarksSame, Calm}
-use Rattle.recovery_stored.proofs.StoredLaws.{same-at}
+use Rattle.recovery_stored.specs.After.{After, Based, Below, Free, MarksSame, Calm}
+use Rattle.recovery_stored.proofs.StoredLaws.{same-at, stored-based}
+use Rattle.recovery_stored.proofs.BaseLaws as base
+use Rattle.recovery_stored.proofs.BaseLaws.{pick-less, picked-best}
 use Rattle.recovery_stored.proofs.ApartLaws.{Apart, clash-apart, apart-clash}
-
--- fewer blocks pass, with the numbers they had, and the picked one still does
-pub pick-less : (test fewer : ℕ → Bool) (number count : ℕ → ℕ) (n : ℕ) → ((k : ℕ) → k < n → fewer k ≡ true → (test k ≡ true) × (count k ≡ number k))
-    → ((m : ℕ) → pick test number n ≡ at m → fewer m ≡ true) → pick fewer count n ≡ pick test number n
-pick-less test fewer number count n within still =
-    pick-same fewer fewer count number n (λ k h. refl) (λ k h t. within k h t .1) ∙ pick-fewer test fewer number n (λ k h t. within k h t .0) still
-
--- the picked block is the best
-pub picked-best : (test : ℕ → Bool) (number : ℕ → ℕ) (n m : ℕ) → pick test number n ≡ at m → Best test number n m
-picked-best test number n m e = subst (Picked test number n) e (pick-is test number n)
 
 module _ (g : Geometry) (before after : List ℕ) (t b : ℕ) (y : ℕ → List ℕ) (s : Stored g before) (e : currentTable g before ≡ at t) (f : Free g before t b) (r : After g before after b y) where
   abbrev old : ℕ → List ℕ
@@ -43,6 +35,9 @@ module _ (g : Geometry) (before after : List ℕ) (t b : ℕ) (y : ℕ → List 
   v : Valid g
   v = s .is-valid
 
+  based : Based g before t b
+  based = stored-based g before t b s e f
+
   found : Right g before t
   found = right-at g before t e (s .mounts)
 
@@ -50,51 +45,16 @@ module _ (g : Geometry) (before after : List ℕ) (t b : ℕ) (y : ℕ → List 
   apart = clash-apart g before t (found .unclashed)
 
   pub pages-kept : (c : ℕ) → c < g .blocks → (c ≡ b → ⊥) → SamePages g (new c) (old c)
-  pages-kept c h x = λ i k. ap (λ (z : List ℕ). pageIn g z i) (r .others c h x)
+  pages-kept = base.pages-kept g before after t b y based r
 
   pub table-row : new t ≡ old t
-  table-row = r .others t (found .below) (λ x. f .off-table (sym x))
+  table-row = base.table-row g before after t b y based r
 
   pub marks : MarksSame g before after
-  marks c h =
-      cases (eqb c b)
-      (λ q. let at-b = eqb-true c b q in ap (λ (k : ℕ). isMarked g (new k)) at-b ∙ r .unmarked ∙ sym (ap (λ (k : ℕ). isMarked g (old k)) at-b ∙ f .unmarked))
-      (λ q. ap (isMarked g) (r .others c h (eqb-false c b q)))
+  marks = base.marks g before after t b y based r
 
-  -- numbers: those of the other blocks, and of all where block b bears the next one
   lower : (n : ℕ) → Below g before n → (c : ℕ) → c < g .blocks → (c ≡ b → ⊥) → isComplete g (new c) ≡ true → numberAt g after c < n
-  lower n low c h x w =
-      let p = pages-kept c h x in
-      omega (arith, low c h (sym (complete-same g v (new c) (old c) p) ∙ w), number-same g v (new c) (old c) p)
-
-  module _ (n : ℕ) (low : Below g before n) (is-n : numberAt g after b ≡ n) where
-    pub below-new : Below g after (n + 1)
-    below-new c h w =
-        cases (eqb c b)
-        (λ q. omega (arith, ap (numberAt g after) (eqb-true c b q), is-n))
-        (λ q. omega (arith, lower n low c h (eqb-false c b q) w))
-
-    -- it is picked wherever it passes
-    pub best-new : (test : ℕ → Bool) → ((c : ℕ) → c < g .blocks → test c ≡ true → isComplete g (new c) ≡ true) → test b ≡ true → pick test (numberAt g after) (g .blocks) ≡ at b
-    best-new test complete passes =
-        sym (picked-is test (numberAt g after) (g .blocks) (at b)
-        (record {
-          below = f .below;
-          passes = passes;
-          greatest = λ c h w. omega (arith, below-new c h (complete c h w), is-n);
-          lowest = λ c h w.
-              let below : c < g .blocks = omega (arith, h, f .below) in
-              omega (arith, lower n low c below (λ q. omega (arith, q, h)) (complete c below w), is-n);
-        }))
-
-  -- the table, where no other block has become one
-  pub table-stays : ((c : ℕ) → c < g .blocks → isTable g (new c) ≡ true → SamePages g (new c) (old c)) → currentTable g after ≡ at t
-  unfolding currentTable
-  table-stays kept =
-      pick-less (λ c. isTable g (old c)) (λ c. isTable g (new c)) (numberAt g before) (numberAt g after) (g .blocks)
-      (λ c h u. (sym (table-same g v (new c) (old c) (kept c h u)) ∙ u, number-same g v (new c) (old c) (kept c h u)))
-      (λ m q. subst (λ (k : ℕ). isTable g (new k) ≡ true) (same-at (sym e ∙ q)) (ap (isTable g) table-row ∙ found .is-table))
-      ∙ e
+  lower = base.lower g before after t b y based r
 
   -- under a table that lists as many blocks or more
   module _ (u : ℕ) (more : (c : ℕ) → c < g .blocks → lists g (new u) c ≡ false → lists g (old t) c ≡ false) where
@@ -215,13 +175,10 @@ module _ (g : Geometry) (before after : List ℕ) (t b : ℕ) (y : ℕ → List 
   -- block b is complete only if its pages are as they were
   module _ (kept : isComplete g (new b) ≡ true → (i : ℕ) → i < g .pages → pageIn g (new b) i ≡ pageIn g (old b) i) where
     all-kept : (c : ℕ) → c < g .blocks → isComplete g (new c) ≡ true → SamePages g (new c) (old c)
-    all-kept c h w =
-        cases (eqb c b)
-        (λ q. subst (λ (k : ℕ). SamePages g (new k) (old k)) (sym (eqb-true c b q)) (kept (subst (λ (k : ℕ). isComplete g (new k) ≡ true) (eqb-true c b q) w)))
-        (λ q. pages-kept c h (eqb-false c b q))
+    all-kept = base.all-kept g before after t b y based r kept
 
     table-is : currentTable g after ≡ at t
-    table-is = table-stays (λ c h w. all-kept c h (table-complete g (new c) w))
+    table-is = base.table-kept g before after t b y based r kept
 
     copies-are : (l : ℕ) → l < g .logical → currentCopy g after t l ≡ currentCopy g before t l
     copies-are l low =
@@ -239,9 +196,7 @@ module _ (g : Geometry) (before after : List ℕ) (t b : ℕ) (y : ℕ → List 
         }
 
     pub below-calm : (n : ℕ) → Below g before n → Below g after n
-    below-calm n low c h w =
-        let p = all-kept c h w in
-        omega (arith, low c h (sym (complete-same g v (new c) (old c) p) ∙ w), number-same g v (new c) (old c) p)
+    below-calm = base.below-kept g before after t b y based r kept
 
 -- block b is as it was, or erased in part
 module _ (g : Geometry) (before after : List ℕ) (t b : ℕ) where

@@ -2,6 +2,7 @@ pub mod PageLaws
 pub mod StoredLaws
 pub mod AfterLaws
 pub mod ApartLaws
+pub mod BaseLaws
 pub mod CalmLaws
 pub mod RenewedLaws
 pub mod ListedLaws

@@ -18,7 +18,9 @@ use Rattle.state.specs.State.{numberEnd}
 use Rattle.damage.proofs.CompleteLaws.{complete-pages, table-complete, copy-data}
 use Rattle.format_laws.proofs.TableBlockLaws as held
 use Rattle.recovery_stored.specs.Stored.{Stored}
-use Rattle.recovery_stored.specs.After.{After, Below, Free, Listed}
+use Rattle.recovery_stored.specs.After.{After, Based, Below, Free, Listed}
+use Rattle.recovery_stored.proofs.StoredLaws.{stored-based}
+use Rattle.recovery_stored.proofs.BaseLaws as base
 use Rattle.recovery_stored.proofs.CalmLaws as calm
 
 module _ (g : Geometry) (before after : List ℕ) (t b n : ℕ) (s : Stored g before) (e : currentTable g before ≡ at t) (f : Free g before t b)
@@ -28,6 +30,9 @@ module _ (g : Geometry) (before after : List ℕ) (t b n : ℕ) (s : Stored g be
 
   abbrev row : List ℕ
   row = blockIn g after b
+
+  based : Based g before t b
+  based = stored-based g before t b s e f
 
   pages-are : (i : ℕ) → i < g .pages → pageIn g row i ≡ y i
   pages-are i h = r .only i h (complete-pages g row done .is-whole i h)
@@ -42,7 +47,7 @@ module _ (g : Geometry) (before after : List ℕ) (t b n : ℕ) (s : Stored g be
   bits-are = held.bitmap-back g (s .is-valid) invalid bits n left row pages-are
 
   pub table-below : Below g after (n + 1)
-  table-below = calm.below-new g before after t b y s e f r n low number-is
+  table-below = base.below-new g before after t b y based r n low number-is
 
   lists-are : (c : ℕ) → c < g .blocks → lists g row c ≡ bitAt invalid c
   lists-are = held.lists-invalid g (s .is-valid) invalid bits n left row pages-are
@@ -50,7 +55,7 @@ module _ (g : Geometry) (before after : List ℕ) (t b n : ℕ) (s : Stored g be
   table-is : currentTable g after ≡ at b
   unfolding currentTable
   table-is =
-      calm.best-new g before after t b y s e f r n low number-is (λ c. isTable g (blockIn g after c)) (λ c h w. table-complete g (blockIn g after c) w)
+      base.best-new g before after t b y based r n low number-is (λ c. isTable g (blockIn g after c)) (λ c h w. table-complete g (blockIn g after c) w)
       (held.is-table g (s .is-valid) invalid bits n left row pages-are)
 
   -- it lists what table t listed, no block with a mark, not its own, and none with a current copy
@@ -62,7 +67,7 @@ module _ (g : Geometry) (before after : List ℕ) (t b n : ℕ) (s : Stored g be
     copies-are : (l : ℕ) → l < g .logical → currentCopy g after b l ≡ currentCopy g before t l
     copies-are l h =
         calm.copy-stays g before after t b y s e f r b more l h
-        (λ c k w. calm.pages-kept g before after t b y s e f r c k (λ q. clash (subst (λ (z : ℕ). isData g (blockIn g after z) ≡ true) q (copy-data g l (blockIn g after c) w .0)) no-data))
+        (λ c k w. base.pages-kept g before after t b y based r c k (λ q. clash (subst (λ (z : ℕ). isData g (blockIn g after z) ≡ true) q (copy-data g l (blockIn g after c) w .0)) no-data))
         (λ c k q. lists-are c k ∙ clear l c h q)
 
     pub near-table : Listed g before after t b invalid

@@ -23,7 +23,9 @@ use Rattle.damage.specs.Run.{Labelled}
 use Rattle.damage.proofs.CopyLaws.{copy-label, copy-main}
 use Rattle.damage.proofs.CompleteLaws.{complete-pages, data-complete, copy-data}
 use Rattle.recovery_stored.specs.Stored.{Stored}
-use Rattle.recovery_stored.specs.After.{After, Below, Free, Renewed}
+use Rattle.recovery_stored.specs.After.{After, Based, Below, Free, Renewed}
+use Rattle.recovery_stored.proofs.StoredLaws.{stored-based}
+use Rattle.recovery_stored.proofs.BaseLaws as base
 use Rattle.recovery_stored.proofs.CalmLaws as calm
 
 data-no-table : isTableKind dataKind ≡ false
@@ -52,6 +54,9 @@ module _ (g : Geometry) (before after : List ℕ) (t b n logical : ℕ) (s : Sto
   v : Valid g
   v = s .is-valid
 
+  based : Based g before t b
+  based = stored-based g before t b s e f
+
   fits : Labelled (copy dataKind logical n)
   fits = data-label logical n (omega (arith, on-chip, v .logical-most, v .blocks-most)) left
 
@@ -78,17 +83,17 @@ module _ (g : Geometry) (before after : List ℕ) (t b n logical : ℕ) (s : Sto
 
   table-is : currentTable g after ≡ at t
   table-is =
-      calm.table-stays g before after t b y s e f r
-      (λ c h w. calm.pages-kept g before after t b y s e f r c h (λ q. clash (subst (λ (k : ℕ). isTable g (blockIn g after k) ≡ true) q w) no-table))
+      base.table-stays g before after t b y based r
+      (λ c h w. base.pages-kept g before after t b y based r c h (λ q. clash (subst (λ (k : ℕ). isTable g (blockIn g after k) ≡ true) q w) no-table))
 
   -- the copies of this logical block
   copy-is : currentCopy g after t logical ≡ at b
   unfolding currentCopy
   copy-is =
-      calm.best-new g before after t b y s e f r n low number-is
+      base.best-new g before after t b y based r n low number-is
       (λ c. cond (unlisted g after t c) (isCopyOf g logical (blockIn g after c)) false)
       (λ c h w. data-complete g (blockIn g after c) (copy-data g logical (blockIn g after c) (both (unlisted g after t c) (isCopyOf g logical (blockIn g after c)) w .1) .0))
-      (rw (calm.table-row g before after t b y s e f r, f .unlisted) is-copy)
+      (rw (base.table-row g before after t b y based r, f .unlisted) is-copy)
 
   -- and of the others
   not-this : (l c : ℕ) → (l ≡ logical → ⊥) → isCopyOf g l (blockIn g after c) ≡ true → c ≡ b → ⊥
@@ -98,7 +103,7 @@ module _ (g : Geometry) (before after : List ℕ) (t b n logical : ℕ) (s : Sto
   copies-are : (l : ℕ) → l < g .logical → (l ≡ logical → ⊥) → currentCopy g after t l ≡ currentCopy g before t l
   copies-are l h x =
       calm.copy-stays g before after t b y s e f r t (calm.lists-old g before after t b y s e f r) l h
-      (λ c k w. calm.pages-kept g before after t b y s e f r c k (not-this l c x w)) (calm.copy-free g before after t b y s e f r l)
+      (λ c k w. base.pages-kept g before after t b y based r c k (not-this l c x w)) (calm.copy-free g before after t b y s e f r l)
 
   pub near-data : Renewed g before after t logical b main
   unfolding current.pageOf
@@ -108,7 +113,7 @@ module _ (g : Geometry) (before after : List ℕ) (t b n logical : ℕ) (s : Sto
             (calm.apart-new g before after t b y s e f r t (calm.lists-old g before after t b y s e f r) n low number-is (λ d. omega (arith, ap (λ (z : Label). z .logical) first, on-chip)));
         marks = calm.marks g before after t b y s e f r;
         table-is = table-is;
-        table-same = calm.table-row g before after t b y s e f r;
+        table-same = base.table-row g before after t b y based r;
         copy-is = copy-is;
         copies = copies-are;
         reads-new = λ p h. ap (current.pageOf g after p) copy-is ∙ copy-main g v (copy dataKind logical n) fits main size bytes row pages-are p h;
@@ -116,4 +121,4 @@ module _ (g : Geometry) (before after : List ℕ) (t b n logical : ℕ) (s : Sto
       }
 
   pub data-below : Below g after (n + 1)
-  data-below = calm.below-new g before after t b y s e f r n low number-is
+  data-below = base.below-new g before after t b y based r n low number-is

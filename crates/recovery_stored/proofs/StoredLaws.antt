@@ -23,7 +23,9 @@ use Rattle.chip_array.specs.Device.{Setting}
 use Rattle.damage.proofs.FillLaws.{over-erased}
 use Rattle.damage.proofs.PlaceLaws.{page-long}
 use Rattle.format_laws.specs.Formatting.{Formatted, Acknowledged}
+use Rattle.copies.specs.Current.{currentTable}
 use Rattle.recovery_stored.specs.Stored.{Left, Stored}
+use Rattle.recovery_stored.specs.After.{Based, Free}
 
 pub same-at : {a b : ℕ} → at a ≡ at b → a ≡ b
 same-at e = cc
@@ -70,3 +72,16 @@ acknowledged-stored s r a =
     let v = z .chip-fits .is-valid in
     let m = mounted-facts (r .state) (s .geometry .blocks) (s .geometry .logical) (v .blocks-most) (a .counts-mounted) in
     formatted-stored (s .geometry) v (r .chip .array) (z .chip-fits .array-long) (r .state) (a .formatted) (m .table-below)
+
+-- a free block of a chip between two calls may be erased or filled
+pub stored-based : (g : Geometry) (array : List ℕ) (t b : ℕ) → Stored g array → currentTable g array ≡ at t → Free g array t b → Based g array t b
+stored-based g array t b s e f =
+    record {
+      is-valid = s .is-valid;
+      array-long = s .array-long;
+      table-is = e;
+      below = f .below;
+      unmarked = f .unmarked;
+      off-table = f .off-table;
+      left = λ i h. s .left t b i e (f .below) h (f .unmarked) (f .unlisted);
+    }

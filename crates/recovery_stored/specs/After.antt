@@ -5,6 +5,7 @@ use mathlib.Core.List.{List}
 use mathlib.Core.Path.{_≡_}
 use lib.ListN.{length}
 use Rattle.geometry.specs.declared.Geometry.{Geometry}
+use Rattle.geometry.specs.Limits.{Valid}
 use Rattle.geometry.specs.Sizes.{chipSize}
 use Rattle.bitmaps.specs.Bitmap.{bitAt}
 use Rattle.copies.specs.Blocks.{blockIn, pageIn, wholeIn, isMarked, isComplete}
@@ -32,6 +33,17 @@ pub record Free (g : Geometry) (array : List ℕ) (t b : ℕ) : Type 0 where
   pub unlisted : lists g (blockIn g array t) b ≡ false
   pub off-table : b ≡ t → ⊥
   pub off-copies : (l : ℕ) → l < g .logical → currentCopy g array t l ≡ at b → ⊥
+
+-- what erases and fills ask of a block b while table t is current: it is on the chip, unmarked and not the table's, and its pages are
+-- ones that this store can leave
+pub record Based (g : Geometry) (array : List ℕ) (t b : ℕ) : Type 0 where
+  pub is-valid : Valid g
+  pub array-long : length array ≡ chipSize g
+  pub table-is : currentTable g array ≡ at t
+  pub below : b < g .blocks
+  pub unmarked : isMarked g (blockIn g array b) ≡ false
+  pub off-table : b ≡ t → ⊥
+  pub left : (i : ℕ) → i < g .pages → Left g (pageIn g (blockIn g array b) i)
 
 -- marks stay
 abbrev pub MarksSame : Geometry → List ℕ → List ℕ → Type 0

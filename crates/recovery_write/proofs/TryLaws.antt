@@ -35,6 +35,7 @@ use Rattle.damage.proofs.TouchLaws.{fill-touches}
 use Rattle.damage.proofs.EachLaws.{each-map}
 use Rattle.recovery_stored.specs.Stored.{Stored}
 use Rattle.recovery_stored.specs.After.{After, Below, Free, Calm}
+use Rattle.recovery_stored.proofs.StoredLaws.{stored-based}
 use Rattle.recovery_stored.proofs.AfterLaws.{after-old, after-new}
 use Rattle.recovery_stored.proofs.CalmLaws.{old-calm, new-calm, old-below, new-below}
 use Rattle.recovery.specs.Recovery.{SparesBad, SparedBy}
@@ -82,7 +83,7 @@ module _ (s : Setting) (mask-bytes : Bytes (s .mask)) (p : Progress)
     new-after over = after-new g v c labelled main main-long main-bytes before x b long others over
 
     old-after : (blockIn g x b ≡ blockIn g before b) ⊎ (blockIn g x b ≡ raised (blockIn g before b) (s .mask)) → After g before x b (λ i. pageIn g (blockIn g before b) i)
-    old-after = after-old g before x t b (s .mask) stored table-is (free .below) (free .unmarked) (free .unlisted) mask-bytes long others
+    old-after = after-old g before x t b (s .mask) (stored-based g before t b stored table-is free) mask-bytes long others
 
     -- a page that is FFh keeps the block from being complete
     incomplete : (i : ℕ) → i < g .pages → pageIn g (blockIn g x b) i ≡ replicate (pageSize g) 255 → isComplete g (blockIn g x b) ≡ false
