@@ -5,7 +5,8 @@ use mathlib.Core.List.{List, []}
 use mathlib.Core.Path.{_≡_, refl, sym, ap, _∙_}
 use native.Mathlib.Nat.{add-zero}
 use native.Mathlib.Omega.{arith}
-use Rattle.chip_array.specs.Device.{Setting}
+use borrow.Table.Steps.{cases}
+use Rattle.chip_array.specs.Device.{Device, Setting}
 use Rattle.chip.specs.Chip.{Cycle}
 use Rattle.bus.specs.Line.{Line}
 use Rattle.bus_polling.specs.Outcomes.{isPassed}
@@ -14,7 +15,8 @@ use Rattle.bus_polling.specs.declared.Outcome.the-variants.{Passed}
 use Rattle.operations.specs.Trace.{ArrayOperation}
 use Rattle.state.specs.State.{blank}
 use Rattle.state.specs.declared.State.{State}
-use Rattle.request.specs.Call.{Result, endAt, stopAnswer}
+use Rattle.request.specs.Call.{Result, sizedFor, endAt, stopAnswer, resultOf}
+use Rattle.request.specs.Start.{started}
 use Rattle.progress.specs.Progress.{Progress, progress}
 use Rattle.progress.proofs.CountLaws.{allowance-kept}
 use Rattle.bus_polling.proofs.OutcomeLaws.{is-passed}
@@ -26,7 +28,7 @@ use Rattle.format_erase.proofs.KeepLaws.{round-keeps}
 use Rattle.format_marks.specs.Marks.{marksRead, MarksFound}
 use Rattle.format_erase.specs.declared.Numbers.{Numbers}
 use Rattle.format_erase.specs.Round.{erasedTo, RoundDone}
-use Rattle.format.specs.Format.{endOfRun, stopped, tablesRun, roundRun, marksRun}
+use Rattle.format.specs.Format.{endOfRun, stopped, tablesRun, roundRun, marksRun, formatRequest, formatting}
 
 pub marks-left : (s : Setting) (l m : Line) (o : Outcome) (marked : List ℕ) → MarksFound s l m o marked → m .left ≤ l .left
 marks-left s l m o marked d =
@@ -95,3 +97,8 @@ unfolding marksRun marksRead
 format-stops s n p f =
     let same : marksRead s (s .geometry .blocks) p ≡ p = sym (ap (λ (x : ℕ). marksRead s x p) (add-zero (s .geometry .blocks))) ∙ marks-stopped s 0 p f (s .geometry .blocks) in
     ap (λ (q : Progress). endOfRun n (cond (isPassed (q .outcome)) (roundRun s (marksTo (s .geometry) (q .line .chip .array) (s .geometry .blocks)) q) (stopped q))) same ∙ rw f
+
+-- the request, told by how every request that resets the chip begins
+pub format-started : (s : Setting) (d : Device) (n : ℕ) (state : State) → started s d n state (λ p. endOfRun n (marksRun s p)) ≡ formatting s d n state
+unfolding resultOf formatRequest
+format-started s d n state = cases (sizedFor s d) (λ t. rw t) (λ f. rw f)

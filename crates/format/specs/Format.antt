@@ -13,7 +13,7 @@ use Rattle.scan_found.specs.Found.{marksTo}
 use Rattle.state_choose.specs.Choose.{countPermitted}
 use Rattle.state.specs.State.{blank, none, mountedWith, numbersLeft}
 use Rattle.state.specs.declared.State.{State}
-use Rattle.request.specs.Call.{Result, result, sizedFor, callLine, stopAnswer, endAt}
+use Rattle.request.specs.Call.{Result, result, Performed, resultOf, unsent, performed, sizedFor, callLine, stopAnswer, endAt}
 use Rattle.fill_tables.specs.Tables.{Tabled, tabled, tablesFilled}
 use Rattle.format_marks.specs.Marks.{marksRead}
 use Rattle.format_erase.specs.Round.{erasedTo}
@@ -62,5 +62,9 @@ abbrev pub endOfRun : ℕ → Tabled → Result
 endOfRun n t = endAt n (t .answer) (t .state) (t .progress .line)
 
 -- the request
-unfoldable pub formatting : Setting → Device → ℕ → State → Result
-formatting s d n state = cond (sizedFor s d) (endOfRun n (formatRun s d n)) (result 1 state d 0)
+unfoldable pub formatRequest : Setting → Device → ℕ → State → Performed Result
+formatRequest s d n state =
+    cond (sizedFor s d) (performed (endOfRun n (formatRun s d n)) (formatRun s d n .progress)) (unsent (result 1 state d 0))
+
+abbrev pub formatting : Setting → Device → ℕ → State → Result
+formatting s d n state = resultOf (formatRequest s d n state)

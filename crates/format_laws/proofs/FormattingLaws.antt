@@ -20,7 +20,7 @@ use Rattle.bus_polling.specs.declared.Outcome.the-variants.{Passed}
 use Rattle.state.specs.State.{mounted}
 use Rattle.state.specs.declared.State.{State}
 use Rattle.scan_found.specs.Found.{marksTo}
-use Rattle.request.specs.Call.{sizedFor, callLine}
+use Rattle.request.specs.Call.{sizedFor, callLine, resultOf}
 use Rattle.request.proofs.CallLaws.{sizes, called-sized}
 use Rattle.progress.specs.Progress.{Progress, progress, resetOn}
 use Rattle.progress.specs.Kept.{Kept}
@@ -28,7 +28,7 @@ use Rattle.progress.proofs.CountLaws.{allowance-kept}
 use Rattle.format_marks.specs.Marks.{marksRead}
 use Rattle.format_erase.specs.Round.{erasedTo}
 use Rattle.fill_tables.proofs.KeepLaws.{tables-keep}
-use Rattle.format.specs.Format.{tooFew, tablesRun, roundRun, marksRun, formatRun, endOfRun, formatting}
+use Rattle.format.specs.Format.{tooFew, tablesRun, roundRun, marksRun, formatRun, endOfRun, formatRequest, formatting}
 use Rattle.format_marks.proofs.KeepLaws.{marks-keep}
 use Rattle.format_erase.proofs.KeepLaws.{round-keeps}
 use Rattle.damage.specs.Replay.{Replayed}
@@ -108,12 +108,12 @@ module _ (s : Setting) (d : Device) (n : ℕ) (mask-bytes : Bytes (s .mask)) (t 
       }
 
   pub format-ends : (state : State) → Formatting s d n (formatting s d n state)
-  unfolding formatting
+  unfolding resultOf formatRequest
   format-ends state = subst (Formatting s d n) {x = endOfRun n (formatRun s d n)} (rw t) run-ends
 
 -- sizes that do not go together
 pub format-refused : (s : Setting) (d : Device) (n : ℕ) (state : State) → sizedFor s d ≡ false → formatting s d n state .answer ≡ 1
-unfolding formatting
+unfolding resultOf formatRequest
 format-refused s d n state f = rw f
 
 -- of any chip, from any state, with any fates, mask and allowance
@@ -199,7 +199,7 @@ module _ (s : Setting) (d : Device) (n : ℕ) (mask-bytes : Bytes (s .mask)) (t 
 -- sends, it is acknowledged
 pub format-done : (s : Setting) (d : Device) (n : ℕ) (state : State) → Bytes (s .mask) → sizedFor s d ≡ true → (Slow (s .fates) → ⊥) → (Failing (s .fates) → ⊥)
     → s .geometry .logical + 2 ≤ unfailed (s .geometry) (d .array) [] (s .geometry .blocks) → formatMost (s .geometry) < n → formatting s d n state .answer ≡ 0
-unfolding formatting
+unfolding resultOf formatRequest
 format-done s d n state mask-bytes t fast passing enough h =
     let f = run-ends s d n mask-bytes t in
     rw t

@@ -21,7 +21,8 @@ use Rattle.parameters.proofs.ToldLaws.{Tells, told-so}
 use Rattle.parameters.proofs.ToldLaws.Tells.{tells-sizes, breaks-limit, has-none}
 use Rattle.state.specs.State.{blank}
 use Rattle.state.specs.declared.State.{State}
-use Rattle.identify.specs.Identify.{Identified, noSizes, unknown, identifyRun, identifyEnd, identifying}
+use Rattle.request.specs.Call.{resultOf}
+use Rattle.identify.specs.Identify.{Identified, noSizes, unknown, identifyRun, identifyEnd, identifyRequest, identifying}
 use Rattle.identify.specs.Ends.{busyReads, identifyTotal, IdentifyAnswer}
 use Rattle.identify.specs.Ends.IdentifyAnswer.{is-done, is-geometry, is-silent, is-cut, is-untold}
 use Rattle.identify.proofs.EndLaws.{run-ends, run-ready, identify-ends}
@@ -38,11 +39,11 @@ module _ (mask fates : List ℕ) (d : Device) (n : ℕ) (state : State) (page : 
     tells : r .returned .answer ≡ told page logical .answer → r .returned .state ≡ state → r .sizes ≡ told page logical .sizes → r .returned .chip .interface .phase ≤ outputPhase → Ends
 
   same-chip : eqb (length page) 768 ≡ false → r .returned .chip ≡ d
-  unfolding identifying
+  unfolding resultOf identifyRequest
   same-chip f = rw f
 
   ready : length page ≡ 768 → isPassed (identifyRun (setting unknown mask fates) d n page .outcome) ≡ true → r .returned .chip .interface .phase ≤ outputPhase
-  unfolding identifying identifyEnd
+  unfolding resultOf identifyRequest identifyEnd
   ready h t = rw (eq-eqb (length page) 768 h, t) (omega (arith, run-ready (setting unknown mask fates) d n page h t))
 
   pub identify-so : Ends

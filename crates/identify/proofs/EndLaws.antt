@@ -25,9 +25,9 @@ use Rattle.parameter_read.proofs.ParameterLaws.{parameters-end, parameters-lega
 use Rattle.parameters.specs.Page.{told}
 use Rattle.state.specs.State.{blank}
 use Rattle.state.specs.declared.State.{State}
-use Rattle.request.specs.Call.{callLine, stopAnswer, endAt}
+use Rattle.request.specs.Call.{callLine, stopAnswer, endAt, resultOf}
 use Rattle.request.specs.Start.{startLine}
-use Rattle.identify.specs.Identify.{Identified, identified, noSizes, unknown, parametersOn, identifyRun, identifyEnd, identifying}
+use Rattle.identify.specs.Identify.{Identified, identified, noSizes, unknown, parametersOn, identifyRun, identifyEnd, identifyRequest, identifying}
 use Rattle.identify.specs.Ends.{busyReads, identifyTotal, identifyOutcome, byEnd, EndsSo}
 use Rattle.identify.proofs.FetchLaws.{start-tells}
 
@@ -149,7 +149,7 @@ module _ (mask fates : List ℕ) (d : Device) (n : ℕ) (state : State) (page : 
 
   -- a page of another length: nothing is sent, and nothing changes
   unfit : eqb (length page) 768 ≡ false → EndsSo fates d n state page logical r
-  unfolding identifying
+  unfolding resultOf identifyRequest
   unfit f =
       record { answer-is = rw f; state-is = rw f; sizes-are = rw f; sent-is = rw f; same-array = rw f; same-history = rw f }
 
@@ -161,7 +161,7 @@ module _ (mask fates : List ℕ) (d : Device) (n : ℕ) (state : State) (page : 
     e = run-ends s d n page h
 
     is-run : r ≡ identifyEnd n state page logical run-of
-    unfolding identifying
+    unfolding resultOf identifyRequest
     is-run = rw (eq-eqb (length page) 768 h)
 
     -- by the outcome of the run

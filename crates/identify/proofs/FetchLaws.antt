@@ -26,10 +26,10 @@ use Rattle.parameters.specs.declared.Told.{Told}
 use Rattle.parameters.specs.Page.{told}
 use Rattle.state.specs.State.{blank}
 use Rattle.state.specs.declared.State.{State}
-use Rattle.request.specs.Call.{callLine, stopAnswer, endAt}
+use Rattle.request.specs.Call.{callLine, stopAnswer, endAt, resultOf}
 use Rattle.request.specs.Start.{startLine}
 use Rattle.request.proofs.ResetLaws.{reset-enough}
-use Rattle.identify.specs.Identify.{identified, noSizes, unknown, parametersOn, identifyRun, identifyEnd, identifying}
+use Rattle.identify.specs.Identify.{identified, noSizes, unknown, parametersOn, identifyRun, identifyEnd, identifyRequest, identifying}
 
 -- the same cycles, told by other names of the setting and of the number of bytes
 module _ (s : Setting) (m : Line) (page : List ℕ) {z : Setting} {k : ℕ} (e : z ≡ s) (h : k ≡ 768) where
@@ -82,11 +82,11 @@ module _ (s : Setting) (d : Device) (n : ℕ) (page : List ℕ) where
 -- the end of a call whose page has the right length
 module _ (mask fates : List ℕ) (d : Device) (n : ℕ) (state : State) (page : List ℕ) (logical : ℕ) (h : length page ≡ 768) (l : Line) (o : Outcome) (e : l ≡ identifyRun (setting unknown mask fates) d n page .line) (q : o ≡ identifyRun (setting unknown mask fates) d n page .outcome) where
   pub ends-stopped : isPassed o ≡ false → (a : ℕ) (st : State) (z : Sizes) → a ≡ stopAnswer o → st ≡ blank 2 → z ≡ noSizes → identified (endAt n a st l) z ≡ identifying mask fates d n state page logical
-  unfolding identifying identifyEnd
+  unfolding resultOf identifyRequest identifyEnd
   ends-stopped f a st z u v w =
       (λ i. identified (endAt n ((u ∙ ap stopAnswer q) i) (v i) (e i)) (w i)) ∙ rw (eq-eqb (length page) 768 h, ap isPassed (sym q) ∙ f)
 
   pub ends-told : isPassed o ≡ true → (t : Told) → t ≡ told page logical → identified (endAt n (t .answer) state l) (t .sizes) ≡ identifying mask fates d n state page logical
-  unfolding identifying identifyEnd
+  unfolding resultOf identifyRequest identifyEnd
   ends-told u t v =
       (λ i. identified (endAt n (v i .answer) state (e i)) (v i .sizes)) ∙ rw (eq-eqb (length page) 768 h, ap isPassed (sym q) ∙ u)

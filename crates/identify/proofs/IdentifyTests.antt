@@ -12,8 +12,8 @@ use Rattle.bus_polling.specs.Outcomes.{isPassed, isSilent, isCut}
 use Rattle.parameter_read.specs.Cycles.{parameterCycles, parameterOutcome}
 use Rattle.progress.specs.Progress.{resetOn}
 use Rattle.state.specs.State.{blank}
-use Rattle.request.specs.Call.{stopAnswer}
-use Rattle.identify.specs.Identify.{Identified, parametersOn, identifyEnd, identifying}
+use Rattle.request.specs.Call.{stopAnswer, resultOf}
+use Rattle.identify.specs.Identify.{Identified, parametersOn, identifyEnd, identifyRequest, identifying}
 use Rattle.identify.specs.Ends.{identifyTotal}
 
 -- never busy; busy for as long as it is waited for; longer
@@ -27,14 +27,14 @@ asked long allowed = identifying [] [] (device poweredOn [] [] []) allowed (blan
 
 -- a page that is one byte too short: 1, no cycle, and the state as it was
 short : (asked 767 1000 .returned .answer ≡ 1) × (asked 767 1000 .returned .sent ≡ 0) × (asked 767 1000 .returned .state ≡ blank 0)
-unfolding identifying
+unfolding resultOf identifyRequest
 short = (refl, refl, refl)
 
 -- cut within the reset, and after ECh: 11, all cycles allowed sent, and the state stopped
 cut-early : (asked 768 2 .returned .answer ≡ 11) × (asked 768 2 .returned .sent ≡ 2) × (asked 768 2 .returned .state ≡ blank 2)
-unfolding identifying identifyEnd parametersOn resetOn endedAs isPassed isSilent isCut stopAnswer sendAll send mayGo cutAfter exec commanded isConfirm plainCommand statusMode
+unfolding resultOf identifyRequest identifyEnd parametersOn resetOn endedAs isPassed isSilent isCut stopAnswer sendAll send mayGo cutAfter exec commanded isConfirm plainCommand statusMode
 cut-early = (refl, refl, refl)
 
 cut-later : (asked 768 4 .returned .answer ≡ 11) × (asked 768 4 .returned .sent ≡ 4) × (asked 768 4 .returned .state ≡ blank 2)
-unfolding identifying identifyEnd parametersOn resetOn endedAs outcomeOf isPassed isSilent isCut stopAnswer sendAll send mayGo cutAfter exec commanded isConfirm plainCommand begun statusMode parameterAddressed statusRead finished polls waiting parameterCycles parameterOutcome
+unfolding resultOf identifyRequest identifyEnd parametersOn resetOn endedAs outcomeOf isPassed isSilent isCut stopAnswer sendAll send mayGo cutAfter exec commanded isConfirm plainCommand begun statusMode parameterAddressed statusRead finished polls waiting parameterCycles parameterOutcome
 cut-later = (refl, refl, refl)

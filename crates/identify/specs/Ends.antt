@@ -7,7 +7,6 @@ use lib.Dec.{eqb, ltb}
 use lib.ListN.{length}
 use Rattle.chip_interface.specs.Interface.{fateWord, busyOf}
 use Rattle.chip_array.specs.Device.{Device, setting}
-use Rattle.chip.specs.Chip.{Cycle}
 use Rattle.bus.specs.Line.{run, Legal}
 use Rattle.chip_laws.specs.Lengths.{SameLengths}
 use Rattle.bus_polling.specs.declared.Outcome.{Outcome}
@@ -16,8 +15,8 @@ use Rattle.operations.specs.Ends.{pollsFor}
 use Rattle.parameters.specs.Page.{told}
 use Rattle.state.specs.State.{blank}
 use Rattle.state.specs.declared.State.{State}
-use Rattle.request.specs.Call.{callLine}
-use Rattle.identify.specs.Identify.{Identified, noSizes, unknown, parameterBytes, identifyRun}
+use Rattle.request.specs.Call.{Performed, resultOf, sentIn, callLine}
+use Rattle.identify.specs.Identify.{Identified, noSizes, unknown, parameterBytes}
 
 -- status reads that the first fate word answers busy
 abbrev pub busyReads : List ℕ → ℕ
@@ -45,18 +44,14 @@ pub record EndsSo (fates : List ℕ) (d : Device) (n : ℕ) (state : State) (pag
   pub same-array : r .returned .chip .array ≡ d .array
   pub same-history : r .returned .chip .history ≡ d .history
 
--- the cycles that it sends, none where the page has another length
-unfoldable pub identifyCycles : List ℕ → List ℕ → Device → ℕ → List ℕ → List Cycle
-identifyCycles mask fates d n page =
-    cond (eqb (length page) parameterBytes) (identifyRun (setting unknown mask fates) d n page .cycles) []
-
--- each is legal where it is sent, all of them lead to the chip that is left, and they are counted; array, register and history are
--- as long as they were
-pub record SentSo (mask fates : List ℕ) (d : Device) (n : ℕ) (page : List ℕ) (r : Identified) : Type 0 where
-  pub each-legal : Legal (setting unknown mask fates) (callLine d n .chip) (identifyCycles mask fates d n page)
-  pub leads : length page ≡ parameterBytes → run (setting unknown mask fates) (callLine d n .chip) (identifyCycles mask fates d n page) ≡ r .returned .chip
-  pub sent-is : r .returned .sent ≡ length (identifyCycles mask fates d n page)
-  pub same-lengths : SameLengths d (r .returned .chip)
+-- its cycles, none where the page has another length: each is legal where it is sent, all of them lead to the chip that is left, and
+-- they are counted; array, register and history are as long as they were
+pub record SentSo (mask fates : List ℕ) (d : Device) (n : ℕ) (page : List ℕ) (r : Performed Identified) : Type 0 where
+  pub each-legal : Legal (setting unknown mask fates) (callLine d n .chip) (sentIn r)
+  pub leads : length page ≡ parameterBytes → run (setting unknown mask fates) (callLine d n .chip) (sentIn r) ≡ resultOf r .returned .chip
+  pub none-sent : (length page ≡ parameterBytes → ⊥) → (r .cycles ≡ []) × (resultOf r .returned .chip ≡ d)
+  pub sent-is : resultOf r .returned .sent ≡ length (sentIn r)
+  pub same-lengths : SameLengths d (resultOf r .returned .chip)
 
 -- the answers that there are
 pub data IdentifyAnswer : ℕ → Type 0 where

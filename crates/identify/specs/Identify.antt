@@ -15,7 +15,7 @@ use Rattle.parameters.specs.declared.Sizes.{Sizes}
 use Rattle.parameters.specs.Page.{told}
 use Rattle.state.specs.State.{blank}
 use Rattle.state.specs.declared.State.{State}
-use Rattle.request.specs.Call.{Result, result, callLine, stopAnswer, endAt}
+use Rattle.request.specs.Call.{Result, result, Performed, resultOf, unsent, performed, callLine, stopAnswer, endAt}
 
 -- what the call hands back as every request does, and the sizes, four zeros unless it is done
 pub record Identified : Type 0 where
@@ -59,8 +59,11 @@ identifyEnd n state page logical p =
     (identified (endAt n (stopAnswer (p .outcome)) (blank 2) (p .line)) noSizes)
 
 -- 1 at once where the page has another length
-unfoldable pub identifying : List ℕ → List ℕ → Device → ℕ → State → List ℕ → ℕ → Identified
-identifying mask fates d n state page logical =
+unfoldable pub identifyRequest : List ℕ → List ℕ → Device → ℕ → State → List ℕ → ℕ → Performed Identified
+identifyRequest mask fates d n state page logical =
     cond (eqb (length page) parameterBytes)
-    (identifyEnd n state page logical (identifyRun (setting unknown mask fates) d n page))
-    (identified (result 1 state d 0) noSizes)
+    (performed (identifyEnd n state page logical (identifyRun (setting unknown mask fates) d n page)) (identifyRun (setting unknown mask fates) d n page))
+    (unsent (identified (result 1 state d 0) noSizes))
+
+abbrev pub identifying : List ℕ → List ℕ → Device → ℕ → State → List ℕ → ℕ → Identified
+identifying mask fates d n state page logical = resultOf (identifyRequest mask fates d n state page logical)

@@ -5,12 +5,13 @@ use mathlib.Core.List.{List, []}
 use mathlib.Core.Path.{_≡_, refl, sym, ap, ap₂, _∙_}
 use native.Mathlib.Nat.{add-zero}
 use native.Mathlib.Omega.{arith}
+use borrow.Table.Steps.{cases}
 use borrow.Author.Tests.{eq-eqb, ne-eqb}
 use lib.ListN.{length, replicate, length-replicate}
 use Rattle.geometry.specs.declared.Geometry.{Geometry}
 use Rattle.geometry.specs.Limits.{Valid}
 use Rattle.geometry.specs.Sizes.{chipSize}
-use Rattle.chip_array.specs.Device.{Setting}
+use Rattle.chip_array.specs.Device.{Device, Setting}
 use Rattle.bus.specs.Line.{Line}
 use Rattle.bus_polling.specs.Outcomes.{isPassed}
 use Rattle.bus_polling.specs.declared.Outcome.{Outcome}
@@ -27,9 +28,10 @@ use Rattle.scan.proofs.ChipLaws.{blocks-stopped}
 use Rattle.request.proofs.StartLaws.{Stops}
 use Rattle.scan.proofs.KeepLaws.{blocks-keep}
 use Rattle.progress.proofs.CountLaws.{allowance-kept}
-use Rattle.request.specs.Call.{endAt, stopAnswer}
+use Rattle.request.specs.Call.{sizedFor, endAt, stopAnswer, resultOf}
+use Rattle.request.specs.Start.{started}
 use Rattle.mount_judge.specs.Judging.{judgedBy, stateOf}
-use Rattle.mount.specs.Mount.{mountEnd, stateAfter, mountedState}
+use Rattle.mount.specs.Mount.{mountEnd, stateAfter, mountedState, mountRequest, mounting}
 use Rattle.mount.proofs.MountLaws.{judge-is, state-is}
 
 -- a scan leaves no more cycles than it found
@@ -99,3 +101,8 @@ unfolding mountEnd blocksRead
 mount-stops s n p f =
     let same : blocksRead s (s .geometry .blocks) p ≡ p = sym (ap (λ (x : ℕ). blocksRead s x p) (add-zero (s .geometry .blocks))) ∙ blocks-stopped s 0 p f (s .geometry .blocks) in
     ap (mountEnd s n) same ∙ rw f
+
+-- the request, told by how every request that resets the chip begins
+pub mount-started : (s : Setting) (d : Device) (n : ℕ) (state : State) → started s d n state (λ p. mountEnd s n (blocksRead s (s .geometry .blocks) p)) ≡ mounting s d n state
+unfolding resultOf mountRequest
+mount-started s d n state = cases (sizedFor s d) (λ t. rw t) (λ f. rw f)

@@ -16,7 +16,7 @@ use Rattle.scan_found.specs.Contents.{mapOf}
 use Rattle.scan_found.specs.Found.{bitsAt, marksTo}
 use Rattle.progress.specs.Progress.{Progress, progress, resetOn}
 use Rattle.scan.specs.Scan.{blocksRead}
-use Rattle.request.specs.Call.{Result, result, sizedFor, callLine, stopAnswer, endAt}
+use Rattle.request.specs.Call.{Result, result, Performed, resultOf, unsent, performed, sizedFor, callLine, stopAnswer, endAt}
 
 -- the block picked, 0 for none
 unfoldable pub blockOf : Pick → ℕ
@@ -46,5 +46,9 @@ mountEnd s n p =
     (endAt n (stopAnswer (p .outcome)) (blank 2) (p .line))
 
 -- the request: answer 1 where the sizes do not go together, with no cycle and nothing changed
-unfoldable pub mounting : Setting → Device → ℕ → State → Result
-mounting s d n state = cond (sizedFor s d) (mountEnd s n (mountRun s (callLine d n))) (result 1 state d 0)
+unfoldable pub mountRequest : Setting → Device → ℕ → State → Performed Result
+mountRequest s d n state =
+    cond (sizedFor s d) (performed (mountEnd s n (mountRun s (callLine d n))) (mountRun s (callLine d n))) (unsent (result 1 state d 0))
+
+abbrev pub mounting : Setting → Device → ℕ → State → Result
+mounting s d n state = resultOf (mountRequest s d n state)

@@ -24,7 +24,7 @@ use Rattle.copies.specs.Pick.{Pick, nothing, at}
 use Rattle.copies.specs.Table.{lists, rightTable}
 use Rattle.state.specs.State.{blank, mounted}
 use Rattle.state.specs.declared.State.{State}
-use Rattle.request.specs.Call.{sizedFor, callLine, stopAnswer, endAt}
+use Rattle.request.specs.Call.{sizedFor, callLine, stopAnswer, endAt, resultOf}
 use Rattle.request.proofs.CallLaws.{sizes, stop-answer, stop-cut, stop-silent}
 use Rattle.progress.specs.Progress.{Progress, progress, resetOn}
 use Rattle.bus.specs.Line.{Line}
@@ -32,7 +32,7 @@ use Rattle.progress.specs.Kept.{Kept}
 use Rattle.progress.proofs.CountLaws.{allowance-kept}
 use Rattle.scan.proofs.KeepLaws.{blocks-keep}
 use Rattle.bus_polling.proofs.OutcomeLaws.{passed-answered}
-use Rattle.mount.specs.Mount.{stateAfter, mountRun, mountEnd, mounting}
+use Rattle.mount.specs.Mount.{stateAfter, mountRun, mountEnd, mountRequest, mounting}
 use Rattle.damage.specs.Replay.{Replayed}
 use Rattle.damage.proofs.ReplayLaws.{leads-first, leads-kept, replayed, lengths-sized}
 use Rattle.damage.specs.Run.{Unchanged, readMost, Slow}
@@ -154,7 +154,7 @@ module _ (s : Setting) (d : Device) (n : ℕ) (t : sizedFor s d ≡ true) where
       }
 
   pub mount-ends : (state : State) → Mounting s d n (mounting s d n state)
-  unfolding mounting mountEnd
+  unfolding resultOf mountRequest mountEnd
   mount-ends state =
       cases (isPassed (run .outcome))
       (λ y. subst (Mounting s d n) (rw (t, y)) (scanned y))
@@ -170,7 +170,7 @@ mount-fits g v =
 
 -- sizes that do not go together
 pub mount-refused : (s : Setting) (d : Device) (n : ℕ) (state : State) → sizedFor s d ≡ false → mounting s d n state .answer ≡ 1
-unfolding mounting
+unfolding resultOf mountRequest
 mount-refused s d n state f = rw f
 
 -- the largest allowance cuts nothing

@@ -10,16 +10,16 @@ use Rattle.chip_array.specs.Device.{Device, Setting}
 use Rattle.state.specs.State.{none}
 use Rattle.state.specs.declared.State.{State}
 use Rattle.state.proofs.MountedLaws.{mounted-facts}
-use Rattle.request.specs.Call.{Result, result, sizedFor}
+use Rattle.request.specs.Call.{Result, result, resultOf, sizedFor}
 use Rattle.request.proofs.CallLaws.{sizes}
 use Rattle.request_refusals.specs.Refusals.{refusalOf}
 use Rattle.request_refusals.proofs.RefusalLaws.{Accepted, accepts}
 use Rattle.read_page.specs.Fetching.{ReadResult, readResult, readingBlock}
-use Rattle.read.specs.Reading.{readingCopy, readingPage}
+use Rattle.read.specs.Reading.{copyRequest, readingCopy, readRequest, readingPage}
 
 module _ (s : Setting) (d : Device) (n : ℕ) (state : State) (logical page : ℕ) (buffer : List ℕ) (k : ℕ) (told : k ≡ refusalOf s d state logical page buffer) where
   pub ends-refused : {r : Result} → (k ≡ 0 → ⊥) → r ≡ result k state d 0 → readResult r buffer ≡ readingPage s d n state logical page buffer
-  unfolding readingPage
+  unfolding resultOf readRequest
   ends-refused x f =
       rw (ne-eqb (refusalOf s d state logical page buffer) 0 (λ z. x (told ∙ z)))
       (ap (λ (y : Result). readResult y buffer) (f ∙ ap (λ (y : ℕ). result y state d 0) told))
@@ -38,14 +38,14 @@ module _ (s : Setting) (d : Device) (n : ℕ) (state : State) (logical page : �
 
     module _ (block : ℕ) (entry : block ≡ getD (state .map) logical 0) where
       pub goes-on : readingCopy s d n state block page buffer ≡ readingPage s d n state logical page buffer
-      unfolding readingPage
+      unfolding resultOf readRequest
       goes-on =
           rw (eq-eqb (refusalOf s d state logical page buffer) 0 (sym told ∙ none-refused))
           (ap (λ (x : ℕ). readingCopy s d n state x page buffer) entry)
 
       pub ends-empty : {r : Result} (bytes : List ℕ) → block ≡ none → r ≡ result 0 state d 0 → bytes ≡ replicate (length buffer) 255
           → readResult r bytes ≡ readingPage s d n state logical page buffer
-      unfolding readingCopy
+      unfolding resultOf copyRequest
       ends-empty bytes z e f =
           ap (λ (x : Result). readResult x bytes) e
           ∙ ap (readResult (result 0 state d 0)) (f ∙ ap (λ (x : ℕ). replicate x 255) (not-refused .buffer-long))
@@ -59,5 +59,5 @@ module _ (s : Setting) (d : Device) (n : ℕ) (state : State) (logical page : �
             omega (arith, entry, m .copy-below logical (not-refused .logical-below) (λ z. full (entry ∙ z)))
 
         pub ends-read : {r : ReadResult} → r ≡ readingBlock s d n state block page buffer → r ≡ readingPage s d n state logical page buffer
-        unfolding readingCopy
+        unfolding resultOf copyRequest
         ends-read e = e ∙ sym (rw (ne-eqb block none full)) ∙ goes-on

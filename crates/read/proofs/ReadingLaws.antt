@@ -32,11 +32,11 @@ use Rattle.scan_found.proofs.MapLaws.{getD-tabulate}
 use Rattle.copies.proofs.PlaceLaws.{row-is-page}
 use Rattle.state.specs.State.{none}
 use Rattle.state.specs.declared.State.{State}
-use Rattle.request.specs.Call.{result, sized, sizedFor, callLine, stopAnswer, answerFor, stateFor}
+use Rattle.request.specs.Call.{result, sized, sizedFor, callLine, stopAnswer, answerFor, stateFor, resultOf}
 use Rattle.request.proofs.CallLaws.{sizes}
 use Rattle.request_refusals.specs.Refusals.{refusalOf}
 use Rattle.read_page.specs.Fetching.{ReadResult, readResult, fetched, pageProgress, readingBlock}
-use Rattle.read.specs.Reading.{readingCopy, readingPage}
+use Rattle.read.specs.Reading.{copyRequest, readRequest, readingPage}
 use Rattle.read_page.proofs.PageLaws.{page-line, page-outcome}
 use Rattle.read.proofs.EndLaws.{goes-on, is-valid, in-map, block-below}
 use Rattle.request_refusals.proofs.RefusalLaws.{Accepted, accepted}
@@ -85,12 +85,12 @@ module _ (s : Setting) (d : Device) (n : ℕ) (state : State) (logical page : �
   unrefused = sym (accepted (s .geometry) (sizedFor s d) state logical page (length buffer) a)
 
   pub no-copy : entry ≡ none → readingPage s d n state logical page buffer ≡ readResult (result 0 state d 0) (replicate (s .geometry .main) 255)
-  unfolding readingCopy
+  unfolding resultOf copyRequest
   no-copy z =
       sym (goes-on s d n state logical page buffer 0 unrefused refl entry refl) ∙ rw (eq-eqb entry none z)
 
   pub one-copy : (entry ≡ none → ⊥) → readingPage s d n state logical page buffer ≡ readingBlock s d n state entry page buffer
-  unfolding readingCopy
+  unfolding resultOf copyRequest
   one-copy x =
       sym (goes-on s d n state logical page buffer 0 unrefused refl entry refl) ∙ rw (ne-eqb entry none x)
 
@@ -250,7 +250,7 @@ module _ (s : Setting) (d : Device) (n : ℕ) (state : State) (logical page : �
 -- the buffer changes only with the answer 0, whatever is handed in
 pub read-keeps : (s : Setting) (d : Device) (n : ℕ) (state : State) (logical page : ℕ) (buffer : List ℕ) → (readingPage s d n state logical page buffer .returned .answer ≡ 0 → ⊥)
     → readingPage s d n state logical page buffer .buffer ≡ buffer
-unfolding readingPage readingCopy readingBlock fetched
+unfolding resultOf readRequest copyRequest readingBlock fetched
 read-keeps s d n state logical page buffer x =
     cases (eqb (refusalOf s d state logical page buffer) 0)
     (λ t. cases (eqb (getD (state .map) logical 0) none)

@@ -12,17 +12,17 @@ use Rattle.chip_array.specs.Device.{Device, Setting}
 use Rattle.bus_polling.specs.Outcomes.{isPassed}
 use Rattle.state.specs.State.{none, mounted}
 use Rattle.state.specs.declared.State.{State}
-use Rattle.request.specs.Call.{result, sizedFor}
+use Rattle.request.specs.Call.{result, sizedFor, resultOf}
 use Rattle.request_refusals.specs.Refusals.{refusalOf}
 use Rattle.request_refusals.proofs.RefusalLaws.{refused-geometry, refused-unmounted, refused-logical, refused-page, refused-length}
 use Rattle.request.proofs.CallLaws.{stop-least}
 use Rattle.read_page.specs.Fetching.{readResult, pageProgress, readingBlock}
-use Rattle.read.specs.Reading.{readingCopy, readingPage}
+use Rattle.read.specs.Reading.{copyRequest, readRequest, readingPage}
 
 -- a read that is refused sends nothing and changes nothing
 module _ (s : Setting) (d : Device) (n : ℕ) (state : State) (logical page : ℕ) (buffer : List ℕ) where
   refuses : (k : ℕ) → refusalOf s d state logical page buffer ≡ k → (k ≡ 0 → ⊥) → readingPage s d n state logical page buffer ≡ readResult (result k state d 0) buffer
-  unfolding readingPage
+  unfolding resultOf readRequest
   refuses k e x =
       rw (ne-eqb (refusalOf s d state logical page buffer) 0 (λ z. x (sym e ∙ z)))
       (ap (λ (y : ℕ). readResult (result y state d 0) buffer) e)
@@ -51,7 +51,7 @@ module _ (s : Setting) (d : Device) (n : ℕ) (state : State) (logical page : �
   -- an answer from 1 to 9 is a refusal, by its number
   pub read-refused : 0 < readingPage s d n state logical page buffer .returned .answer → readingPage s d n state logical page buffer .returned .answer < 10
       → refusalOf s d state logical page buffer ≡ readingPage s d n state logical page buffer .returned .answer
-  unfolding readingPage readingCopy readingBlock
+  unfolding resultOf readRequest copyRequest readingBlock
   read-refused h k =
       cases (eqb (refusalOf s d state logical page buffer) 0)
       (λ t. cases (eqb (getD (state .map) logical 0) none)

@@ -20,10 +20,10 @@ use Rattle.progress.specs.Progress.{progress}
 use Rattle.progress.proofs.CountLaws.{allowance-kept}
 use Rattle.state.specs.State.{none}
 use Rattle.state.specs.declared.State.{State}
-use Rattle.request.specs.Call.{sizedFor, callLine}
+use Rattle.request.specs.Call.{sizedFor, callLine, resultOf}
 use Rattle.request_refusals.specs.Refusals.{refusalOf}
 use Rattle.read_page.specs.Fetching.{ReadResult, pageProgress, readingBlock}
-use Rattle.read.specs.Reading.{readingCopy, readingPage}
+use Rattle.read.specs.Reading.{copyRequest, readRequest, readingPage}
 use Rattle.read_page.proofs.PageLaws.{page-line}
 use Rattle.read.proofs.ReadingLaws.{no-copy, one-copy}
 use Rattle.request_refusals.proofs.RefusalLaws.{Accepted}
@@ -85,7 +85,7 @@ module _ (s : Setting) (d : Device) (n : ℕ) (state : State) where
 
     -- never more, whatever is handed in
     pub read-sent-most : readingPage s d n state logical page buffer .returned .sent ≤ 6 + 2 + 256 + 1 + s .geometry .main
-    unfolding readingPage readingCopy
+    unfolding resultOf readRequest copyRequest
     read-sent-most =
         cases (eqb (refusalOf s d state logical page buffer) 0)
         (λ t. cases (eqb (getD (state .map) logical 0) none)

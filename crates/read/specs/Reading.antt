@@ -7,19 +7,25 @@ use lib.ListN.{getD, replicate}
 use Rattle.chip_array.specs.Device.{Device, Setting}
 use Rattle.state.specs.State.{none}
 use Rattle.state.specs.declared.State.{State}
-use Rattle.request.specs.Call.{result}
+use Rattle.request.specs.Call.{result, Performed, resultOf, unsent, performed}
 use Rattle.request_refusals.specs.Refusals.{refusalOf}
-use Rattle.read_page.specs.Fetching.{ReadResult, readResult, readingBlock}
+use Rattle.read_page.specs.Fetching.{ReadResult, readResult, pageProgress, readingBlock}
 
 -- a logical block without a copy reads FFh
-unfoldable pub readingCopy : Setting → Device → ℕ → State → ℕ → ℕ → List ℕ → ReadResult
-readingCopy s d n state block page buffer =
-    cond (eqb block none) (readResult (result 0 state d 0) (replicate (s .geometry .main) 255))
-    (readingBlock s d n state block page buffer)
+unfoldable pub copyRequest : Setting → Device → ℕ → State → ℕ → ℕ → List ℕ → Performed ReadResult
+copyRequest s d n state block page buffer =
+    cond (eqb block none) (unsent (readResult (result 0 state d 0) (replicate (s .geometry .main) 255)))
+    (performed (readingBlock s d n state block page buffer) (pageProgress s d n block page))
 
 -- n: the cycles allowed
-unfoldable pub readingPage : Setting → Device → ℕ → State → ℕ → ℕ → List ℕ → ReadResult
-readingPage s d n state logical page buffer =
+unfoldable pub readRequest : Setting → Device → ℕ → State → ℕ → ℕ → List ℕ → Performed ReadResult
+readRequest s d n state logical page buffer =
     cond (eqb (refusalOf s d state logical page buffer) 0)
-    (readingCopy s d n state (getD (state .map) logical 0) page buffer)
-    (readResult (result (refusalOf s d state logical page buffer) state d 0) buffer)
+    (copyRequest s d n state (getD (state .map) logical 0) page buffer)
+    (unsent (readResult (result (refusalOf s d state logical page buffer) state d 0) buffer))
+
+abbrev pub readingCopy : Setting → Device → ℕ → State → ℕ → ℕ → List ℕ → ReadResult
+readingCopy s d n state block page buffer = resultOf (copyRequest s d n state block page buffer)
+
+abbrev pub readingPage : Setting → Device → ℕ → State → ℕ → ℕ → List ℕ → ReadResult
+readingPage s d n state logical page buffer = resultOf (readRequest s d n state logical page buffer)

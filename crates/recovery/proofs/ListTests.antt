@@ -3,11 +3,12 @@
 use Prim.Native.Nat.{ℕ}
 use mathlib.Core.Bool.{Bool, true, false, cond}
 use mathlib.Core.List.{List, [], _∷_, _++_}
-use mathlib.Core.Path.{_≡_, refl}
+use mathlib.Core.Path.{_≡_, refl, ap, _∙_}
 use borrow.Author.Tests.{eq-eqb, ne-eqb}
 use lib.Count.{ones}
 use lib.ListN.{getD, replicate}
 use Rattle.geometry.specs.declared.Geometry.{Geometry}
+use Rattle.bools.proofs.BoolLaws.{or-none}
 use Rattle.cells.specs.Cells.{programmed, weakened, raised}
 use Rattle.cells.specs.Part.{put}
 use Rattle.bitmaps.specs.Bitmap.{bitAt, withBit, countBits, clearFrom}
@@ -17,7 +18,6 @@ use Rattle.chip.specs.Chip.{isConfirm, confirmed, confirmable, commanded, dataT
 use Rattle.bus.specs.Line.{mayGo, cutAfter, send, byteOut, sendAll, sent, goesOn}
 use Rattle.bus_polling.specs.Polling.{waiting, polls, outcomeOf, endedAs}
 use Rattle.bus_polling.specs.Outcomes.{isPassed, isFailed, isSilent, isCut}
-use Rattle.bus_polling.specs.declared.Outcome.the-variants.{Passed}
 use Rattle.bus_sequences.specs.Cycles.{readCycles, readOutcome, putOut, readOutputs}
 use Rattle.operations.specs.Trace.{ArrayOperation, startedBy}
 use Rattle.pages.specs.Check.{zeroBits}
@@ -30,15 +30,17 @@ use Rattle.copies.specs.Current.{currentTable, currentCopy, reading, sharesNumb
 use Rattle.state_choose.specs.Choose.{permitted, searchAfter}
 use Rattle.state.specs.State.{copyBits}
 use Rattle.state.specs.declared.State.{State}
-use Rattle.progress.specs.Progress.{progress, readOn}
+use Rattle.progress.specs.Progress.{readOn}
 use Rattle.progress.specs.Steps.{eraseOn, programOn}
-use Rattle.request.specs.Call.{Result, callLine, stopAnswer}
+use Rattle.request.specs.Call.{stopAnswer, startedIn}
 use Rattle.fill.specs.Fill.{mainOf, mainRead, pageFilled, pagesFilled, tableMain, dataSource, isGiven}
 use Rattle.fill_tables.specs.Tables.{Tabled, afterFill, tryBlock, tryTable, tablesFilled}
-use Rattle.write_changes.specs.Changes.{writeUpdate, afterTry, copyTried, copiesFilled, thenTable, changeRun}
+use Rattle.write_changes.specs.Changes.{writeUpdate, afterTry, copyTried, copiesFilled, thenTable, changeCall}
+use Rattle.identify.proofs.SentLaws.{identify-starts}
+use Rattle.damage.specs.Run.{failedIn}
 use Rattle.recovery.specs.Book.{Change, write, entered, Account, blankAccount, changed, mounted, settled, fed}
 use Rattle.recovery.specs.Copy.{isDataProgram, sentPage, sentPages, hasCopy}
-use Rattle.recovery.specs.Calls.{Lent, toRead, toIdentify, Store, failedAfter, afterMount, step}
+use Rattle.recovery.specs.Calls.{Lent, toMount, toRead, toIdentify, Store, mountOn, traceOf, failedAfter, failedNext, step, unpowered}
 
 abbrev small : Geometry
 small = record { main = 32; spare = 16; pages = 4; blocks = 4; logical = 2 }
@@ -58,8 +60,7 @@ state =
 -- under way through
 abbrev cut : ℕ → ℕ → Tabled
 cut mask byte =
-    changeRun (setting small (replicate 192 mask) []) state (writeUpdate state 0 0 (replicate 32 byte))
-    (progress (callLine (device poweredOn formatted (replicate 48 255) (replicate 4 0)) 234) Passed [] [])
+    changeCall (setting small (replicate 192 mask) []) (device poweredOn formatted (replicate 48 255) (replicate 4 0)) 234 state (writeUpdate state 0 0 (replicate 32 byte))
 
 abbrev arrayOf : Tabled → List ℕ
 arrayOf t = t .progress .line .chip .array
@@ -87,23 +88,29 @@ books-later = refl
 
 -- a read, cut or not, changes neither book nor note; nor do a refused write and a mount answered 1
 read-unbooked : (g : Geometry) (a : Lent) (logical page : ℕ) (buffer : List ℕ) (y : Store) → step g (toRead a logical page buffer) y .account ≡ y .account
-unfolding step
+unfolding step fed
 read-unbooked g a logical page buffer y = refl
 
 -- asking the chip for its size changes neither book nor note, nor what is known of marked and failed blocks
-identify-unbooked : (g : Geometry) (a : Lent) (parameters : List ℕ) (logical : ℕ) (y : Store) → let z = step g (toIdentify a parameters logical) y in (z .account ≡ y .account) × (z .marked ≡ y .marked) × (z .failed ≡ y .failed)
-unfolding step
-identify-unbooked g a parameters logical y = (refl, refl, refl)
+identify-unbooked : (g : Geometry) (a : Lent) (parameters : List ℕ) (logical : ℕ) (y : Store) → let z = step g (toIdentify a parameters logical) y in (z .account ≡ y .account) × (z .marked ≡ y .marked) × ((b : ℕ) → z .failed b ≡ y .failed b)
+unfolding startedIn step fed failedNext failedIn
+identify-unbooked g a parameters logical y =
+    (refl, refl, λ b. ap (λ (os : List ArrayOperation). failedAfter (y .failed) os b) (identify-starts (a .mask) (a .fates) (y .chip) (a .allowed) (y .state) parameters logical) ∙ or-none (y .failed b))
 
 refused-unbooked : (g : Geometry) (c : Change) (y : Account) → (fed g (changed c 1 []) y ≡ y) × (fed g (changed c 7 []) y ≡ y) × (fed g (changed c 2 []) y ≡ y) × (fed g (changed c 3 []) y ≡ y) × (fed g (mounted 1 false) y ≡ y)
 unfolding fed
 refused-unbooked g c y = (refl, refl, refl, refl, refl)
 
 -- a mount answered 0 starts the failed blocks anew, any other keeps them
-mount-clears : (g : Geometry) (y : Store) (r : Result) (os : List ArrayOperation) (b : ℕ) → r .answer ≡ 0 → afterMount g y r os .failed b ≡ false
-unfolding afterMount
-mount-clears g y r os b z = rw (eq-eqb (r .answer) 0 z)
+mount-clears : (g : Geometry) (a : Lent) (y : Store) (b : ℕ) → mountOn g a y .answer ≡ 0 → step g (toMount a) y .failed b ≡ false
+unfolding step failedNext
+mount-clears g a y b z = rw (eq-eqb (mountOn g a y .answer) 0 z)
 
-mount-keeps : (g : Geometry) (y : Store) (r : Result) (os : List ArrayOperation) (b : ℕ) → (r .answer ≡ 0 → ⊥) → afterMount g y r os .failed b ≡ failedAfter (y .failed) os b
-unfolding afterMount
-mount-keeps g y r os b z = rw (ne-eqb (r .answer) 0 z)
+mount-keeps : (g : Geometry) (a : Lent) (y : Store) (b : ℕ) → (mountOn g a y .answer ≡ 0 → ⊥) → step g (toMount a) y .failed b ≡ failedAfter (y .failed) (traceOf g (toMount a) y) b
+unfolding step failedNext
+mount-keeps g a y b z = rw (ne-eqb (mountOn g a y .answer) 0 z)
+
+-- power lost keeps the book and its note, the array, what was programmed since the last erase, and what is known of marked and failed blocks
+unpowered-keeps : (st : State) (register : List ℕ) (y : Store) → let z = unpowered st register y in (z .account ≡ y .account) × (z .chip .array ≡ y .chip .array) × (z .chip .history ≡ y .chip .history) × (z .marked ≡ y .marked) × (z .failed ≡ y .failed)
+unfolding unpowered
+unpowered-keeps st register y = (refl, refl, refl, refl, refl)

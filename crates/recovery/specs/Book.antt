@@ -50,10 +50,11 @@ abbrev pub blankAccount : Geometry → Account
 blankAccount g = account (blankBook g) none
 
 -- what the book is fed: a write or an erase with its answer and the operations that it started; a mount with its answer
--- and whether the request noted has a complete copy. Reads and other calls are no entries
+-- and whether the request noted has a complete copy; reads and other calls are no entries
 pub data Entry : Type 0 where
   changed : Change → ℕ → List ArrayOperation → Entry
   mounted : ℕ → Bool → Entry
+  unentered : Entry
 
 -- answered 8 to 11
 abbrev pub isUnderWay : ℕ → Bool
@@ -71,3 +72,4 @@ fed g (changed c answer started) y =
     cond (eqb answer 0) (account (entered g c (y .book)) (y .noted))
     (cond (isUnderWay answer) (account (y .book) (some (note c started))) y)
 fed g (mounted answer copy) y = cond (eqb answer 0) (settled g copy (y .noted) (y .book)) y
+fed g unentered y = y

@@ -1,29 +1,31 @@
--- Lists of calls on one chip: each gets the state and the chip that the last one left, and the book is kept beside them.
+-- Lists of calls on one chip, with power lost between them: each call gets the state and the chip that are there, and the book is kept
+-- beside them.
 use Prim.Native.Nat.{ℕ}
 use mathlib.Core.Bool.{Bool, true, false, cond}
 use mathlib.Core.List.{List, [], _∷_}
 use mathlib.Core.Option.{Option, none, some}
+use mathlib.Core.Path.{_≡_}
 use lib.Dec.{eqb}
-use lib.ListN.{getD}
+use lib.ListN.{length}
 use Rattle.geometry.specs.declared.Geometry.{Geometry}
+use Rattle.geometry.specs.Sizes.{pageSize}
 use Rattle.cells.specs.Bytes.{Bytes}
-use Rattle.chip_array.specs.Device.{Device, Setting, setting}
-use Rattle.bus_polling.specs.declared.Outcome.the-variants.{Passed}
+use Rattle.chip_interface.specs.Interface.{poweredOn}
+use Rattle.chip_array.specs.Device.{Device, device, Setting, setting}
+use Rattle.chip.specs.Chip.{Cycle}
 use Rattle.operations.specs.Trace.{ArrayOperation}
-use Rattle.progress.specs.Progress.{progress}
 use Rattle.copies.specs.Blocks.{blockIn, isMarked}
 use Rattle.state.specs.State as state
 use Rattle.state.specs.declared.State.{State}
-use Rattle.request.specs.Call.{Result, sizedFor, callLine}
-use Rattle.request_refusals.specs.Refusals.{refusalOf}
-use Rattle.read_page.specs.Fetching.{ReadResult, pageProgress}
-use Rattle.read.specs.Reading.{readingPage}
-use Rattle.mount.specs.Mount.{mountRun, mounting}
-use Rattle.format.specs.Format.{formatRun, formatting}
-use Rattle.identify.specs.Identify.{Identified, identifying}
-use Rattle.write_changes.specs.Changes.{writeUpdate, eraseUpdate, changeRun, writing, eraseRefusal, erasingLogical}
+use Rattle.request.specs.Call.{Result, Performed, resultOf, sentIn, startedIn}
+use Rattle.read_page.specs.Fetching.{ReadResult}
+use Rattle.read.specs.Reading.{readRequest, readingPage}
+use Rattle.mount.specs.Mount.{mountRequest, mounting}
+use Rattle.format.specs.Format.{formatRequest, formatting}
+use Rattle.identify.specs.Identify.{Identified, identifyRequest, identifying}
+use Rattle.write_changes.specs.Changes.{writeRequest, writing, eraseRequest, erasingLogical}
 use Rattle.damage.specs.Run.{failedIn}
-use Rattle.recovery.specs.Book.{Change, write, erase, Note, Account, blankAccount, changed, mounted, fed}
+use Rattle.recovery.specs.Book.{write, erase, Note, Account, blankAccount, Entry, changed, mounted, unentered, fed}
 use Rattle.recovery.specs.Copy.{hasCopy}
 
 -- what each call brings of its own beside its arguments: the mask, the fate words and the cycles allowed
@@ -49,9 +51,19 @@ Typed (toWrite a logical page bytes) = Bytes (a .mask) × Bytes bytes
 Typed (toErase a logical) = Bytes (a .mask)
 Typed (toIdentify a parameters logical) = Unit {0}
 
-unfoldable pub AllTyped : List Call → Type 0
-AllTyped [] = Unit {0}
-AllTyped (c ∷ cs) = Typed c × AllTyped cs
+-- what happens to a store: a call, or power is lost; then come the state that the next call gets and what the page register holds
+pub data Event : Type 0 where
+  called : Call → Event
+  powerLost : State → List ℕ → Event
+
+-- the state is gone: whatever stands in its place does not count as mounted
+abbrev pub Possible : Geometry → Event → Type 0
+Possible g (called c) = Typed c
+Possible g (powerLost st register) = (state.mounted st (g .blocks) (g .logical) ≡ false) × (length register ≡ pageSize g)
+
+unfoldable pub AllPossible : Geometry → List Event → Type 0
+AllPossible g [] = Unit {0}
+AllPossible g (e ∷ es) = Possible g e × AllPossible g es
 
 -- between two calls: the state and the chip that the last one left, the book with the request under way, the blocks that
 -- bore a factory mark when the chip was formatted, and those for which E1h was read since the mount or formatting that gave
@@ -90,24 +102,29 @@ abbrev pub identifyOf : Lent → List ℕ → ℕ → Store → Identified
 identifyOf a parameters logical y =
     identifying (a .mask) (a .fates) (y .chip) (a .allowed) (y .state) parameters logical
 
--- the array operations that a call starts, none where it is refused or where the chip is asked for its size
-unfoldable pub traceOf : Geometry → Call → Store → List ArrayOperation
-traceOf g (toMount a) y =
-    cond (sizedFor (settingOf g a) (y .chip)) (mountRun (settingOf g a) (callLine (y .chip) (a .allowed)) .started) []
-traceOf g (toRead a logical page buffer) y =
-    cond (eqb (refusalOf (settingOf g a) (y .chip) (y .state) logical page buffer) 0)
-    (cond (eqb (getD (y .state .map) logical 0) state.none) []
-    (pageProgress (settingOf g a) (y .chip) (a .allowed) (getD (y .state .map) logical 0) page .started))
-    []
-traceOf g (toWrite a logical page bytes) y =
-    cond (eqb (refusalOf (settingOf g a) (y .chip) (y .state) logical page bytes) 0)
-    (changeRun (settingOf g a) (y .state) (writeUpdate (y .state) logical page bytes) (progress (callLine (y .chip) (a .allowed)) Passed [] []) .progress .started)
-    []
-traceOf g (toErase a logical) y =
-    cond (eqb (eraseRefusal (settingOf g a) (y .chip) (y .state) logical) 0)
-    (changeRun (settingOf g a) (y .state) (eraseUpdate logical) (progress (callLine (y .chip) (a .allowed)) Passed [] []) .progress .started)
-    []
-traceOf g (toIdentify a parameters logical) y = []
+-- a call that hands back more than the result of every request
+abbrev pub returning : {A : Type 0} → (A → Result) → Performed A → Performed Result
+returning f r = record { gives = f (resultOf r); cycles = sentIn r; started = startedIn r }
+
+-- a call on a store, whole: its result, the cycles that it sends and the array operations that it starts
+abbrev pub runOf : Geometry → Call → Store → Performed Result
+runOf g (toMount a) y = mountRequest (settingOf g a) (y .chip) (a .allowed) (y .state)
+runOf g (toRead a logical page buffer) y =
+    returning (λ r. r .returned) (readRequest (settingOf g a) (y .chip) (a .allowed) (y .state) logical page buffer)
+runOf g (toWrite a logical page bytes) y =
+    writeRequest (settingOf g a) (y .chip) (a .allowed) (y .state) logical page bytes
+runOf g (toErase a logical) y = eraseRequest (settingOf g a) (y .chip) (a .allowed) (y .state) logical
+runOf g (toIdentify a parameters logical) y =
+    returning (λ r. r .returned) (identifyRequest (a .mask) (a .fates) (y .chip) (a .allowed) (y .state) parameters logical)
+
+abbrev pub answerOf : Geometry → Call → Store → ℕ
+answerOf g c y = resultOf (runOf g c y) .answer
+
+abbrev pub cyclesOf : Geometry → Call → Store → List Cycle
+cyclesOf g c y = sentIn (runOf g c y)
+
+abbrev pub traceOf : Geometry → Call → Store → List ArrayOperation
+traceOf g c y = startedIn (runOf g c y)
 
 -- the blocks that failed before, and those that fail in a trace
 abbrev pub failedAfter : (ℕ → Bool) → List ArrayOperation → ℕ → Bool
@@ -118,33 +135,43 @@ unfoldable pub copyOfNote : Geometry → List ℕ → Option Note → Bool
 copyOfNote g array none = false
 copyOfNote g array (some t) = hasCopy g array (t .started)
 
--- a mount answered 0 settles the note and starts the failed blocks anew
-unfoldable pub afterMount : Geometry → Store → Result → List ArrayOperation → Store
-afterMount g y r os =
-    store (r .state) (r .chip) (fed g (mounted (r .answer) (copyOfNote g (r .chip .array) (underWay y))) (y .account)) (y .marked)
-    (cond (eqb (r .answer) 0) (λ b. false) (failedAfter (y .failed) os))
+-- what the book is fed of a call
+abbrev pub mountEntry : Geometry → Store → Result → Entry
+mountEntry g y r = mounted (r .answer) (copyOfNote g (r .chip .array) (underWay y))
 
--- the book is fed a write's or an erase's arguments, answer and trace
-abbrev pub afterChange : Geometry → Store → Change → Result → List ArrayOperation → Store
-afterChange g y c r os =
-    store (r .state) (r .chip) (fed g (changed c (r .answer) os) (y .account)) (y .marked) (failedAfter (y .failed) os)
+abbrev pub entryOf : Geometry → Call → Store → Entry
+entryOf g (toMount a) y = mountEntry g y (mountOn g a y)
+entryOf g (toRead a logical page buffer) y = unentered
+entryOf g (toWrite a logical page bytes) y =
+    changed (write logical page bytes) (answerOf g (toWrite a logical page bytes) y) (traceOf g (toWrite a logical page bytes) y)
+entryOf g (toErase a logical) y = changed (erase logical) (answerOf g (toErase a logical) y) (traceOf g (toErase a logical) y)
+entryOf g (toIdentify a parameters logical) y = unentered
+
+-- a mount answered 0 starts the failed blocks anew
+unfoldable pub failedNext : Entry → (ℕ → Bool) → List ArrayOperation → ℕ → Bool
+failedNext (mounted answer copy) f os b = cond (eqb answer 0) false (failedAfter f os b)
+failedNext (changed c answer started) f os b = failedAfter f os b
+failedNext unentered f os b = failedAfter f os b
 
 -- one call
 unfoldable pub step : Geometry → Call → Store → Store
-step g (toMount a) y = afterMount g y (mountOn g a y) (traceOf g (toMount a) y)
-step g (toRead a logical page buffer) y =
-    let r = readOf g a logical page buffer y .returned in
-    store (r .state) (r .chip) (y .account) (y .marked) (failedAfter (y .failed) (traceOf g (toRead a logical page buffer) y))
-step g (toWrite a logical page bytes) y =
-    afterChange g y (write logical page bytes) (writeOn g a logical page bytes y) (traceOf g (toWrite a logical page bytes) y)
-step g (toErase a logical) y = afterChange g y (erase logical) (eraseOf g a logical y) (traceOf g (toErase a logical) y)
-step g (toIdentify a parameters logical) y =
-    let r = identifyOf a parameters logical y .returned in store (r .state) (r .chip) (y .account) (y .marked) (y .failed)
+step g c y =
+    store (resultOf (runOf g c y) .state) (resultOf (runOf g c y) .chip) (fed g (entryOf g c y) (y .account)) (y .marked)
+    (failedNext (entryOf g c y) (y .failed) (traceOf g c y))
 
--- one call after the other
-unfoldable pub after : Geometry → List Call → Store → Store
+-- power lost leaves array and history, the book with its note, and the blocks known to have failed; the interface is as after power on
+unfoldable pub unpowered : State → List ℕ → Store → Store
+unpowered st register y =
+    store st (device poweredOn (y .chip .array) register (y .chip .history)) (y .account) (y .marked) (y .failed)
+
+abbrev pub happens : Geometry → Event → Store → Store
+happens g (called c) y = step g c y
+happens g (powerLost st register) y = unpowered st register y
+
+-- one event after the other
+unfoldable pub after : Geometry → List Event → Store → Store
 after g [] y = y
-after g (c ∷ cs) y = after g cs (step g c y)
+after g (e ∷ es) y = after g es (happens g e y)
 
 -- what a formatting leaves: an empty book, nothing under way, and the blocks that failed in it
 abbrev pub formatOn : Geometry → Lent → Device → State → Result
@@ -153,4 +180,4 @@ formatOn g a d st = formatting (settingOf g a) d (a .allowed) st
 unfoldable pub begun : Geometry → Lent → Device → State → Store
 begun g a d st =
     let r = formatOn g a d st in
-    store (r .state) (r .chip) (blankAccount g) (λ b. isMarked g (blockIn g (d .array) b)) (λ b. failedIn b (formatRun (settingOf g a) d (a .allowed) .progress .started))
+    store (r .state) (r .chip) (blankAccount g) (λ b. isMarked g (blockIn g (d .array) b)) (λ b. failedIn b (startedIn (formatRequest (settingOf g a) d (a .allowed) st)))

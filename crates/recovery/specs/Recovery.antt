@@ -21,9 +21,9 @@ use Rattle.state.specs.declared.State.{State}
 use Rattle.request.specs.Call.{Result}
 use Rattle.read_page.specs.Fetching.{ReadResult}
 use Rattle.read.specs.Reading.{readingPage}
-use Rattle.recovery.specs.Book.{Book, Same, Note, entered}
+use Rattle.recovery.specs.Book.{Book, Same, Note, entered, fed}
 use Rattle.recovery.specs.Copy.{hasCopy}
-use Rattle.recovery.specs.Calls.{Lent, Call, Typed, AllTyped, Store, underWay, settingOf, mountOn, readOf, traceOf, after, formatOn, begun}
+use Rattle.recovery.specs.Calls.{Lent, Call, Typed, Event, AllPossible, Store, underWay, settingOf, mountOn, readOf, traceOf, mountEntry, after, formatOn, begun}
 
 -- a read of a logical page from the state and the chip that a request left, uncut and not silent
 abbrev pub plainRead : Geometry → Result → ℕ → ℕ → ReadResult
@@ -41,22 +41,24 @@ pub data Unaffected (g : Geometry) (y : Store) : Type 0 where
   no-byte : (t : Note) → underWay y ≡ some t → Same g (entered g (t .change) (y .account .book)) (y .account .book) → Unaffected g y
 
 -- the mount r after a list that came to store y: it succeeds; its reading and the book just before it are equal exactly
--- where the request under way does not show, and otherwise the reading is the book with that request as the last. Every
--- other read from there that is neither silent nor cut gives the same
+-- where the request under way does not show, and otherwise the reading is the book with that request as the last; either way it is
+-- the book that the mount leaves. Every other read from there that is neither silent nor cut gives the same
 pub record Recovered (g : Geometry) (y : Store) (r : Result) : Type 0 where
   pub done : r .answer ≡ 0
   pub heard : (logical page : ℕ) → logical < g .logical → page < g .pages → plainRead g r logical page .returned .answer ≡ 0
   pub equal : Same g (readingBy g r) (y .account .book) ↔ Unaffected g y
   pub otherwise : (t : Note) → underWay y ≡ some t → (Unaffected g y → ⊥) → Same g (readingBy g r) (entered g (t .change) (y .account .book))
+  pub leaves : Same g (readingBy g r) (fed g (mountEntry g y r) (y .account) .book)
   pub any-read : (a : Lent) (logical page : ℕ) (buffer : List ℕ) → logical < g .logical → page < g .pages → length (a .mask) ≡ blockSize g → length buffer ≡ g .main
       → let q = readingPage (settingOf g a) (r .chip) (a .allowed) (r .state) logical page buffer in
       (q .returned .answer ≡ 10 → ⊥) → (q .returned .answer ≡ 11 → ⊥) → (q .returned .answer ≡ 0) × (q .buffer ≡ readingBy g r logical page)
 
--- what is said of a store that a list of calls has come to, after every acknowledged formatting of any chip
+-- what is said of a store that a list of calls, with power lost at any places between them, has come to, after every acknowledged
+-- formatting of any chip
 abbrev pub Always : (Geometry → Store → Type 0) → Type 0
 Always P =
     (g : Geometry) (a : Lent) (d : Device) (st : State) → Bytes (a .mask) → formatOn g a d st .answer ≡ 0
-    → (cs : List Call) → AllTyped cs → P g (after g cs (begun g a d st))
+    → (es : List Event) → AllPossible g es → P g (after g es (begun g a d st))
 
 -- every mount that is not answered 1, 10 or 11 recovers the book
 abbrev pub Recovers : Geometry → Store → Type 0

@@ -24,20 +24,23 @@ use Rattle.copies.specs.Current.{currentTable}
 use Rattle.copies.specs.Pick.{at}
 use Rattle.copies.specs.Table.{lists}
 use Rattle.state.specs.State.{none}
-use Rattle.request.specs.Call.{sizedFor, callLine}
+use Rattle.request.specs.Call.{Result, Performed, sizedFor, callLine, sentIn, startedIn}
 use Rattle.request_refusals.specs.Refusals.{refusalOf}
-use Rattle.write_changes.specs.Changes.{writeUpdate, eraseUpdate, eraseRefusal}
+use Rattle.write_changes.specs.Changes.{writeUpdate, eraseUpdate, eraseRefusal, writeRequest, eraseRequest}
+use Rattle.mount.specs.Mount.{mountRequest}
+use Rattle.read.specs.Reading.{copyRequest, readRequest}
+use Rattle.identify.proofs.SentLaws.{identify-starts}
 use Rattle.damage.specs.Run.{failedIn}
 use Rattle.damage.specs.Touched.{Each, Some, first}
 use Rattle.damage.proofs.EachLaws.{each-left, each-right, some-append-right}
 use Rattle.damage.proofs.TraceLaws.{or-assoc}
-use Rattle.recovery.specs.Calls.{Lent, Call, toMount, toRead, toWrite, toErase, toIdentify, Typed, Store, settingOf, traceOf, failedAfter}
+use Rattle.recovery.specs.Calls.{Lent, Call, toMount, toRead, toWrite, toErase, toIdentify, Typed, Store, settingOf, cyclesOf, traceOf, failedAfter}
+use Rattle.recovery_proof.specs.Sent.{Sends, SendsLegally}
 use Rattle.recovery.specs.Recovery.{Always, SparesBad, SparedBy, Spared, Spares}
-use Rattle.recovery_proof.specs.Cycles.{WritesSent, ErasesSent}
 use Rattle.recovery_proof.proofs.RecoveryLaws.{spares}
-use Rattle.recovery_proof.proofs.AnswerLaws.{writes-sent, erases-sent}
+use Rattle.recovery_proof.proofs.SentLaws.{sends-legally}
 use Rattle.recovery_cycles.specs.Starts.{takes, failsNext, start, Start, startsAt, startsIn, kindOf, StartedAt, Traced, Divided, TracedAt, failedRead, OnChip, Changes, ChangeOn, TracesEach}
-use Rattle.recovery_cycles.specs.Spared.{OnlyReads, NamesGood, TracesCycles, SparesEach, cyclesOf, startsOf, SparesCycles, FailsRead}
+use Rattle.recovery_cycles.specs.Spared.{OnlyReads, NamesGood, TracesCycles, SparesEach, startsOf, SparesCycles, FailsRead}
 use Rattle.recovery_cycles.proofs.StartLaws.{starts-append}
 use Rattle.recovery_cycles.proofs.TraceLaws.{change-traced, mount-traced, page-traced}
 use Rattle.recovery_cycles.proofs.ReadOnlyLaws.{mount-only-reads, page-only-reads, changes-confirm, identify-only-reads, identify-starts-none}
@@ -190,7 +193,7 @@ none-there (x ∷ xs) ys c e = absurd (let n : 0 ≡ suc (length (xs ++ (c ∷ y
 
 -- the trace of every call of any store has the operations that its confirm cycles start
 pub call-traced : (g : Geometry) (c : Call) (y : Store) → Traced g (startsOf g c y) (traceOf g c y)
-unfolding cyclesOf traceOf startsIn Traced
+unfolding sentIn startedIn mountRequest readRequest copyRequest writeRequest eraseRequest startsIn Traced
 call-traced g (toMount a) y =
     cases (sizedFor (settingOf g a) (y .chip)) (λ t. rw t (mount-traced (settingOf g a) (y .chip) (a .allowed))) (λ f. rw f tt)
 call-traced g (toRead a logical page buffer) y =
@@ -207,18 +210,18 @@ call-traced g (toErase a logical) y =
     (λ t. rw t (change-traced (settingOf g a) (y .chip) (a .allowed) (y .state) (eraseUpdate logical)))
     (λ f. rw f tt)
 call-traced g (toIdentify a parameters logical) y =
-    rw (identify-starts-none (settingOf g a) (callLine (y .chip) (a .allowed) .chip) (a .mask) (a .fates) (y .chip) (a .allowed) parameters) tt
+    rw (identify-starts-none (a .mask) (a .fates) (y .chip) (a .allowed) (y .state) parameters logical (settingOf g a) (callLine (y .chip) (a .allowed) .chip), identify-starts (a .mask) (a .fates) (y .chip) (a .allowed) (y .state) parameters logical) tt
 
 -- mounts, reads and calls that ask for the chip's size, of any store, send no 10h and no D0h
 pub mount-sends : (g : Geometry) (y : Store) (a : Lent) → OnlyReads (cyclesOf g (toMount a) y)
-unfolding cyclesOf
+unfolding sentIn mountRequest
 mount-sends g y a xs ys code e k =
     cases (sizedFor (settingOf g a) (y .chip))
     (λ t. mount-only-reads (settingOf g a) (callLine (y .chip) (a .allowed)) xs ys code (rw t at e) k)
     (λ f. none-there xs ys (command code) (rw f at e))
 
 pub read-sends : (g : Geometry) (y : Store) (a : Lent) (logical page : ℕ) (buffer : List ℕ) → OnlyReads (cyclesOf g (toRead a logical page buffer) y)
-unfolding cyclesOf
+unfolding sentIn readRequest copyRequest
 read-sends g y a logical page buffer xs ys code e k =
     let s = settingOf g a in
     cases (eqb (refusalOf s (y .chip) (y .state) logical page buffer) 0)
@@ -228,55 +231,45 @@ read-sends g y a logical page buffer xs ys code e k =
     (λ f. none-there xs ys (command code) (rw f at e))
 
 pub identify-sends : (g : Geometry) (y : Store) (a : Lent) (parameters : List ℕ) (logical : ℕ) → OnlyReads (cyclesOf g (toIdentify a parameters logical) y)
-unfolding cyclesOf
-identify-sends g y a parameters logical = identify-only-reads (a .mask) (a .fates) (y .chip) (a .allowed) parameters
+unfolding sentIn
+identify-sends g y a parameters logical = identify-only-reads (a .mask) (a .fates) (y .chip) (a .allowed) (y .state) parameters logical
 
--- each cycle of a write or an erase is legal
+-- each cycle of a call is legal
+sends-legal : {s : Setting} {d : Device} {n : ℕ} {r : Performed Result} → Sends s d n r → Legal s (callLine d n .chip) (sentIn r)
+sends-legal {s} {d} {n} x =
+    ⊎-elim (λ e. subst (Legal s (callLine d n .chip)) (sym (e .0)) tt) (λ e. e .each-legal) (x .leads)
+
 module _ (g : Geometry) (y : Store) where
-  write-legal : WritesSent g y → (a : Lent) (logical page : ℕ) (bytes : List ℕ) → Typed (toWrite a logical page bytes) → Legal (settingOf g a) (callLine (y .chip) (a .allowed) .chip) (cyclesOf g (toWrite a logical page bytes) y)
-  unfolding cyclesOf
-  write-legal w a logical page bytes t =
-      cases (eqb (refusalOf (settingOf g a) (y .chip) (y .state) logical page bytes) 0)
-      (λ z. rw z (w a logical page bytes (t .0) (t .1) (eqb-true _ _ z) .replayed .each-legal))
-      (λ z. rw z tt)
-
-  erase-legal : ErasesSent g y → (a : Lent) (logical : ℕ) → Typed (toErase a logical) → Legal (settingOf g a) (callLine (y .chip) (a .allowed) .chip) (cyclesOf g (toErase a logical) y)
-  unfolding cyclesOf
-  erase-legal w a logical t =
-      cases (eqb (eraseRefusal (settingOf g a) (y .chip) (y .state) logical) 0)
-      (λ z. rw z (w a logical t (eqb-true _ _ z) .replayed .each-legal))
-      (λ z. rw z tt)
-
-  calls-spare : Spares g y → WritesSent g y → ErasesSent g y → SparesCycles g y
-  calls-spare sp v w (toMount a) t = λ xs ys code e k. absurd (mount-sends g y a xs ys code e k)
-  calls-spare sp v w (toRead a logical page buffer) t = λ xs ys code e k. absurd (read-sends g y a logical page buffer xs ys code e k)
-  calls-spare sp v w (toWrite a logical page bytes) t =
+  calls-spare : Spares g y → SendsLegally g y → SparesCycles g y
+  calls-spare sp w (toMount a) t = λ xs ys code e k. absurd (mount-sends g y a xs ys code e k)
+  calls-spare sp w (toRead a logical page buffer) t = λ xs ys code e k. absurd (read-sends g y a logical page buffer xs ys code e k)
+  calls-spare sp w (toWrite a logical page bytes) t =
       spares-each (settingOf g a) (y .marked) (y .failed) (callLine (y .chip) (a .allowed) .chip) (cyclesOf g (toWrite a logical page bytes) y) (traceOf g (toWrite a logical page bytes) y)
-      (call-traced g (toWrite a logical page bytes) y) (write-legal v a logical page bytes t) (sp (toWrite a logical page bytes) t)
-  calls-spare sp v w (toErase a logical) t =
+      (call-traced g (toWrite a logical page bytes) y) (sends-legal (w (toWrite a logical page bytes) t)) (sp (toWrite a logical page bytes) t)
+  calls-spare sp w (toErase a logical) t =
       spares-each (settingOf g a) (y .marked) (y .failed) (callLine (y .chip) (a .allowed) .chip) (cyclesOf g (toErase a logical) y) (traceOf g (toErase a logical) y)
-      (call-traced g (toErase a logical) y) (erase-legal w a logical t) (sp (toErase a logical) t)
-  calls-spare sp v w (toIdentify a parameters logical) t = λ xs ys code e k. absurd (identify-sends g y a parameters logical xs ys code e k)
+      (call-traced g (toErase a logical) y) (sends-legal (w (toErase a logical) t)) (sp (toErase a logical) t)
+  calls-spare sp w (toIdentify a parameters logical) t = λ xs ys code e k. absurd (identify-sends g y a parameters logical xs ys code e k)
 
-  calls-trace : Spares g y → WritesSent g y → ErasesSent g y → TracesCycles g y
-  calls-trace sp v w (toMount a) t = λ xs ys code e k. absurd (mount-sends g y a xs ys code e k)
-  calls-trace sp v w (toRead a logical page buffer) t = λ xs ys code e k. absurd (read-sends g y a logical page buffer xs ys code e k)
-  calls-trace sp v w (toWrite a logical page bytes) t =
+  calls-trace : Spares g y → SendsLegally g y → TracesCycles g y
+  calls-trace sp w (toMount a) t = λ xs ys code e k. absurd (mount-sends g y a xs ys code e k)
+  calls-trace sp w (toRead a logical page buffer) t = λ xs ys code e k. absurd (read-sends g y a logical page buffer xs ys code e k)
+  calls-trace sp w (toWrite a logical page bytes) t =
       let c = toWrite a logical page bytes in
-      traces-each (settingOf g a) (callLine (y .chip) (a .allowed) .chip) (cyclesOf g c y) (traceOf g c y) (call-traced g c y) (write-legal v a logical page bytes t) (spared-on-chip g (y .marked) (y .failed) (traceOf g c y) (sp c t))
-  calls-trace sp v w (toErase a logical) t =
+      traces-each (settingOf g a) (callLine (y .chip) (a .allowed) .chip) (cyclesOf g c y) (traceOf g c y) (call-traced g c y) (sends-legal (w (toWrite a logical page bytes) t)) (spared-on-chip g (y .marked) (y .failed) (traceOf g c y) (sp c t))
+  calls-trace sp w (toErase a logical) t =
       let c = toErase a logical in
-      traces-each (settingOf g a) (callLine (y .chip) (a .allowed) .chip) (cyclesOf g c y) (traceOf g c y) (call-traced g c y) (erase-legal w a logical t) (spared-on-chip g (y .marked) (y .failed) (traceOf g c y) (sp c t))
-  calls-trace sp v w (toIdentify a parameters logical) t = λ xs ys code e k. absurd (identify-sends g y a parameters logical xs ys code e k)
+      traces-each (settingOf g a) (callLine (y .chip) (a .allowed) .chip) (cyclesOf g c y) (traceOf g c y) (call-traced g c y) (sends-legal (w (toErase a logical) t)) (spared-on-chip g (y .marked) (y .failed) (traceOf g c y) (sp c t))
+  calls-trace sp w (toIdentify a parameters logical) t = λ xs ys code e k. absurd (identify-sends g y a parameters logical xs ys code e k)
 
 pub traces-cycles : Always TracesCycles
-traces-cycles g a d st m z cs t =
-    calls-trace g _ (spares g a d st m z cs t) (writes-sent g a d st m z cs t) (erases-sent g a d st m z cs t)
+traces-cycles g a d st m z es t =
+    calls-trace g _ (spares g a d st m z es t) (sends-legally g a d st m z es t)
 
 pub spares-cycles : Always SparesCycles
-spares-cycles g a d st m z cs t =
-    calls-spare g _ (spares g a d st m z cs t) (writes-sent g a d st m z cs t) (erases-sent g a d st m z cs t)
+spares-cycles g a d st m z es t =
+    calls-spare g _ (spares g a d st m z es t) (sends-legally g a d st m z es t)
 
 pub fails-read : Always FailsRead
-fails-read g a d st m z cs t c typed b =
-    sym (failed-traced g _ _ (call-traced g c _) (spared-on-chip g _ _ _ (spares g a d st m z cs t c typed)) b)
+fails-read g a d st m z es t c typed b =
+    sym (failed-traced g _ _ (call-traced g c _) (spared-on-chip g _ _ _ (spares g a d st m z es t c typed)) b)

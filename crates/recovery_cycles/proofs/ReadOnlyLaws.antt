@@ -23,12 +23,12 @@ use Rattle.progress.specs.Progress.{Progress, progress, readOn, resetOn}
 use Rattle.scan_block.specs.Pages.{pagesRead}
 use Rattle.scan.specs.Scan.{blocksRead}
 use Rattle.read_page.specs.Fetching.{pageProgress}
-use Rattle.request.specs.Call.{callLine}
+use Rattle.request.specs.Call.{callLine, sentIn}
 use Rattle.request.specs.Start.{startLine}
 use Rattle.mount.specs.Mount.{mountRun}
 use Rattle.parameter_read.specs.Cycles.{parameterLoad, parameterOutput, parameterCycles}
-use Rattle.identify.specs.Identify.{unknown, parametersOn}
-use Rattle.identify.specs.Ends.{identifyCycles}
+use Rattle.identify.specs.Identify.{unknown, parametersOn, identifyRequest}
+use Rattle.state.specs.declared.State.{State}
 use Rattle.recovery_cycles.specs.Starts.{takes, startsIn, Changes}
 use Rattle.recovery_cycles.specs.Spared.{OnlyReads}
 use Rattle.recovery_cycles.proofs.AllLaws.{All, all-append, all-mapped, all-repeated, all-sent, all-at, all-weaker}
@@ -150,25 +150,25 @@ parameter-cycles s l page n =
     (all-append Unconfirming first (statusReads s asked) (refl, (tt, (refl, tt))) (all-repeated Unconfirming (polls s 256 asked) status tt))
     (cases (isPassed (outcomeOf (sendAll s l (parameterLoad s l)))) (λ t. rw t (refl, all-repeated Unconfirming n (parameterOut page) tt)) (λ t. rw t tt))
 
-identify-unconfirming : (mask fates : List ℕ) (d : Device) (n : ℕ) (page : List ℕ) → All Unconfirming (identifyCycles mask fates d n page)
-unfolding identifyCycles parametersOn resetOn isPassed isConfirm
-identify-unconfirming mask fates d n page =
-    let s = setting unknown mask fates in
-    let reset = all-sent Unconfirming s (callLine d n) resetCycles (refl, (refl, (tt, tt))) in
-    let cs = parameterCycles s (startLine s d n) page 768 in
-    cases (eqb (length page) 768)
-    (λ t. cases (isPassed (endedAs (startLine s d n)))
-    (λ u. rw (t, u) (all-append Unconfirming (sent s (callLine d n) resetCycles) (sent s (startLine s d n) cs) reset (all-sent Unconfirming s (startLine s d n) cs (parameter-cycles s (startLine s d n) page 768))))
-    (λ u. rw (t, u) reset))
-    (λ f. rw f tt)
+module _ (mask fates : List ℕ) (d : Device) (n : ℕ) (state : State) (page : List ℕ) (logical : ℕ) where
+  abbrev cycles : List Cycle
+  cycles = sentIn (identifyRequest mask fates d n state page logical)
 
-pub identify-only-reads : (mask fates : List ℕ) (d : Device) (n : ℕ) (page : List ℕ) → OnlyReads (identifyCycles mask fates d n page)
-identify-only-reads mask fates d n page =
-    only-reads (identifyCycles mask fates d n page)
-    (all-weaker Unconfirming Harmless unconfirming-harmless (identifyCycles mask fates d n page) (identify-unconfirming mask fates d n page))
+  identify-unconfirming : All Unconfirming cycles
+  unfolding sentIn identifyRequest parametersOn resetOn isPassed isConfirm
+  identify-unconfirming =
+      let s = setting unknown mask fates in
+      let reset = all-sent Unconfirming s (callLine d n) resetCycles (refl, (refl, (tt, tt))) in
+      let cs = parameterCycles s (startLine s d n) page 768 in
+      cases (eqb (length page) 768)
+      (λ t. cases (isPassed (endedAs (startLine s d n)))
+      (λ u. rw (t, u) (all-append Unconfirming (sent s (callLine d n) resetCycles) (sent s (startLine s d n) cs) reset (all-sent Unconfirming s (startLine s d n) cs (parameter-cycles s (startLine s d n) page 768))))
+      (λ u. rw (t, u) reset))
+      (λ f. rw f tt)
 
--- with any setting
-pub identify-starts-none : (s : Setting) (e : Device) (mask fates : List ℕ) (d : Device) (n : ℕ) (page : List ℕ) → startsIn s e (identifyCycles mask fates d n page) ≡ []
-identify-starts-none s e mask fates d n page =
-    idle-starts s e (identifyCycles mask fates d n page)
-    (all-weaker Unconfirming Idle unconfirming-idle (identifyCycles mask fates d n page) (identify-unconfirming mask fates d n page))
+  pub identify-only-reads : OnlyReads cycles
+  identify-only-reads = only-reads cycles (all-weaker Unconfirming Harmless unconfirming-harmless cycles identify-unconfirming)
+
+  -- with any setting
+  pub identify-starts-none : (s : Setting) (e : Device) → startsIn s e cycles ≡ []
+  identify-starts-none s e = idle-starts s e cycles (all-weaker Unconfirming Idle unconfirming-idle cycles identify-unconfirming)

@@ -28,7 +28,7 @@ use Rattle.progress.specs.Steps.{eraseOn, programOn}
 use Rattle.request.specs.Call.{stopAnswer, callLine}
 use Rattle.fill.specs.Fill.{mainOf, mainRead, pageFilled, pagesFilled, tableMain, dataSource, isGiven}
 use Rattle.fill_tables.specs.Tables.{afterFill, tryBlock, tryTable, tablesFilled}
-use Rattle.write_changes.specs.Changes.{writeUpdate, afterTry, copyTried, copiesFilled, thenTable, changeRun}
+use Rattle.write_changes.specs.Changes.{writeUpdate, afterTry, copyTried, copiesFilled, thenTable, changeCall}
 use mathlib.Core.Bool.{cond}
 use Rattle.bus_polling.specs.declared.Outcome.the-variants.{Passed}
 use Rattle.recovery_cycles.specs.Starts.{takes, givesFailed, failsNext, Start, startsAt, startsIn}
@@ -54,7 +54,7 @@ told t = t .code ∷ blockAt small (t .chip .interface) ∷ cond (t .failed) 1 0
 
 -- page 0 of logical block 0 takes A5h: an erase of block 2, which fails, the fill of block 3 with three pages kept from block 1,
 -- and a table in block 1
-write-starts : map told (startsIn call (callLine chip 10000 .chip) (changeRun call state (writeUpdate state 0 0 (replicate 32 165)) (progress (callLine chip 10000) Passed [] []) .progress .cycles))
+write-starts : map told (startsIn call (callLine chip 10000 .chip) (changeCall call chip 10000 state (writeUpdate state 0 0 (replicate 32 165)) .progress .cycles))
     ≡ (208 ∷ 2 ∷ 1 ∷ []) ∷ (208 ∷ 3 ∷ 0 ∷ []) ∷ (16 ∷ 3 ∷ 0 ∷ []) ∷ (48 ∷ 1 ∷ 0 ∷ []) ∷ (16 ∷ 3 ∷ 0 ∷ []) ∷ (48 ∷ 1 ∷ 0 ∷ []) ∷ (16 ∷ 3 ∷ 0 ∷ []) ∷ (48 ∷ 1 ∷ 0 ∷ []) ∷ (16 ∷ 3 ∷ 0 ∷ [])
     ∷ (208 ∷ 1 ∷ 0 ∷ []) ∷ (16 ∷ 1 ∷ 0 ∷ []) ∷ (16 ∷ 1 ∷ 0 ∷ []) ∷ (16 ∷ 1 ∷ 0 ∷ []) ∷ (16 ∷ 1 ∷ 0 ∷ []) ∷ []
 unfolding ones begun statusMode readMode plainCommand addressFits latched addressed fateWord nextFate started statusByte fitting readStarted programStarted eraseStarted completed isConfirm confirmed confirmable commanded dataTaken dataGiven dataByte finished statusRead exec programmed weakened raised put mayGo cutAfter send byteOut sendAll sent goesOn waiting polls outcomeOf isPassed endedAs readCycles readOutcome putOut readOutputs startedBy readOn stopAnswer isSilent isCut bitAt withBit zeroBits numberWidth bytesOf numberOf labelBytes encoded kindOf eraseOn programOn isFailed mainOf mainRead pageFilled pagesFilled tableMain permitted searchAfter afterFill tryBlock tryTable tablesFilled table.tablePage isDataKind isTableKind copyBits copyTried afterTry copiesFilled thenTable dataSource isGiven statusShown takes givesFailed failsNext startsAt startsIn

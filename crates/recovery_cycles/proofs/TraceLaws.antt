@@ -29,7 +29,7 @@ use Rattle.mount.specs.Mount.{mountRun}
 use Rattle.mount_laws.proofs.MountingLaws.{mount-keeps}
 use Rattle.format.specs.Format.{formatRun}
 use Rattle.format_laws.proofs.FormattingLaws.{format-keeps}
-use Rattle.write_changes.specs.Changes.{Update, changeRun}
+use Rattle.write_changes.specs.Changes.{Update, changeCall}
 use Rattle.write_changes.proofs.KeepLaws.{change-keeps}
 use Rattle.damage.proofs.ReplayLaws.{Leads, leads-first, leads-kept}
 use Rattle.recovery_cycles.specs.Starts.{Start, failsNext, startsIn, kindOf, Traced, TracedFrom}
@@ -202,7 +202,7 @@ module _ (s : Setting) (d : Device) (n : ℕ) where
   unfolding startsIn Traced
   begun = (leads-first s (callLine d n), tt)
 
-  pub change-traced : (st : State) (u : Update) → TracedFrom s (callLine d n .chip) (changeRun s st u (progress (callLine d n) Passed [] []) .progress)
+  pub change-traced : (st : State) (u : Update) → TracedFrom s (callLine d n .chip) (changeCall s d n st u .progress)
   change-traced st u =
       change-keeps s _ (traced-kept s (callLine d n .chip)) st u (progress (callLine d n) Passed [] []) begun .1
 

@@ -4,26 +4,17 @@ use mathlib.Core.Bool.{Bool, true, false, cond}
 use mathlib.Core.List.{List, [], _∷_, _++_}
 use mathlib.Core.Path.{_≡_}
 use lib.Dec.{eqb}
-use lib.ListN.{getD}
 use Rattle.geometry.specs.declared.Geometry.{Geometry}
 use Rattle.chip_array.specs.Device.{Device, Setting, blockAt}
 use Rattle.chip.specs.Chip.{Cycle}
 use Rattle.chip.specs.Chip.Cycle.{command}
 use Rattle.bus.specs.Line.{run}
-use Rattle.bus_polling.specs.declared.Outcome.the-variants.{Passed}
-use Rattle.progress.specs.Progress.{progress}
 use Rattle.copies.specs.Blocks.{blockIn}
 use Rattle.copies.specs.Current.{currentTable}
 use Rattle.copies.specs.Pick.{at}
 use Rattle.copies.specs.Table.{lists}
-use Rattle.state.specs.State.{none}
-use Rattle.request.specs.Call.{sizedFor, callLine}
-use Rattle.request_refusals.specs.Refusals.{refusalOf}
-use Rattle.read_page.specs.Fetching.{pageProgress}
-use Rattle.mount.specs.Mount.{mountRun}
-use Rattle.identify.specs.Ends.{identifyCycles}
-use Rattle.write_changes.specs.Changes.{writeUpdate, eraseUpdate, changeRun, eraseRefusal}
-use Rattle.recovery.specs.Calls.{Lent, Call, toMount, toRead, toWrite, toErase, toIdentify, Typed, Store, settingOf, traceOf}
+use Rattle.recovery.specs.Calls.{Call, Typed, Store, settingOf, cyclesOf, traceOf}
+use Rattle.recovery_proof.specs.Sent.{lentFor, chipFor}
 use Rattle.damage.specs.Run.{failedIn}
 use Rattle.recovery_cycles.specs.Starts.{Start, startsIn, failedRead, Changes, TracesEach}
 
@@ -48,37 +39,7 @@ SparesEach s marked failed d cycles =
     (xs ys : List Cycle) (code : ℕ) → cycles ≡ xs ++ (command code ∷ ys) → Changes code
     → NamesGood (s .geometry) marked (λ b. cond (failed b) true (failedRead (s .geometry) b (startsIn s d xs))) (run s d xs)
 
--- the cycles that a call sends, none where it is refused
-unfoldable pub cyclesOf : Geometry → Call → Store → List Cycle
-cyclesOf g (toMount a) y =
-    cond (sizedFor (settingOf g a) (y .chip)) (mountRun (settingOf g a) (callLine (y .chip) (a .allowed)) .cycles) []
-cyclesOf g (toRead a logical page buffer) y =
-    cond (eqb (refusalOf (settingOf g a) (y .chip) (y .state) logical page buffer) 0)
-    (cond (eqb (getD (y .state .map) logical 0) none) []
-    (pageProgress (settingOf g a) (y .chip) (a .allowed) (getD (y .state .map) logical 0) page .cycles))
-    []
-cyclesOf g (toWrite a logical page bytes) y =
-    cond (eqb (refusalOf (settingOf g a) (y .chip) (y .state) logical page bytes) 0)
-    (changeRun (settingOf g a) (y .state) (writeUpdate (y .state) logical page bytes) (progress (callLine (y .chip) (a .allowed)) Passed [] []) .progress .cycles)
-    []
-cyclesOf g (toErase a logical) y =
-    cond (eqb (eraseRefusal (settingOf g a) (y .chip) (y .state) logical) 0)
-    (changeRun (settingOf g a) (y .state) (eraseUpdate logical) (progress (callLine (y .chip) (a .allowed)) Passed [] []) .progress .cycles)
-    []
-cyclesOf g (toIdentify a parameters logical) y =
-    identifyCycles (a .mask) (a .fates) (y .chip) (a .allowed) parameters
-
-abbrev pub lentFor : Call → Lent
-lentFor (toMount a) = a
-lentFor (toRead a logical page buffer) = a
-lentFor (toWrite a logical page bytes) = a
-lentFor (toErase a logical) = a
-lentFor (toIdentify a parameters logical) = a
-
--- the chip on which it begins, and the confirm cycles that it sends
-abbrev pub chipFor : Call → Store → Device
-chipFor c y = callLine (y .chip) (lentFor c .allowed) .chip
-
+-- the confirm cycles that a call sends
 abbrev pub startsOf : Geometry → Call → Store → List Start
 startsOf g c y = startsIn (settingOf g (lentFor c)) (chipFor c y) (cyclesOf g c y)
 

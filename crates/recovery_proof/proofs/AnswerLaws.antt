@@ -1,22 +1,21 @@
--- How calls after every list are answered, so that no premise of the laws of lists is empty, and the cycles of writes and erases.
--- Assumes nothing but the laws named.
+-- How calls after every list are answered, so that no premise of the laws of lists is empty. Assumes nothing but the laws named.
 use mathlib.Core.Bool.{true}
 use mathlib.Core.Path.{_≡_, _∙_}
 use Rattle.geometry.specs.declared.Geometry.{Geometry}
 use Rattle.bools.proofs.BoolLaws.{clash}
 use Rattle.mount_laws.proofs.MountingLaws.{mount-unsized, mount-heard}
 use Rattle.state.specs.State.{mounted}
-use Rattle.recovery.specs.Calls.{Call, toMount, toRead, toWrite, toErase, toIdentify, Typed, Store, settingOf, afterMount, step}
+use Rattle.request.specs.Call.{resultOf}
+use Rattle.recovery.specs.Calls.{Call, toMount, toRead, toWrite, toErase, toIdentify, Typed, Store, settingOf, answerOf, step}
 use Rattle.recovery.specs.Recovery.{Always}
 use Rattle.recovery_proof.specs.Answers.{RightlyCalled, ComesBack, ReadsAnswered, WritesAnswered, ErasesAnswered}
-use Rattle.recovery_proof.specs.Cycles.{WritesSent, ErasesSent}
-use Rattle.recovery_proof.specs.Acknowledged.{answerOf, OfMounted, DoneReads}
+use Rattle.recovery_proof.specs.Acknowledged.{OfMounted, DoneReads}
 use Rattle.recovery_proof.specs.Invariant.{Inv}
 use Rattle.recovery_proof.proofs.InvariantLaws.{fit-sizes}
 use Rattle.recovery_proof.proofs.MountSteps.{mount-mounted}
 use Rattle.recovery_proof.proofs.ReadSteps.{read-mounted, reads-back, read-told}
 use Rattle.recovery_proof.proofs.IdentifySteps.{identify-mounted}
-use Rattle.recovery_proof.proofs.ChangeSteps.{write-answers, write-sent, write-mounted, erase-answers, erase-sent, erase-mounted}
+use Rattle.recovery_proof.proofs.ChangeSteps.{write-answers, write-mounted, erase-answers, erase-mounted}
 use Rattle.recovery_proof.proofs.RecoveryLaws.{step-inv, by-inv}
 
 pub rightly-called : Always RightlyCalled
@@ -45,18 +44,9 @@ pub erases-answered : Always ErasesAnswered
 erases-answered =
     by-inv ErasesAnswered (λ g y i a logical m. erase-answers g y i a m logical)
 
-pub writes-sent : Always WritesSent
-writes-sent =
-    by-inv WritesSent
-    (λ g y i a logical page bytes m b. write-sent g y i a m logical page bytes b)
-
-pub erases-sent : Always ErasesSent
-erases-sent =
-    by-inv ErasesSent (λ g y i a logical m. erase-sent g y i a m logical)
-
 -- a call answered 0 leaves a state that counts as mounted, or left it so
 done-mounted : (g : Geometry) (y : Store) → Inv g y → (c : Call) → Typed c → OfMounted g c y → answerOf g c y ≡ 0 → mounted (step g c y .state) (g .blocks) (g .logical) ≡ true
-unfolding step afterMount answerOf
+unfolding resultOf step
 done-mounted g y i (toMount a) t m z = mount-mounted g y i a z
 done-mounted g y i (toRead a logical page buffer) t m z = read-mounted g y i a logical page buffer z
 done-mounted g y i (toWrite a logical page bytes) t m z = write-mounted g y i a (t .0) logical page bytes (t .1) z

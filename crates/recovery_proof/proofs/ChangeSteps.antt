@@ -2,7 +2,7 @@
 use Prim.Native.Nat.{ℕ, _<_}
 use mathlib.Core.Bool.{Bool, true, false, cond}
 use mathlib.Core.List.{List, []}
-use mathlib.Core.Logic.{inr}
+use mathlib.Core.Logic.{inl, inr}
 use mathlib.Core.Option.{some}
 use mathlib.Core.Path.{_≡_, refl, sym, ap, subst, _∙_}
 use native.Mathlib.Omega.{arith}
@@ -14,22 +14,21 @@ use Rattle.geometry.specs.declared.Geometry.{Geometry}
 use Rattle.cells.specs.Bytes.{Bytes}
 use Rattle.chip_array.specs.Device.{Setting, lengthsFit}
 use Rattle.chip_laws.proofs.LengthLaws.{lengths-fit}
-use Rattle.bus_polling.specs.declared.Outcome.the-variants.{Passed}
 use Rattle.operations.specs.Ends.{Called}
 use Rattle.operations.specs.Trace.{ArrayOperation}
-use Rattle.progress.specs.Progress.{progress}
 use Rattle.copies.specs.Current.{reading}
 use Rattle.state.specs.State.{mounted}
 use Rattle.state.specs.declared.State.{State}
-use Rattle.request.specs.Call.{Result, result, sizedFor, callLine}
+use Rattle.request.specs.Call.{Result, result, Performed, unsent, sizedFor, callLine, resultOf, sentIn, startedIn}
 use Rattle.request.proofs.CallLaws.{sizes}
 use Rattle.request_refusals.specs.Refusals.{refusal, refusalOf}
 use Rattle.request_refusals.proofs.RefusalLaws.{by-refusal, accepts}
 use Rattle.fill_tables.specs.Tables.{Tabled}
-use Rattle.write_changes.specs.Changes.{writeUpdate, eraseUpdate, changeRun, changing, writing, eraseRefusal, erasingLogical}
+use Rattle.write_changes.specs.Changes.{changeCall, changing, changeRequest, writeRequest, eraseRefusal, eraseRequest}
 use Rattle.damage.proofs.ReplayLaws.{replayed}
 use Rattle.recovery.specs.Book.{Book, Same, Change, write, erase, entered, note, Account, account, changed, isUnderWay, settled, fed}
-use Rattle.recovery.specs.Calls.{Lent, toWrite, toErase, Store, store, settingOf, writeOn, eraseOf, traceOf, copyOfNote, failedAfter, afterChange, step}
+use Rattle.recovery.specs.Calls.{Lent, toWrite, toErase, Store, store, settingOf, writeOn, eraseOf, runOf, traceOf, copyOfNote, failedAfter, failedNext, step}
+use Rattle.recovery_proof.specs.Sent.{Sends}
 use Rattle.recovery.specs.Recovery.{Spared}
 use Rattle.write_laws.specs.Changing.{ChangeAnswer, is-done, is-worn, is-spent, is-silent, is-cut}
 use Rattle.recovery_write.specs.Changed.{Agrees, Proper, updateOf, arrayOf, Changed}
@@ -37,9 +36,8 @@ use Rattle.recovery_write.proofs.ChangeLaws.{change-ends}
 use Rattle.recovery_stored.proofs.KnowsLaws.{knows-mounted}
 use Rattle.recovery_proof.specs.Answers as answers
 use Rattle.recovery_proof.specs.Answers.{AnyChangeAnswer, ChangeAnswered, is-geometry, is-address, is-length, is-unmounted}
-use Rattle.recovery_proof.specs.Cycles.{ChangeSent}
 use Rattle.recovery_proof.specs.Invariant.{dueOf, Up, Inv}
-use Rattle.recovery_proof.proofs.InvariantLaws.{up-inv, is-up, failed-none}
+use Rattle.recovery_proof.proofs.InvariantLaws.{up-inv, stopped-unmounted, is-up, failed-none}
 use Rattle.recovery_proof.proofs.SizeLaws.{change-leads, change-counts, change-lengths}
 
 -- the book after a write or an erase, by its answer
@@ -80,13 +78,18 @@ not-done answer is-spent x = refl
 not-done answer is-silent x = refl
 not-done answer is-cut x = refl
 
+-- the store after it
+abbrev afterChange : Geometry → Store → Change → Result → List ArrayOperation → Store
+afterChange g y c r os =
+    store (r .state) (r .chip) (fed g (changed c (r .answer) os) (y .account)) (y .marked) (failedAfter (y .failed) os)
+
 -- a request that is not refused
 module _ (g : Geometry) (y : Store) (i : Inv g y) (u : Up g y) (a : Lent) (mask-bytes : Bytes (a .mask)) (t : sizedFor (settingOf g a) (y .chip) ≡ true) (c : Change) (proper : Proper g c) where
   abbrev s : Setting
   s = settingOf g a
 
   abbrev run : Tabled
-  run = changeRun s (y .state) (updateOf (y .state) c) (progress (callLine (y .chip) (a .allowed)) Passed [] [])
+  run = changeCall s (y .chip) (a .allowed) (y .state) (updateOf (y .state) c)
 
   abbrev os : List ArrayOperation
   os = run .progress .started
@@ -141,7 +144,7 @@ module _ (g : Geometry) (y : Store) (i : Inv g y) (u : Up g y) (a : Lent) (mask-
         table = change-is .table;
         table-is = change-is .table-is;
         reads = subst (λ (n : Account). Same g (reading g (arrayOf run) (change-is .table)) (dueOf g (arrayOf run) n)) (sym next-is) (change-is .reads x);
-        is = inr (change-is .stopped x);
+        is = inr (stopped-unmounted g (run .state) (change-is .stopped x));
       }
 
   pub change-inv : Inv g (afterChange g y c r os)
@@ -157,15 +160,20 @@ record Admitted (g : Geometry) (y : Store) (a : Lent) (c : Change) : Type 0 wher
 -- a request whose refusal is k, 0 for none
 module _ (g : Geometry) (y : Store) (i : Inv g y) (a : Lent) (mask-bytes : Bytes (a .mask)) (c : Change) (k : ℕ) (small : k < 8) (told : AnyChangeAnswer k) (admitted : k ≡ 0 → Admitted g y a c) where
   abbrev whole : Tabled
-  whole = changeRun (settingOf g a) (y .state) (updateOf (y .state) c) (progress (callLine (y .chip) (a .allowed)) Passed [] [])
+  whole = changeCall (settingOf g a) (y .chip) (a .allowed) (y .state) (updateOf (y .state) c)
+
+  abbrev request : Performed Result
+  request =
+      cond (eqb k 0) (changeRequest (settingOf g a) (y .chip) (a .allowed) (y .state) (updateOf (y .state) c)) (unsent (result k (y .state) (y .chip) 0))
 
   abbrev answered : Result
-  answered = cond (eqb k 0) (changing (settingOf g a) (y .chip) (a .allowed) (y .state) (updateOf (y .state) c)) (result k (y .state) (y .chip) 0)
+  answered = resultOf request
 
   abbrev trace : List ArrayOperation
-  trace = cond (eqb k 0) (whole .progress .started) []
+  trace = startedIn request
 
   refused : eqb k 0 ≡ false → afterChange g y c answered trace ≡ y
+  unfolding resultOf startedIn
   refused f =
       rw f (λ j. store (y .state) (y .chip) (fed-refused g c k (y .account) (eqb-false k 0 f) small j) (y .marked) (failed-none (y .failed) j))
 
@@ -177,6 +185,7 @@ module _ (g : Geometry) (y : Store) (i : Inv g y) (a : Lent) (mask-bytes : Bytes
     up = is-up g y i (adm .is-mounted)
 
     accepted : Inv g (afterChange g y c answered trace)
+    unfolding resultOf startedIn
     accepted = rw t (change-inv g y i up a mask-bytes (adm .sizes-fit) c (adm .proper))
 
     ends : Changed (settingOf g a) c (y .account .book) (y .marked) (y .failed) whole
@@ -186,10 +195,11 @@ module _ (g : Geometry) (y : Store) (i : Inv g y) (a : Lent) (mask-bytes : Bytes
   call-step = cases (eqb k 0) accepted (λ f. subst (Inv g) (sym (refused f)) i)
 
   call-spared : Spared g (y .marked) (y .failed) trace
-  unfolding Spared
+  unfolding startedIn Spared
   call-spared = cases (eqb k 0) (λ t. rw t (ends t .spared)) (λ f. rw f tt)
 
   call-answers : ChangeAnswered a answered
+  unfolding resultOf
   call-answers =
       cases (eqb k 0)
       (λ t.
@@ -197,19 +207,23 @@ module _ (g : Geometry) (y : Store) (i : Inv g y) (a : Lent) (mask-bytes : Bytes
       rw t (record { answers = any-answer (e .answers); silent-by = e .silent-by; cut-at = λ z. omega (arith, e .used-up z) }))
       (λ f. rw f (record { answers = told; silent-by = λ z. absurd (omega (arith, z, small)); cut-at = λ z. absurd (omega (arith, z, small)) }))
 
-  call-sent : k ≡ 0 → ChangeSent (settingOf g a) (y .chip) (a .allowed) (y .state) (updateOf (y .state) c) answered
-  call-sent z =
-      let t = eq-eqb k 0 z in
+  call-sent : Sends (settingOf g a) (y .chip) (a .allowed) request
+  unfolding resultOf sentIn
+  call-sent =
       let s = settingOf g a in
       let u = updateOf (y .state) c in
+      cases (eqb k 0)
+      (λ t.
       rw t
       (record {
-        replayed = replayed s (callLine (y .chip) (a .allowed) .chip) (whole .progress) (change-leads s (y .chip) (a .allowed) (y .state) u) (ends t .legal);
-        sent-is = change-counts s (y .chip) (a .allowed) (y .state) u;
-      })
+        leads = inr (replayed s (callLine (y .chip) (a .allowed) .chip) (whole .progress) (change-leads s (y .chip) (a .allowed) (y .state) u) (ends t .legal));
+        counted = change-counts s (y .chip) (a .allowed) (y .state) u;
+      }))
+      (λ f. rw f (record { leads = inl (refl, refl); counted = refl }))
 
   -- answered 0 it leaves a state that counts as mounted
   call-mounted : answered .answer ≡ 0 → mounted (answered .state) (g .blocks) (g .logical) ≡ true
+  unfolding resultOf
   call-mounted =
       cases (eqb k 0)
       (λ t.
@@ -239,23 +253,23 @@ module _ (g : Geometry) (y : Store) (i : Inv g y) (a : Lent) (mask-bytes : Bytes
         record { sizes-fit = x .sizes-fit; is-mounted = x .is-mounted; proper = (x .logical-below, x .page-below, x .buffer-long, are-bytes) }
 
     pub write-step : Inv g (step g (toWrite a logical page bytes) y)
-    unfolding step traceOf writing updateOf
+    unfolding step failedNext writeRequest updateOf
     write-step = call-step g y i a mask-bytes (write logical page bytes) writeRefused write-small write-told write-admitted
 
     pub write-spared : Spared g (y .marked) (y .failed) (traceOf g (toWrite a logical page bytes) y)
-    unfolding traceOf updateOf
+    unfolding writeRequest updateOf
     write-spared = call-spared g y i a mask-bytes (write logical page bytes) writeRefused write-small write-told write-admitted
 
     pub write-answers : ChangeAnswered a (writeOn g a logical page bytes y)
-    unfolding writing updateOf
+    unfolding writeRequest updateOf
     write-answers = call-answers g y i a mask-bytes (write logical page bytes) writeRefused write-small write-told write-admitted
 
-    pub write-sent : writeRefused ≡ 0 → ChangeSent (settingOf g a) (y .chip) (a .allowed) (y .state) (writeUpdate (y .state) logical page bytes) (writeOn g a logical page bytes y)
-    unfolding writing updateOf
+    pub write-sent : Sends (settingOf g a) (y .chip) (a .allowed) (runOf g (toWrite a logical page bytes) y)
+    unfolding writeRequest updateOf
     write-sent = call-sent g y i a mask-bytes (write logical page bytes) writeRefused write-small write-told write-admitted
 
     pub write-mounted : writeOn g a logical page bytes y .answer ≡ 0 → mounted (writeOn g a logical page bytes y .state) (g .blocks) (g .logical) ≡ true
-    unfolding writing updateOf
+    unfolding writeRequest updateOf
     write-mounted = call-mounted g y i a mask-bytes (write logical page bytes) writeRefused write-small write-told write-admitted
 
   module _ (logical : ℕ) where
@@ -274,21 +288,21 @@ module _ (g : Geometry) (y : Store) (i : Inv g y) (a : Lent) (mask-bytes : Bytes
         record { sizes-fit = x .sizes-fit; is-mounted = x .is-mounted; proper = x .logical-below }
 
     pub erase-step : Inv g (step g (toErase a logical) y)
-    unfolding step traceOf erasingLogical updateOf
+    unfolding step failedNext eraseRequest updateOf
     erase-step = call-step g y i a mask-bytes (erase logical) eraseRefused erase-small erase-told erase-admitted
 
     pub erase-spared : Spared g (y .marked) (y .failed) (traceOf g (toErase a logical) y)
-    unfolding traceOf updateOf
+    unfolding eraseRequest updateOf
     erase-spared = call-spared g y i a mask-bytes (erase logical) eraseRefused erase-small erase-told erase-admitted
 
     pub erase-answers : ChangeAnswered a (eraseOf g a logical y)
-    unfolding erasingLogical updateOf
+    unfolding eraseRequest updateOf
     erase-answers = call-answers g y i a mask-bytes (erase logical) eraseRefused erase-small erase-told erase-admitted
 
-    pub erase-sent : eraseRefused ≡ 0 → ChangeSent (settingOf g a) (y .chip) (a .allowed) (y .state) (eraseUpdate logical) (eraseOf g a logical y)
-    unfolding erasingLogical updateOf
+    pub erase-sent : Sends (settingOf g a) (y .chip) (a .allowed) (runOf g (toErase a logical) y)
+    unfolding eraseRequest updateOf
     erase-sent = call-sent g y i a mask-bytes (erase logical) eraseRefused erase-small erase-told erase-admitted
 
     pub erase-mounted : eraseOf g a logical y .answer ≡ 0 → mounted (eraseOf g a logical y .state) (g .blocks) (g .logical) ≡ true
-    unfolding erasingLogical updateOf
+    unfolding eraseRequest updateOf
     erase-mounted = call-mounted g y i a mask-bytes (erase logical) eraseRefused erase-small erase-told erase-admitted

@@ -51,9 +51,9 @@ up-inv g y f m u =
       is = inl u;
     }
 
--- a state stopped by a call that changed neither array nor book
-pub stopped-inv : (g : Geometry) (y : Store) → Inv g y → (z : Store) → lengthsFit g (z .chip) ≡ true → z .chip .array ≡ y .chip .array → z .account ≡ y .account → z .marked ≡ y .marked → z .state ≡ blank 2 → Inv g z
-stopped-inv g y i z f a b m s =
+-- a state that does not count as mounted, where neither array nor book changed
+pub unmounted-inv : (g : Geometry) (y : Store) → Inv g y → (z : Store) → lengthsFit g (z .chip) ≡ true → z .chip .array ≡ y .chip .array → z .account ≡ y .account → z .marked ≡ y .marked → mounted (z .state) (g .blocks) (g .logical) ≡ false → Inv g z
+unmounted-inv g y i z f a b m s =
     record {
       fits = f;
       marks = λ k h. ap (λ (x : List ℕ). isMarked g (blockIn g x k)) a ∙ i .marks k h ∙ sym (ap (λ (x : ℕ → Bool). x k) m);
@@ -65,22 +65,25 @@ stopped-inv g y i z f a b m s =
       is = inr s;
     }
 
+-- a stopped state does not count as mounted
+pub stopped-unmounted : (g : Geometry) (st : State) → st ≡ blank 2 → mounted st (g .blocks) (g .logical) ≡ false
+unfolding mounted
+stopped-unmounted g st e = ap (λ (x : State). mounted x (g .blocks) (g .logical)) e
+
+pub stopped-inv : (g : Geometry) (y : Store) → Inv g y → (z : Store) → lengthsFit g (z .chip) ≡ true → z .chip .array ≡ y .chip .array → z .account ≡ y .account → z .marked ≡ y .marked → z .state ≡ blank 2 → Inv g z
+stopped-inv g y i z f a b m s = unmounted-inv g y i z f a b m (stopped-unmounted g (z .state) s)
+
 -- a mounted state that goes with the same array
 pub agrees-moved : {g : Geometry} {array array' : List ℕ} {st st' : State} {book : Book} {f f' : ℕ → Bool} → array' ≡ array → st' ≡ st → f' ≡ f → Agrees g array st book f → Agrees g array' st' book f'
 agrees-moved {g} {array} {array'} {st} {st'} {book} {f} {f'} a s e x =
     subst (λ (q : List ℕ). Agrees g q st' book f') (sym a)
     (subst (λ (q : State). Agrees g array q book f') (sym s) (subst (λ (q : ℕ → Bool). Agrees g array st book q) (sym e) x))
 
--- a stopped state does not count as mounted
-stopped-unmounted : (blocks logical : ℕ) → mounted (blank 2) blocks logical ≡ false
-unfolding mounted
-stopped-unmounted blocks logical = refl
-
--- so a store on which a call is accepted is mounted
+-- a store on which a call is accepted is mounted
 pub is-up : (g : Geometry) (y : Store) → Inv g y → mounted (y .state) (g .blocks) (g .logical) ≡ true → Up g y
 is-up g y i m =
     ⊎-elim (λ u. u)
-    (λ e. absurd (false≢true (sym (ap (λ (x : State). mounted x (g .blocks) (g .logical)) e ∙ stopped-unmounted (g .blocks) (g .logical)) ∙ m)))
+    (λ e. absurd (false≢true (sym e ∙ m)))
     (i .is)
 
 -- no operation, no failure

@@ -9,4 +9,5 @@ pub mod ReadOnlyLaws
 pub mod MountReads
 pub mod RecoveryLaws
 pub mod AnswerLaws
+pub mod SentLaws
 pub mod ToldLaws

@@ -13,17 +13,17 @@ use Rattle.chip_interface.specs.Interface.{fateWord}
 use Rattle.chip_array.specs.Device.{Setting, setting}
 use Rattle.copies.specs.Current.{reading}
 use Rattle.request.specs.Call.{Result, sizedFor}
-use Rattle.mount_laws.proofs.MountingLaws.{mount-refused}
+use Rattle.mount_laws.proofs.MountingLaws.{mount-ends, mount-refused}
 use Rattle.read.proofs.ReadingLaws.{Gives}
 use Rattle.request_laws.specs.Reads.{ReadsAs, MountRead}
 use Rattle.request_laws.proofs.JoinedLaws.{mount-then-read}
-use Rattle.recovery.specs.Book.{Book, Same, Note, entered, settled}
+use Rattle.recovery.specs.Book.{Book, Same, Note, Account, entered, settled, fed}
 use Rattle.recovery.specs.Copy.{hasCopy}
-use Rattle.recovery.specs.Calls.{Lent, Store, underWay, settingOf, mountOn, copyOfNote}
+use Rattle.recovery.specs.Calls.{Lent, Store, underWay, settingOf, mountOn, copyOfNote, mountEntry}
 use Rattle.recovery.specs.Recovery.{plainRead, readingBy, Unaffected, none-under-way, no-copy, no-byte, Recovered}
 use Rattle.recovery_proof.specs.Invariant.{dueOf, Inv}
 use Rattle.recovery_proof.proofs.InvariantLaws.{due-quiet}
-use Rattle.recovery_proof.proofs.MountSteps.{same-at, mount-done}
+use Rattle.recovery_proof.proofs.MountSteps.{same-at, fed-done, mount-done}
 
 -- the note of a store, by its cases
 by-note : {P : Type 0} (o : Option Note) → (o ≡ none → P) → ((t : Note) → o ≡ some t → P) → P
@@ -107,6 +107,13 @@ module _ (g : Geometry) (y : Store) (i : Inv g y) (a : Lent) (x₁ : mountOn g a
   affected t e x =
       cases (hasCopy g array (t .started)) (λ c. due-is (due-entered g y t e c)) (λ c. absurd (x (no-copy t e c)))
 
+  -- and the book that it leaves
+  leaves-due : Same g (readingBy g r) (fed g (mountEntry g y r) (y .account) .book)
+  leaves-due =
+      due-is
+      (ap (λ (x : List ℕ). dueOf g x (y .account)) (sym (mount-ends s (y .chip) (a .allowed) fits (y .state) .same-array))
+      ∙ sym (ap (λ (x : Account). x .book) (fed-done g (r .answer) (copyOfNote g (r .chip .array) (underWay y)) (y .account) done)))
+
   pub inv-recovered : Recovered g y r
   inv-recovered =
       record {
@@ -114,6 +121,7 @@ module _ (g : Geometry) (y : Store) (i : Inv g y) (a : Lent) (x₁ : mountOn g a
         heard = λ l p h k. plain-gives l p h k .done;
         equal = (equal-so, so-equal);
         otherwise = affected;
+        leaves = leaves-due;
         any-read = λ b l p buffer h k mask-long buffer-long x x'.
             let gives = joined .reads (b .mask) (b .fates) (b .allowed) l p buffer mask-long h k buffer-long .gives x x' in
             (gives .done, gives .bytes-are ∙ sym (plain-gives l p h k .bytes-are));

@@ -1,7 +1,7 @@
 -- A mount after a list: the invariant is kept, and the mount is answered 0 unless it is refused, silent or cut. Assumes nothing but
 -- the law named.
 use Prim.Native.Nat.{ℕ}
-use mathlib.Core.Bool.{Bool, true, false, cond, false≢true}
+use mathlib.Core.Bool.{Bool, true, false, false≢true}
 use mathlib.Core.List.{List}
 use mathlib.Core.Logic.{_⊎_, inl, inr}
 use mathlib.Core.Option.{Option, none, some}
@@ -16,8 +16,8 @@ use Rattle.operations.specs.Trace.{ArrayOperation}
 use Rattle.copies.specs.Pick.{at}
 use Rattle.copies.specs.Current.{currentTable, mountAnswer, reading}
 use Rattle.state.specs.State as state
-use Rattle.request.specs.Call.{Result, sizedFor}
-use Rattle.mount.specs.Mount.{mountedState, stateAfter, mounting}
+use Rattle.request.specs.Call.{Result, sizedFor, resultOf, startedIn}
+use Rattle.mount.specs.Mount.{mountedState, stateAfter, mountRequest}
 use Rattle.mount_laws.specs.Mounting.{Mounting}
 use Rattle.mount_laws.proofs.MountingLaws.{mount-ends, mount-refused}
 use Rattle.recovery_stored.specs.Stored.{Stored}
@@ -25,7 +25,7 @@ use Rattle.recovery_stored.specs.Knows.{Knows}
 use Rattle.recovery_stored.proofs.KnowsLaws.{mounted-knows}
 use Rattle.copies.specs.Blocks.{blockIn, isMarked}
 use Rattle.recovery.specs.Book.{Book, Same, Note, Account, mounted, settled, fed}
-use Rattle.recovery.specs.Calls.{Lent, toMount, Store, store, underWay, settingOf, mountOn, traceOf, copyOfNote, failedAfter, afterMount, step}
+use Rattle.recovery.specs.Calls.{Lent, toMount, Store, store, underWay, settingOf, mountOn, traceOf, copyOfNote, mountEntry, failedNext, step}
 use Rattle.recovery_write.specs.Changed.{Agrees}
 use Rattle.recovery_proof.specs.Invariant.{dueOf, Inv}
 use Rattle.recovery_proof.proofs.InvariantLaws.{sizes-fit, up-inv, stopped-inv, failed-none}
@@ -40,7 +40,7 @@ settled-none g copy none b = refl
 settled-none g copy (some t) b = refl
 
 -- the book after a mount, by its answer
-fed-done : (g : Geometry) (answer : ℕ) (copy : Bool) (y : Account) → answer ≡ 0 → fed g (mounted answer copy) y ≡ settled g copy (y .noted) (y .book)
+pub fed-done : (g : Geometry) (answer : ℕ) (copy : Bool) (y : Account) → answer ≡ 0 → fed g (mounted answer copy) y ≡ settled g copy (y .noted) (y .book)
 unfolding fed
 fed-done g answer copy y z = rw (eq-eqb answer 0 z)
 
@@ -59,7 +59,7 @@ module _ (g : Geometry) (y : Store) (i : Inv g y) (a : Lent) where
   array = y .chip .array
 
   refused : sizedFor s (y .chip) ≡ false → step g (toMount a) y ≡ y
-  unfolding step afterMount traceOf mounting fed
+  unfolding resultOf startedIn step mountRequest fed failedNext
   refused f = rw f (ap (store (y .state) (y .chip) (y .account) (y .marked)) (failed-none (y .failed)))
 
   module _ (t : sizedFor s (y .chip) ≡ true) where
@@ -71,7 +71,7 @@ module _ (g : Geometry) (y : Store) (i : Inv g y) (a : Lent) where
     mount-done x x' = m .answer-is x x' ∙ i .stored .mounts
 
     stops : (r .answer ≡ 10) ⊎ (r .answer ≡ 11) → (r .answer ≡ 0 → ⊥) → Inv g (step g (toMount a) y)
-    unfolding step afterMount
+    unfolding step
     stops x z =
         stopped-inv g y i (step g (toMount a) y) (sizes-fit s (r .chip) (m .sizes-kept)) (m .same-array) (fed-other g (r .answer) _ (y .account) z) refl
         (m .stops x)
@@ -94,15 +94,16 @@ module _ (g : Geometry) (y : Store) (i : Inv g y) (a : Lent) where
       reads-due = subst (λ (x : List ℕ). Same g (reading g x (i .table)) (dueOf g x (y .account))) (sym (m .same-array)) (i .reads)
 
       abbrev next : Account
-      next = fed g (mounted (r .answer) (copyOfNote g (r .chip .array) (underWay y))) (y .account)
+      next = fed g (mountEntry g y r) (y .account)
 
       next-is : next ≡ settled g (copyOfNote g (r .chip .array) (underWay y)) (underWay y) (y .account .book)
       next-is = fed-done g (r .answer) (copyOfNote g (r .chip .array) (underWay y)) (y .account) z
 
-      cleared : (os : List ArrayOperation) (b : ℕ) → cond (eqb (r .answer) 0) (λ (k : ℕ). false) (failedAfter (y .failed) os) b ≡ false
+      cleared : (os : List ArrayOperation) (b : ℕ) → failedNext (mountEntry g y r) (y .failed) os b ≡ false
+      unfolding failedNext
       cleared os b = rw (eq-eqb (r .answer) 0 z)
 
-      agrees : (os : List ArrayOperation) → Agrees g (r .chip .array) (r .state) (next .book) (cond (eqb (r .answer) 0) (λ b. false) (failedAfter (y .failed) os))
+      agrees : (os : List ArrayOperation) → Agrees g (r .chip .array) (r .state) (next .book) (failedNext (mountEntry g y r) (y .failed) os)
       agrees os =
           record {
             stored = subst (Stored g) (sym (m .same-array)) (i .stored);
@@ -112,7 +113,7 @@ module _ (g : Geometry) (y : Store) (i : Inv g y) (a : Lent) where
           }
 
       mounts : Inv g (step g (toMount a) y)
-      unfolding step afterMount
+      unfolding step
       mounts =
           up-inv g (step g (toMount a) y) (sizes-fit s (r .chip) (m .sizes-kept)) (λ k h. ap (λ (x : List ℕ). isMarked g (blockIn g x k)) (m .same-array) ∙ i .marks k h)
           (record {

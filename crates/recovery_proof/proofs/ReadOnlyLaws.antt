@@ -18,9 +18,10 @@ use Rattle.progress.specs.Progress.{Progress, progress, readOn, resetOn}
 use Rattle.scan_block.specs.Pages.{pagesRead}
 use Rattle.scan.specs.Scan.{blocksRead}
 use Rattle.state.specs.State.{none}
-use Rattle.request.specs.Call.{sizedFor, callLine}
+use Rattle.request.specs.Call.{sizedFor, callLine, startedIn}
 use Rattle.request_refusals.specs.Refusals.{refusalOf}
-use Rattle.mount.specs.Mount.{mountRun}
+use Rattle.read.specs.Reading.{copyRequest, readRequest}
+use Rattle.mount.specs.Mount.{mountRun, mountRequest}
 use Rattle.damage.specs.Touched.{Each}
 use Rattle.damage.proofs.EachLaws.{each-append}
 use Rattle.damage.proofs.TouchLaws.{reads-only}
@@ -57,13 +58,13 @@ module _ (s : Setting) where
 
 module _ (g : Geometry) (y : Store) (a : Lent) where
   pub mount-spared : Spared g (y .marked) (y .failed) (traceOf g (toMount a) y)
-  unfolding traceOf Each
+  unfolding startedIn mountRequest Each
   mount-spared =
       spared-reads g (y .marked) (y .failed) (traceOf g (toMount a) y)
       (cases (sizedFor (settingOf g a) (y .chip)) (λ t. rw t (mount-reads (settingOf g a) (callLine (y .chip) (a .allowed)))) (λ f. rw f tt))
 
   pub read-spared : (logical page : ℕ) (buffer : List ℕ) → Spared g (y .marked) (y .failed) (traceOf g (toRead a logical page buffer) y)
-  unfolding traceOf Each
+  unfolding startedIn readRequest copyRequest Each
   read-spared logical page buffer =
       let s = settingOf g a in
       spared-reads g (y .marked) (y .failed) (traceOf g (toRead a logical page buffer) y)

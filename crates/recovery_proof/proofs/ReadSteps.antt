@@ -16,12 +16,12 @@ use Rattle.operations.specs.Trace.{ArrayOperation}
 use Rattle.copies.specs.Current.{reading}
 use Rattle.state.specs.State as state
 use Rattle.state.specs.declared.State.{State}
-use Rattle.request.specs.Call.{sizedFor, callLine}
+use Rattle.request.specs.Call.{sizedFor, callLine, resultOf, startedIn}
 use Rattle.request.proofs.CallLaws.{answer-stopped}
 use Rattle.request_refusals.specs.Refusals.{refusalOf}
 use Rattle.request_refusals.proofs.RefusalLaws.{Accepted, accepts}
 use Rattle.read_page.specs.Fetching.{ReadResult, pageProgress}
-use Rattle.read.specs.Reading.{readingCopy, readingPage}
+use Rattle.read.specs.Reading.{copyRequest, readRequest}
 use Rattle.read.proofs.ReadingLaws.{request-ends}
 use Rattle.damage.specs.Run.{failedIn}
 use Rattle.damage.proofs.ReplayLaws.{lengths-sized}
@@ -30,7 +30,8 @@ use Rattle.request_laws.specs.Unready.{AnyReadAnswer, of-ready, is-refused}
 use Rattle.request_laws.proofs.PageReadLaws.{reads-as, read-replayed, read-unfailed}
 use Rattle.request_laws.proofs.UnreadyLaws.{read-answers-any, read-255}
 use Rattle.copies.specs.Blocks.{blockIn, isMarked}
-use Rattle.recovery.specs.Calls.{Lent, toRead, Store, store, settingOf, readOf, traceOf, failedAfter, step}
+use Rattle.recovery.specs.Book.{fed}
+use Rattle.recovery.specs.Calls.{Lent, toRead, Store, store, settingOf, readOf, traceOf, failedAfter, failedNext, step}
 use Rattle.recovery_proof.specs.Acknowledged.{ReadsBack}
 use Rattle.recovery_proof.specs.Invariant.{Up, Inv}
 use Rattle.recovery_proof.proofs.InvariantLaws.{sizes-fit, fit-sizes, agrees-moved, is-up, up-inv, stopped-inv, failed-none}
@@ -53,7 +54,7 @@ module _ (g : Geometry) (y : Store) (i : Inv g y) (a : Lent) (logical page : ℕ
   entry = getD (y .state .map) logical 0
 
   refused : unrefused ≡ false → step g (toRead a logical page buffer) y ≡ y
-  unfolding step traceOf readingPage
+  unfolding resultOf startedIn step readRequest fed failedNext
   refused f = rw f (ap (store (y .state) (y .chip) (y .account) (y .marked)) (failed-none (y .failed)))
 
   module _ (t : unrefused ≡ true) where
@@ -65,7 +66,7 @@ module _ (g : Geometry) (y : Store) (i : Inv g y) (a : Lent) (logical page : ℕ
 
     -- without a copy no cycle is sent
     without : eqb entry state.none ≡ true → step g (toRead a logical page buffer) y ≡ y
-    unfolding step traceOf readingPage readingCopy
+    unfolding resultOf startedIn step readRequest copyRequest fed failedNext
     without e = rw (t, e) (ap (store (y .state) (y .chip) (y .account) (y .marked)) (failed-none (y .failed)))
 
     as-read : ReadsAs s (y .chip) (a .allowed) (y .state) (reading g (y .chip .array) (y .state .table) logical page) q
@@ -73,7 +74,7 @@ module _ (g : Geometry) (y : Store) (i : Inv g y) (a : Lent) (logical page : ℕ
 
     module _ (x : entry ≡ state.none → ⊥) where
       trace-is : traceOf g (toRead a logical page buffer) y ≡ pageProgress s (y .chip) (a .allowed) entry page .started
-      unfolding traceOf
+      unfolding startedIn readRequest copyRequest
       trace-is = rw (t, ne-eqb entry state.none x)
 
       still-fits : lengthsFit g (q .returned .chip) ≡ true
@@ -82,7 +83,7 @@ module _ (g : Geometry) (y : Store) (i : Inv g y) (a : Lent) (logical page : ℕ
           (lengths-sized s (read-replayed s (y .chip) (a .allowed) (y .state) logical page buffer acc (up .ready) x .same-lengths) ∙ acc .sizes-fit)
 
       done : q .returned .answer ≡ 0 → Inv g (step g (toRead a logical page buffer) y)
-      unfolding step
+      unfolding resultOf startedIn step fed failedNext
       done z =
           let gives = as-read .gives (λ e. omega (arith, e, z)) (λ e. omega (arith, e, z)) in
           let failed = ap (failedAfter (y .failed)) trace-is ∙ failed-same (y .failed) _ (read-unfailed s (y .chip) (a .allowed) (y .state) logical page buffer acc (up .ready) x) in
@@ -90,7 +91,7 @@ module _ (g : Geometry) (y : Store) (i : Inv g y) (a : Lent) (logical page : ℕ
           (record { agrees = agrees-moved (gives .same-array) (gives .same-state) failed (up .agrees); ready = gives .still-ready; quiet = up .quiet })
 
       stops : (q .returned .answer ≡ 0 → ⊥) → Inv g (step g (toRead a logical page buffer) y)
-      unfolding step
+      unfolding resultOf step fed
       stops z =
           let ends = request-ends s (y .chip) (a .allowed) (y .state) logical page buffer acc (up .ready) x in
           stopped-inv g y i (step g (toRead a logical page buffer) y) still-fits (ends .same-array) refl refl
@@ -115,7 +116,7 @@ module _ (g : Geometry) (y : Store) (i : Inv g y) (a : Lent) (logical page : ℕ
 
   -- a read that is refused is not answered 0
   refused-answer : unrefused ≡ false → q .returned .answer ≡ 0 → ⊥
-  unfolding readingPage
+  unfolding resultOf readRequest
   refused-answer f z = eqb-false (refusalOf s (y .chip) (y .state) logical page buffer) 0 f (rw f at z)
 
   pub read-gives-book : q .returned .answer ≡ 0 → q .buffer ≡ y .account .book logical page

@@ -13,9 +13,9 @@ use Rattle.bus_polling.specs.declared.Outcome.the-variants.{Passed}
 use Rattle.progress.specs.Progress.{progress}
 use Rattle.progress.proofs.CountLaws.{allowance-kept}
 use Rattle.state.specs.declared.State.{State}
-use Rattle.request.specs.Call.{sizedFor, callLine}
+use Rattle.request.specs.Call.{sizedFor, callLine, resultOf}
 use Rattle.request_refusals.specs.Refusals.{refusalOf}
-use Rattle.write_changes.specs.Changes.{Update, changeRun, changing, writing, eraseRefusal, erasingLogical}
+use Rattle.write_changes.specs.Changes.{Update, changeCall, changing, writeRequest, writing, eraseRefusal, eraseRequest, erasingLogical}
 use Rattle.write_changes.proofs.KeepLaws.{change-keeps}
 use Rattle.damage.proofs.ReplayLaws.{Leads, leads-first, leads-kept, lengths-sized}
 
@@ -24,27 +24,27 @@ same d = record { array = refl; register = refl; history = refl }
 
 module _ (s : Setting) (d : Device) (n : ℕ) (st : State) where
   -- the cycles lead to the chip that is left, and are counted
-  pub change-leads : (u : Update) → Leads s (callLine d n .chip) (changeRun s st u (progress (callLine d n) Passed [] []) .progress)
+  pub change-leads : (u : Update) → Leads s (callLine d n .chip) (changeCall s d n st u .progress)
   change-leads u =
       change-keeps s (Leads s (callLine d n .chip)) (leads-kept s (callLine d n .chip)) st u (progress (callLine d n) Passed [] []) (leads-first s (callLine d n))
 
-  pub change-counts : (u : Update) → changing s d n st u .sent ≡ length (changeRun s st u (progress (callLine d n) Passed [] []) .progress .cycles)
+  pub change-counts : (u : Update) → changing s d n st u .sent ≡ length (changeCall s d n st u .progress .cycles)
   change-counts u =
       omega (arith, change-keeps s _ (allowance-kept s n) st u (progress (callLine d n) Passed [] []) (omega arith))
 
   pub change-lengths : (u : Update) → SameLengths d (changing s d n st u .chip)
   change-lengths u =
-      let run = changeRun s st u (progress (callLine d n) Passed [] []) in
+      let run = changeCall s d n st u in
       let l = subst (SameLengths (callLine d n .chip)) (change-leads u) (run-lengths s (callLine d n .chip) (run .progress .cycles)) in
       record { array = l .array; register = l .register; history = l .history }
 
   write-lengths : (logical page : ℕ) (bytes : List ℕ) → SameLengths d (writing s d n st logical page bytes .chip)
-  unfolding writing
+  unfolding resultOf writeRequest
   write-lengths logical page bytes =
       cases (eqb (refusalOf s d st logical page bytes) 0) (λ t. rw t (change-lengths _)) (λ f. rw f (same d))
 
   erase-lengths : (logical : ℕ) → SameLengths d (erasingLogical s d n st logical .chip)
-  unfolding erasingLogical
+  unfolding resultOf eraseRequest
   erase-lengths logical =
       cases (eqb (eraseRefusal s d st logical) 0) (λ t. rw t (change-lengths _)) (λ f. rw f (same d))
 

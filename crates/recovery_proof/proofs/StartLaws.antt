@@ -1,7 +1,7 @@
 -- The invariant holds after every acknowledged formatting. Assumes nothing but the law named.
 use Prim.Native.Nat.{ℕ, _<_}
 use mathlib.Core.Bool.{true}
-use mathlib.Core.Path.{_≡_, refl, sym, subst, _∙_}
+use mathlib.Core.Path.{_≡_, refl, sym, ap, subst, _∙_}
 use native.Mathlib.Omega.{arith}
 use borrow.Table.Steps.{cases}
 use Rattle.geometry.specs.declared.Geometry.{Geometry}
@@ -9,8 +9,8 @@ use Rattle.bitmaps.specs.Bitmap.{bitAt}
 use Rattle.cells.specs.Bytes.{Bytes}
 use Rattle.chip_array.specs.Device.{Device, Setting}
 use Rattle.state.specs.declared.State.{State}
-use Rattle.request.specs.Call.{Result, sizedFor}
-use Rattle.format.specs.Format.{formatRun}
+use Rattle.request.specs.Call.{Result, sizedFor, startedIn}
+use Rattle.format.specs.Format.{formatRun, formatRequest}
 use Rattle.format_laws.specs.Formatting.{Formatting, Acknowledged, Formatted}
 use Rattle.format_laws.proofs.FormattingLaws.{format-ends, format-refused}
 use Rattle.damage.specs.Run.{failedIn}
@@ -49,8 +49,12 @@ module _ (g : Geometry) (a : Lent) (d : Device) (st : State) (mask-bytes : Bytes
       subst (Knows g (r .chip .array)) (sym (f .state-is))
       (mounted-knows g (stored .is-valid) (r .chip .array) (stored .array-long) (f .mounts))
 
-  failed-listed : (b : ℕ) → b < g .blocks → failedIn b (formatRun s d (a .allowed) .progress .started) ≡ true → bitAt (r .state .invalid) b ≡ true
-  failed-listed b h e = sym (f .lists-are b h) ∙ sym (ends .lists-failed z b h) ∙ e
+  trace-is : startedIn (formatRequest s d (a .allowed) st) ≡ formatRun s d (a .allowed) .progress .started
+  unfolding startedIn formatRequest
+  trace-is = rw fits
+
+  failed-listed : (b : ℕ) → b < g .blocks → failedIn b (startedIn (formatRequest s d (a .allowed) st)) ≡ true → bitAt (r .state .invalid) b ≡ true
+  failed-listed b h e = sym (f .lists-are b h) ∙ sym (ends .lists-failed z b h) ∙ ap (failedIn b) (sym trace-is) ∙ e
 
   pub start-inv : Inv g (begun g a d st)
   unfolding begun

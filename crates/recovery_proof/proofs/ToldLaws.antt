@@ -14,19 +14,19 @@ use Rattle.chip.specs.Chip.{Cycle}
 use Rattle.chip_laws.proofs.ByteLaws.{run-bytes}
 use Rattle.bus.specs.Line.{run}
 use Rattle.state.specs.declared.State.{State}
-use Rattle.request.specs.Call.{Result, result, callLine, sizedFor}
+use Rattle.request.specs.Call.{Result, result, callLine, sizedFor, resultOf}
 use Rattle.request_refusals.specs.Refusals.{refusalOf}
 use Rattle.request_refusals.proofs.RefusalLaws.{accepts}
-use Rattle.mount.specs.Mount.{mounting}
+use Rattle.mount.specs.Mount.{mountRequest, mounting}
 use Rattle.mount_laws.proofs.MountingLaws.{mount-ends}
 use Rattle.mount_laws.proofs.StateLaws.{map-long}
 use Rattle.format_laws.proofs.FormattingLaws.{format-ends, format-refused}
 use Rattle.request_laws.proofs.UnreadyLaws.{read-array-kept}
-use Rattle.write_changes.specs.Changes.{Update, writeUpdate, eraseUpdate, changing, writing, eraseRefusal, erasingLogical}
+use Rattle.write_changes.specs.Changes.{Update, writeUpdate, eraseUpdate, changing, writeRequest, writing, eraseRefusal, eraseRequest, erasingLogical}
 use Rattle.write_laws.specs.Changing.{InRange}
 use Rattle.write_laws.proofs.ChangingLaws.{write-ends, erase-ends}
 use Rattle.recovery_stored.proofs.KnowsLaws.{knows-bits}
-use Rattle.recovery.specs.Calls.{Lent, Call, toMount, toRead, toWrite, toErase, toIdentify, Typed, AllTyped, Store, settingOf, formatOn, afterMount, step, after, begun}
+use Rattle.recovery.specs.Calls.{Lent, Call, toMount, toRead, toWrite, toErase, toIdentify, Typed, Event, called, powerLost, Possible, AllPossible, Store, settingOf, formatOn, step, unpowered, happens, after, begun}
 use Rattle.recovery_proof.specs.Invariant.{Up, Inv}
 use Rattle.recovery_proof.specs.Told.{AlwaysOfBytes, WritesTold, ErasesTold}
 use Rattle.recovery_proof.proofs.IdentifySteps.{identify-array}
@@ -35,7 +35,7 @@ use Rattle.recovery_proof.proofs.SizeLaws.{change-leads}
 use Rattle.recovery_proof.proofs.RecoveryLaws.{always}
 
 mount-unchanged : (s : Setting) (d : Device) (n : ℕ) (st : State) → sizedFor s d ≡ false → mounting s d n st ≡ result 1 st d 0
-unfolding mounting
+unfolding resultOf mountRequest
 mount-unchanged s d n st f = rw f
 
 -- the array stays bytes: mounts and reads leave it, the cycles of other requests change it as programs and erases do
@@ -57,16 +57,16 @@ module _ (s : Setting) (d : Device) (n : ℕ) (st : State) (h : Bytes (d .array)
     change-bytes u = run-kept _ _ (change-leads s d n st u)
 
     write-bytes : (logical page : ℕ) (bytes : List ℕ) → Bytes (writing s d n st logical page bytes .chip .array)
-    unfolding writing
+    unfolding resultOf writeRequest
     write-bytes logical page bytes =
         cases (eqb (refusalOf s d st logical page bytes) 0) (λ t. rw t (change-bytes (writeUpdate st logical page bytes))) (λ f. rw f h)
 
     erase-bytes : (logical : ℕ) → Bytes (erasingLogical s d n st logical .chip .array)
-    unfolding erasingLogical
+    unfolding resultOf eraseRequest
     erase-bytes logical = cases (eqb (eraseRefusal s d st logical) 0) (λ t. rw t (change-bytes (eraseUpdate logical))) (λ f. rw f h)
 
 step-bytes : (g : Geometry) (c : Call) → Typed c → (y : Store) → Bytes (y .chip .array) → Bytes (step g c y .chip .array)
-unfolding step afterMount
+unfolding resultOf step
 step-bytes g (toMount a) t y h = mount-bytes (settingOf g a) (y .chip) (a .allowed) (y .state) h
 step-bytes g (toRead a logical page buffer) t y h =
     subst Bytes (sym (read-array-kept (settingOf g a) (y .chip) (y .state) logical page buffer (a .allowed) .same-array)) h
@@ -74,10 +74,15 @@ step-bytes g (toWrite a logical page bytes) t y h = write-bytes (settingOf g a) 
 step-bytes g (toErase a logical) t y h = erase-bytes (settingOf g a) (y .chip) (a .allowed) (y .state) h t logical
 step-bytes g (toIdentify a parameters logical) t y h = subst Bytes (sym (identify-array g y a parameters logical)) h
 
-after-bytes : (g : Geometry) (cs : List Call) → AllTyped cs → (y : Store) → Bytes (y .chip .array) → Bytes (after g cs y .chip .array)
-unfolding after AllTyped
+event-bytes : (g : Geometry) (e : Event) → Possible g e → (y : Store) → Bytes (y .chip .array) → Bytes (happens g e y .chip .array)
+unfolding unpowered
+event-bytes g (called c) t y h = step-bytes g c t y h
+event-bytes g (powerLost st register) t y h = h
+
+after-bytes : (g : Geometry) (es : List Event) → AllPossible g es → (y : Store) → Bytes (y .chip .array) → Bytes (after g es y .chip .array)
+unfolding after AllPossible
 after-bytes g [] t y h = h
-after-bytes g (c ∷ cs) t y h = after-bytes g cs (t .1) (step g c y) (step-bytes g c (t .0) y h)
+after-bytes g (e ∷ es) t y h = after-bytes g es (t .1) (happens g e y) (event-bytes g e (t .0) y h)
 
 begun-bytes : (g : Geometry) (a : Lent) (d : Device) (st : State) → Bytes (a .mask) → Bytes (d .array) → formatOn g a d st .answer ≡ 0 → Bytes (begun g a d st .chip .array)
 unfolding begun
@@ -99,8 +104,8 @@ ranged g y u h a mask-bytes =
     }
 
 of-bytes : (P : Geometry → Store → Type 0) → ((g : Geometry) (y : Store) → Inv g y → Bytes (y .chip .array) → P g y) → AlwaysOfBytes P
-of-bytes P f g a d st mask-bytes h z cs t =
-    f g (after g cs (begun g a d st)) (always g a d st mask-bytes z cs t) (after-bytes g cs t (begun g a d st) (begun-bytes g a d st mask-bytes h z))
+of-bytes P f g a d st mask-bytes h z es t =
+    f g (after g es (begun g a d st)) (always g a d st mask-bytes z es t) (after-bytes g es t (begun g a d st) (begun-bytes g a d st mask-bytes h z))
 
 pub writes-told : AlwaysOfBytes WritesTold
 writes-told =

@@ -8,15 +8,7 @@ use Rattle.geometry.specs.declared.Geometry.{Geometry}
 use Rattle.geometry.specs.Sizes.{blockSize}
 use Rattle.state.specs.State.{mounted}
 use Rattle.request_laws.specs.Reads.{ReadsAs}
-use Rattle.recovery.specs.Calls.{Lent, Call, toMount, toRead, toWrite, toErase, toIdentify, Typed, Store, settingOf, mountOn, readOf, writeOn, eraseOf, identifyOf, step}
-
--- the answer of a call on a store
-unfoldable pub answerOf : Geometry → Call → Store → ℕ
-answerOf g (toMount a) y = mountOn g a y .answer
-answerOf g (toRead a logical page buffer) y = readOf g a logical page buffer y .returned .answer
-answerOf g (toWrite a logical page bytes) y = writeOn g a logical page bytes y .answer
-answerOf g (toErase a logical) y = eraseOf g a logical y .answer
-answerOf g (toIdentify a parameters logical) y = identifyOf a parameters logical y .returned .answer
+use Rattle.recovery.specs.Calls.{Lent, Call, toMount, toRead, toWrite, toErase, toIdentify, Typed, Store, settingOf, readOf, answerOf, step}
 
 -- every rightly called read that is neither silent nor cut is answered 0 and gives the book's bytes
 abbrev pub ReadsBack : Geometry → Store → Type 0

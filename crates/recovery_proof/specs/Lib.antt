@@ -1,5 +1,5 @@
 pub mod Invariant
 pub mod Answers
+pub mod Sent
 pub mod Acknowledged
-pub mod Cycles
 pub mod Told

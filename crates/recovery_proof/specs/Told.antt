@@ -9,13 +9,13 @@ use Rattle.state.specs.declared.State.{State}
 use Rattle.request_refusals.specs.Refusals.{refusalOf}
 use Rattle.write_changes.specs.Changes.{writeUpdate, eraseUpdate, eraseRefusal}
 use Rattle.write_laws.specs.Changing.{Changing}
-use Rattle.recovery.specs.Calls.{Lent, Call, AllTyped, Store, settingOf, writeOn, eraseOf, after, formatOn, begun}
+use Rattle.recovery.specs.Calls.{Lent, Event, AllPossible, Store, settingOf, writeOn, eraseOf, after, formatOn, begun}
 
 -- as Always, of a chip that was handed to the formatting as bytes
 abbrev pub AlwaysOfBytes : (Geometry → Store → Type 0) → Type 0
 AlwaysOfBytes P =
     (g : Geometry) (a : Lent) (d : Device) (st : State) → Bytes (a .mask) → Bytes (d .array) → formatOn g a d st .answer ≡ 0
-    → (cs : List Call) → AllTyped cs → P g (after g cs (begun g a d st))
+    → (es : List Event) → AllPossible g es → P g (after g es (begun g a d st))
 
 -- requests that are not refused
 abbrev pub WritesTold : Geometry → Store → Type 0

@@ -16,7 +16,7 @@ use Rattle.progress.specs.Progress.{progress}
 use Rattle.state.specs.State.{blank, heldBits, numbersLeft}
 use Rattle.state.specs.declared.State.{State}
 use Rattle.request.specs.Call.{callLine}
-use Rattle.write_changes.specs.Changes.{Copied, copiesFilled, thenTable, changeRun}
+use Rattle.write_changes.specs.Changes.{Copied, copiesFilled, thenTable, changeRun, changeCall}
 use Rattle.recovery.specs.Book.{Book, Change}
 use Rattle.recovery_write.specs.Changed.{Agrees, MarkedBy, Proper, updateOf, Changed}
 use Rattle.recovery_write.proofs.DataLaws as phase
@@ -42,5 +42,5 @@ module _ (s : Setting) (mask-bytes : Bytes (s .mask)) (first : Line) (called : C
   run-ends = then-ends _ (phase.data-ends s mask-bytes first called st c book marked failed marks agrees proper)
 
 pub change-ends : (s : Setting) (d : Device) (n : ℕ) (st : State) (c : Change) (book : Book) (marked failed : ℕ → Bool) → Bytes (s .mask) → Called s (callLine d n)
-    → MarkedBy (s .geometry) (d .array) marked → Agrees (s .geometry) (d .array) st book failed → Proper (s .geometry) c → Changed s c book marked failed (changeRun s st (updateOf st c) (progress (callLine d n) Passed [] []))
+    → MarkedBy (s .geometry) (d .array) marked → Agrees (s .geometry) (d .array) st book failed → Proper (s .geometry) c → Changed s c book marked failed (changeCall s d n st (updateOf st c))
 change-ends s d n st c book marked failed mask-bytes called marks agrees proper = run-ends s mask-bytes (callLine d n) called st c book marked failed marks agrees proper

@@ -1,15 +1,19 @@
 -- What every request shares: the test of the sizes, the start of a call, and how it is answered.
 use Prim.Native.Nat.{ℕ, _-_}
 use mathlib.Core.Bool.{Bool, false, cond}
+use mathlib.Core.List.{List, []}
 use lib.Dec.{eqb}
 use lib.ListN.{length}
 use Rattle.geometry.specs.declared.Geometry.{Geometry}
 use Rattle.geometry.specs.Sizes.{blockSize}
 use Rattle.chip_interface.specs.declared.Interface.{Interface}
 use Rattle.chip_array.specs.Device.{Device, Setting, fitting, withInterface}
+use Rattle.chip.specs.Chip.{Cycle}
 use Rattle.bus.specs.Line.{Line, uncutLine}
 use Rattle.bus_polling.specs.declared.Outcome.{Outcome}
 use Rattle.bus_polling.specs.Outcomes.{isPassed, isSilent, isCut}
+use Rattle.operations.specs.Trace.{ArrayOperation}
+use Rattle.progress.specs.Progress.{Progress}
 use Rattle.state.specs.State.{blank}
 use Rattle.state.specs.declared.State.{State}
 
@@ -22,6 +26,29 @@ pub record Result : Type 0 where
 
 abbrev pub result : ℕ → State → Device → ℕ → Result
 result a s d n = record { answer = a; state = s; chip = d; sent = n }
+
+-- a request from its call to its end: what it hands back, the cycles that it sent, and the array operations that it started
+pub record Performed (A : Type 0) : Type 0 where
+  pub gives : A
+  pub cycles : List Cycle
+  pub started : List ArrayOperation
+
+unfoldable pub resultOf : {A : Type 0} → Performed A → A
+resultOf r = r .gives
+
+unfoldable pub sentIn : {A : Type 0} → Performed A → List Cycle
+sentIn r = r .cycles
+
+unfoldable pub startedIn : {A : Type 0} → Performed A → List ArrayOperation
+startedIn r = r .started
+
+-- no cycle is sent
+abbrev pub unsent : {A : Type 0} → A → Performed A
+unsent a = record { gives = a; cycles = []; started = [] }
+
+-- all that was sent on the way to p
+abbrev pub performed : {A : Type 0} → A → Progress → Performed A
+performed a p = record { gives = a; cycles = p .cycles; started = p .started }
 
 -- the geometry is valid, and array, register, history and mask are as long as it asks
 unfoldable pub sized : Geometry → ℕ → ℕ → ℕ → ℕ → Bool

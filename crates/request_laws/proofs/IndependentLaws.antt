@@ -24,9 +24,9 @@ use Rattle.request.specs.Call.{Result, sized, sizedFor, callLine, stopAnswer, e
 use Rattle.request.specs.Start.{startLine, startRun, started}
 use Rattle.request.proofs.StartLaws.{Stops}
 use Rattle.mount.specs.Mount.{mountEnd, mounting}
-use Rattle.mount.proofs.EndLaws.{mount-stops}
+use Rattle.mount.proofs.EndLaws.{mount-stops, mount-started}
 use Rattle.format.specs.Format.{marksRun, endOfRun, formatting}
-use Rattle.format.proofs.WholeLaws.{format-stops}
+use Rattle.format.proofs.WholeLaws.{format-stops, format-started}
 use Rattle.request_laws.specs.Independent.{SameMemory, SameOutcome}
 
 module _ (s : Setting) where
@@ -122,13 +122,14 @@ module _ (s : Setting) (d e : Device) (same : SameMemory d e) where
       rw (f, u) (record { answer = refl; state = refl; sent = refl; array = same .array; register = same .register; history = same .history }))
 
   pub mount-independent : (n : ℕ) (state : State) → SameOutcome (mounting s d n state) (mounting s e n state)
-  unfolding mounting
   mount-independent n state =
-      start-same n state (λ p. mountEnd s n (blocksRead s (s .geometry .blocks) p)) (mount-stops s n)
+      along (sym (mount-started s d n state)) (sym (mount-started s e n state))
+      (start-same n state (λ p. mountEnd s n (blocksRead s (s .geometry .blocks) p)) (mount-stops s n))
 
   pub format-independent : (n : ℕ) (state : State) → SameOutcome (formatting s d n state) (formatting s e n state)
-  unfolding formatting
-  format-independent n state = start-same n state (λ p. endOfRun n (marksRun s p)) (format-stops s n)
+  format-independent n state =
+      along (sym (format-started s d n state)) (sym (format-started s e n state))
+      (start-same n state (λ p. endOfRun n (marksRun s p)) (format-stops s n))
 
 -- so a chip that was switched on again mounts and formats as the one that was left
 module _ (s : Setting) (d : Device) (n : ℕ) (state : State) where

@@ -14,11 +14,11 @@ use Rattle.operations.specs.Ends.{Lent}
 use Rattle.progress.specs.Progress.{progress}
 use Rattle.state.specs.declared.State.{State}
 use Rattle.state.proofs.MountedLaws.{mounted-facts}
-use Rattle.request.specs.Call.{Result, result, sizedFor, callLine, endAt}
+use Rattle.request.specs.Call.{Result, result, sizedFor, callLine, endAt, resultOf}
 use Rattle.request.proofs.CallLaws.{sizes}
 use Rattle.request_refusals.specs.Refusals.{refusal, refusalOf}
 use Rattle.request_refusals.proofs.RefusalLaws.{Accepted, accepts}
-use Rattle.write_changes.specs.Changes.{Update, eraseUpdate, eraseRefusal, changing, writing, erasingLogical}
+use Rattle.write_changes.specs.Changes.{Update, eraseUpdate, eraseRefusal, changing, writeRequest, writing, eraseRequest, erasingLogical}
 use Rattle.fill_cursor.specs.Cursor.{running}
 use Rattle.fill_cursor.specs.declared.Cursor.{Cursor}
 use Rattle.fill_cursor.specs.declared.Running.{Running}
@@ -72,24 +72,24 @@ module _ (s : Setting) (d : Device) (st : State) (logical page long : ℕ) (none
 
 module _ (s : Setting) (d : Device) (n : ℕ) (st : State) (logical page : ℕ) (bytes : List ℕ) (k : ℕ) (told : k ≡ refusalOf s d st logical page bytes) where
   pub write-refused : {r : Result} → (k ≡ 0 → ⊥) → r ≡ result k st d 0 → r ≡ writing s d n st logical page bytes
-  unfolding writing
+  unfolding resultOf writeRequest
   write-refused x f =
       rw (ne-eqb (refusalOf s d st logical page bytes) 0 (λ z. x (told ∙ z)))
       (f ∙ ap (λ (y : ℕ). result y st d 0) told)
 
   pub write-ends : {r : Result} → k ≡ 0 → (old : ℕ) → old ≡ getD (st .map) logical 0 → r ≡ changing s d n st (update logical old page 1 bytes) → r ≡ writing s d n st logical page bytes
-  unfolding writing
+  unfolding resultOf writeRequest
   write-ends z old e f =
       rw (eq-eqb (refusalOf s d st logical page bytes) 0 (sym told ∙ z))
       (f ∙ ap (λ (b : ℕ). changing s d n st (update logical b page 1 bytes)) e)
 
 module _ (s : Setting) (d : Device) (n : ℕ) (st : State) (logical : ℕ) (k : ℕ) (told : k ≡ eraseRefusal s d st logical) where
   pub erase-refused : {r : Result} → (k ≡ 0 → ⊥) → r ≡ result k st d 0 → r ≡ erasingLogical s d n st logical
-  unfolding erasingLogical
+  unfolding resultOf eraseRequest
   erase-refused x f =
       rw (ne-eqb (eraseRefusal s d st logical) 0 (λ z. x (told ∙ z)))
       (f ∙ ap (λ (y : ℕ). result y st d 0) told)
 
   pub erase-ends : {r : Result} → k ≡ 0 → r ≡ changing s d n st (eraseUpdate logical) → r ≡ erasingLogical s d n st logical
-  unfolding erasingLogical
+  unfolding resultOf eraseRequest
   erase-ends z f = rw (eq-eqb (eraseRefusal s d st logical) 0 (sym told ∙ z)) f

@@ -16,7 +16,7 @@ use Rattle.state.specs.State.{blank, none, nextNumber, numbersLeft, taken, with
 use Rattle.state.specs.declared.State.{State}
 use Rattle.progress.specs.Progress.{Progress, progress}
 use Rattle.progress.specs.Steps.{resumed}
-use Rattle.request.specs.Call.{Result, result, sizedFor, callLine, stopAnswer, endAt}
+use Rattle.request.specs.Call.{Result, result, Performed, resultOf, unsent, performed, sizedFor, callLine, stopAnswer, endAt}
 use Rattle.request_refusals.specs.Refusals.{refusal, refusalOf}
 use Rattle.fill.specs.Fill.{copy, dataSource, filled}
 use Rattle.fill_tables.specs.Tables.{Tabled, tabled, tablesFilled}
@@ -91,21 +91,33 @@ abbrev pub changeRun : Setting → State → Update → Progress → Tabled
 changeRun s st u p = thenTable s (copiesFilled s (heldBits st (s .geometry .logical)) u (numbersLeft st) false st p)
 
 -- a request that is not refused, from the chip handed in; n: the cycles allowed
+abbrev pub changeCall : Setting → Device → ℕ → State → Update → Tabled
+changeCall s d n st u = changeRun s st u (progress (callLine d n) Passed [] [])
+
 abbrev pub changing : Setting → Device → ℕ → State → Update → Result
 changing s d n st u =
-    let t = changeRun s st u (progress (callLine d n) Passed [] []) in endAt n (t .answer) (t .state) (t .progress .line)
+    let t = changeCall s d n st u in endAt n (t .answer) (t .state) (t .progress .line)
+
+abbrev pub changeRequest : Setting → Device → ℕ → State → Update → Performed Result
+changeRequest s d n st u = performed (changing s d n st u) (changeCall s d n st u .progress)
 
 -- the request that writes one page
-unfoldable pub writing : Setting → Device → ℕ → State → ℕ → ℕ → List ℕ → Result
-writing s d n st logical page bytes =
-    cond (eqb (refusalOf s d st logical page bytes) 0) (changing s d n st (writeUpdate st logical page bytes))
-    (result (refusalOf s d st logical page bytes) st d 0)
+unfoldable pub writeRequest : Setting → Device → ℕ → State → ℕ → ℕ → List ℕ → Performed Result
+writeRequest s d n st logical page bytes =
+    cond (eqb (refusalOf s d st logical page bytes) 0) (changeRequest s d n st (writeUpdate st logical page bytes))
+    (unsent (result (refusalOf s d st logical page bytes) st d 0))
 
 -- the request that erases one logical block: it has no page and no buffer, so 2 tests the logical block and 3 never comes
 abbrev pub eraseRefusal : Setting → Device → State → ℕ → ℕ
 eraseRefusal s d st logical = refusal (s .geometry) (sizedFor s d) st logical 0 (s .geometry .main)
 
-unfoldable pub erasingLogical : Setting → Device → ℕ → State → ℕ → Result
-erasingLogical s d n st logical =
-    cond (eqb (eraseRefusal s d st logical) 0) (changing s d n st (eraseUpdate logical))
-    (result (eraseRefusal s d st logical) st d 0)
+unfoldable pub eraseRequest : Setting → Device → ℕ → State → ℕ → Performed Result
+eraseRequest s d n st logical =
+    cond (eqb (eraseRefusal s d st logical) 0) (changeRequest s d n st (eraseUpdate logical))
+    (unsent (result (eraseRefusal s d st logical) st d 0))
+
+abbrev pub writing : Setting → Device → ℕ → State → ℕ → ℕ → List ℕ → Result
+writing s d n st logical page bytes = resultOf (writeRequest s d n st logical page bytes)
+
+abbrev pub erasingLogical : Setting → Device → ℕ → State → ℕ → Result
+erasingLogical s d n st logical = resultOf (eraseRequest s d n st logical)

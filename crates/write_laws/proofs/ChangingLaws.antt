@@ -32,7 +32,7 @@ use Rattle.state.specs.State.{blank, nextNumber, numberEnd, numbersLeft, heldBi
 use Rattle.state.specs.declared.State.{State}
 use Rattle.state.proofs.MountedLaws.{mounted-facts, mounted-holds}
 use Rattle.state.proofs.HeldLaws.{held-entry}
-use Rattle.request.specs.Call.{Result, sizedFor, callLine}
+use Rattle.request.specs.Call.{Result, sizedFor, callLine, resultOf}
 use Rattle.request.proofs.CallLaws.{sizes, stop-least}
 use Rattle.progress.specs.Progress.{Progress}
 use Rattle.progress.specs.Steps.{resumed}
@@ -47,7 +47,7 @@ use Rattle.damage.proofs.TraceLaws.{unfailed-none}
 use Rattle.damage.proofs.FillLaws.{fill-leaves, fill-given}
 use Rattle.damage.proofs.ReplayLaws.{leads-first, leads-kept, replayed, lengths-sized}
 use Rattle.format_laws.proofs.FormatLaws.{count-most}
-use Rattle.write_changes.specs.Changes.{Update, Copied, copied, copyFilled, stoppedAt, thenTable, changing, writeUpdate, eraseUpdate, writing, eraseRefusal, erasingLogical}
+use Rattle.write_changes.specs.Changes.{Update, Copied, copied, copyFilled, stoppedAt, thenTable, changing, writeUpdate, eraseUpdate, writeRequest, writing, eraseRefusal, eraseRequest, erasingLogical}
 use Rattle.write_changes.proofs.KeepLaws.{change-keeps}
 use Rattle.write_changes.proofs.LoopLaws.{Copying, copies-end, Tabling, tables-end}
 use Rattle.write_laws.specs.Changing.{InRange, ChangeAnswer, is-done, is-worn, is-spent, is-silent, is-cut, changeMost, failedCount, newPage, newTable, Holds, firstOf, copiesDone, changeDone, heldLast, Acknowledged, Changing}
@@ -520,7 +520,7 @@ module _ (s : Setting) (d : Device) (n : ℕ) (st : State) (u : Update) (r : Res
 module _ (s : Setting) (d : Device) (n : ℕ) (st : State) (ranged : InRange s d st) (is-ready : d .interface .phase ≤ 2) (logical : ℕ) where
   pub write-ends : (page : ℕ) (bytes : List ℕ) → refusalOf s d st logical page bytes ≡ 0 → Bytes bytes
       → Changing s d n st (writeUpdate st logical page bytes) (writing s d n st logical page bytes)
-  unfolding writing
+  unfolding resultOf writeRequest
   write-ends page bytes z are-bytes =
       let a = accepts (s .geometry) (sizedFor s d) st logical page (length bytes) z in
       rw (eq-eqb (refusalOf s d st logical page bytes) 0 z)
@@ -528,7 +528,7 @@ module _ (s : Setting) (d : Device) (n : ℕ) (st : State) (ranged : InRange s d
       (meant.write-proper (s .geometry) (sized-valid s d (a .sizes-fit)) st logical (a .logical-below) page bytes (a .buffer-long) are-bytes))
 
   pub erase-ends : eraseRefusal s d st logical ≡ 0 → Changing s d n st (eraseUpdate logical) (erasingLogical s d n st logical)
-  unfolding erasingLogical
+  unfolding resultOf eraseRequest
   erase-ends z =
       let a = accepts (s .geometry) (sizedFor s d) st logical 0 (s .geometry .main) z in
       rw (eq-eqb (eraseRefusal s d st logical) 0 z)

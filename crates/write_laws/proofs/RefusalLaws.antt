@@ -13,10 +13,10 @@ use Rattle.chip_array.specs.Device.{Device, Setting}
 use Rattle.state.specs.State.{mounted}
 use Rattle.state.specs.declared.State.{State}
 use Rattle.state.proofs.MountedLaws.{mounted-facts}
-use Rattle.request.specs.Call.{Result, result, sizedFor}
+use Rattle.request.specs.Call.{Result, result, sizedFor, resultOf}
 use Rattle.request_refusals.specs.Refusals.{refusalOf}
 use Rattle.request_refusals.proofs.RefusalLaws.{Accepted, accepts, refused-geometry, refused-unmounted, refused-logical, refused-page, refused-length, only-geometry, only-unmounted, only-address, only-length}
-use Rattle.write_changes.specs.Changes.{Update, changing, writeUpdate, eraseUpdate, writing, eraseRefusal, erasingLogical}
+use Rattle.write_changes.specs.Changes.{Update, changing, writeUpdate, eraseUpdate, writeRequest, writing, eraseRefusal, eraseRequest, erasingLogical}
 use Rattle.write_laws.specs.Changing.{firstOf}
 use Rattle.write_laws.proofs.AnswerLaws.{change-late}
 use Rattle.write_laws.proofs.ChangingLaws.{sized-valid}
@@ -32,7 +32,7 @@ module _ (s : Setting) (d : Device) (n : ℕ) (st : State) (logical page : ℕ) 
   written = writing s d n st logical page bytes
 
   refuses : (k : ℕ) → refusalOf s d st logical page bytes ≡ k → (k ≡ 0 → ⊥) → written ≡ result k st d 0
-  unfolding writing
+  unfolding resultOf writeRequest
   refuses k e x =
       rw (ne-eqb (refusalOf s d st logical page bytes) 0 (λ z. x (sym e ∙ z))) (ap (λ (y : ℕ). result y st d 0) e)
 
@@ -54,7 +54,7 @@ module _ (s : Setting) (d : Device) (n : ℕ) (st : State) (logical page : ℕ) 
 
   -- an answer from 1 to 7 is a refusal, by its number
   pub write-refused : 0 < written .answer → written .answer < 8 → refusalOf s d st logical page bytes ≡ written .answer
-  unfolding writing
+  unfolding resultOf writeRequest
   write-refused h k =
       cases (eqb (refusalOf s d st logical page bytes) 0)
       (λ t.
@@ -106,7 +106,7 @@ module _ (s : Setting) (d : Device) (n : ℕ) (st : State) (logical : ℕ) where
   erased = erasingLogical s d n st logical
 
   refuses-erase : (k : ℕ) → eraseRefusal s d st logical ≡ k → (k ≡ 0 → ⊥) → erased ≡ result k st d 0
-  unfolding erasingLogical
+  unfolding resultOf eraseRequest
   refuses-erase k e x =
       rw (ne-eqb (eraseRefusal s d st logical) 0 (λ z. x (sym e ∙ z))) (ap (λ (y : ℕ). result y st d 0) e)
 
@@ -120,7 +120,7 @@ module _ (s : Setting) (d : Device) (n : ℕ) (st : State) (logical : ℕ) where
   erase-refuses-logical t m h = refuses-erase 2 (refused-logical (s .geometry) (sizedFor s d) st logical 0 (s .geometry .main) t m h) (λ z. omega (arith, z))
 
   pub erase-refused : 0 < erased .answer → erased .answer < 8 → eraseRefusal s d st logical ≡ erased .answer
-  unfolding erasingLogical
+  unfolding resultOf eraseRequest
   erase-refused h k =
       cases (eqb (eraseRefusal s d st logical) 0)
       (λ t.

@@ -30,7 +30,7 @@ use Rattle.state_choose.proofs.ChooseLaws.{by-choice}
 use Rattle.state.specs.State.{blank, nextNumber, numberEnd, numbersLeft, heldBits, mounted}
 use Rattle.state.specs.declared.State.{State}
 use Rattle.state.proofs.MountedLaws.{mounted-facts}
-use Rattle.request.specs.Call.{Result, result, sizedFor, callLine, stopAnswer}
+use Rattle.request.specs.Call.{Result, result, sizedFor, callLine, stopAnswer, resultOf}
 use Rattle.request.proofs.CallLaws.{sizes, stop-least}
 use Rattle.progress.specs.Progress.{Progress, progress}
 use Rattle.progress.specs.Steps.{eraseOn}
@@ -38,7 +38,7 @@ use Rattle.fill.specs.Fill.{copy, dataSource, filled, pagesFilled}
 use Rattle.fill.proofs.FillLaws.{fill-stopped}
 use Rattle.pages.specs.Layout.{dataKind}
 use Rattle.fill_tables.specs.Tables.{Tabled, tabled}
-use Rattle.write_changes.specs.Changes.{Update, Copied, copyFilled, stoppedAt, afterTry, copyTried, copiesFilled, thenTable, changing, writeUpdate, eraseUpdate, writing, eraseRefusal, erasingLogical}
+use Rattle.write_changes.specs.Changes.{Update, Copied, copyFilled, stoppedAt, afterTry, copyTried, copiesFilled, thenTable, changing, writeUpdate, eraseUpdate, writeRequest, writing, eraseRefusal, eraseRequest, erasingLogical}
 use Rattle.write_changes.proofs.LoopLaws.{chosen-permitted, none-permitted}
 use Rattle.request_refusals.specs.Refusals.{refusalOf}
 use Rattle.request_refusals.proofs.RefusalLaws.{Accepted, accepted, by-refusal}
@@ -305,7 +305,7 @@ module _ (s : Setting) (d : Device) (n : ℕ) (st : State) (logical page : ℕ) 
   AcceptedWrite = Accepted (s .geometry) (sizedFor s d) st logical page (length bytes)
 
   accepted-write : AcceptedWrite → written ≡ changing s d n st update
-  unfolding writing
+  unfolding resultOf writeRequest
   accepted-write a = rw (eq-eqb (refusalOf s d st logical page bytes) 0 (accepted (s .geometry) (sizedFor s d) st logical page (length bytes) a))
 
   last-below-write : AcceptedWrite → st .last < s .geometry .blocks
@@ -370,7 +370,7 @@ module _ (s : Setting) (d : Device) (n : ℕ) (st : State) (logical : ℕ) where
   AcceptedErase = Accepted (s .geometry) (sizedFor s d) st logical 0 (s .geometry .main)
 
   accepted-erase : AcceptedErase → erased ≡ changing s d n st (eraseUpdate logical)
-  unfolding erasingLogical
+  unfolding resultOf eraseRequest
   accepted-erase a = rw (eq-eqb (eraseRefusal s d st logical) 0 (accepted (s .geometry) (sizedFor s d) st logical 0 (s .geometry .main) a))
 
   last-below-erase : AcceptedErase → st .last < s .geometry .blocks

@@ -21,7 +21,7 @@ use Rattle.request.specs.Call.{Result, sizedFor, callLine}
 use Rattle.progress.specs.Progress.{Progress, progress}
 use Rattle.fill.specs.Fill.{copy, copyPage, mainOf, dataSource, tableCopy, tableMain}
 use Rattle.fill_tables.specs.Tables.{Tabled}
-use Rattle.write_changes.specs.Changes.{Update, Copied, copiesFilled, changeRun}
+use Rattle.write_changes.specs.Changes.{Update, Copied, copiesFilled, changeCall}
 use Rattle.damage.specs.Replay.{Replayed}
 use Rattle.damage.specs.Run.{failedIn, Slow, fillMost, tableFillMost}
 
@@ -71,7 +71,7 @@ abbrev pub copiesDone : Setting → Device → ℕ → State → Update → Copi
 copiesDone s d n st u = copiesFilled s (heldBits st (s .geometry .logical)) u (numbersLeft st) false st (firstOf d n)
 
 abbrev pub changeDone : Setting → Device → ℕ → State → Update → Tabled
-changeDone s d n st u = changeRun s st u (firstOf d n)
+changeDone s d n st u = changeCall s d n st u
 
 -- the blocks that hold something current: as known at the start, and updated by the data fill if it passed
 abbrev pub heldLast : Setting → State → Copied → List ℕ

@@ -4,8 +4,8 @@ use borrow.Author.Needs.{needs}
 use denote.Ref.{now}
 use Rattle.chip_array.specs.Device.{device, setting}
 use Rattle.request.proofs.StartLaws.{start-called, start-left, refused-is, stopped-is, goes-on}
-use Rattle.format.specs.Format.{endOfRun, marksRun, formatting}
-use Rattle.format.proofs.WholeLaws.{format-stops}
+use Rattle.format.specs.Format.{endOfRun, marksRun}
+use Rattle.format.proofs.WholeLaws.{format-stops, format-started}
 use Rattle.format.proofs.format.Statement.{statement}
 use Rattle.format.proofs.format.Tie as tie
 
@@ -22,13 +22,13 @@ same-length-3 : tie.Need-same-length-3
 same-length-3 c = search needs
 
 returns : tie.Need-returns
-unfolding formatting
 returns c =
     let begun = c .before .before .before .before .before .before .before .before in
     let entry = begun .before .before .before .before .before .before .before .before .before in
     let set = setting (entry .args .g) (now (entry .args .mask)) (now (entry .args .fates)) in
     let d = device (entry .args .interface) (now (entry .args .array)) (now (entry .args .register)) (now (entry .args .history)) in
     refused-is set d (entry .args .allowed) _ _ (begun .start .ensures) (entry .args .state) (λ p. endOfRun (entry .args .allowed) (marksRun set p)) (c .if1 .taken)
+    ∙ format-started set d (entry .args .allowed) (entry .args .state)
 
 blank-requires : tie.Need-blank-requires
 blank-requires c κs = search needs
@@ -52,7 +52,6 @@ same-length-6 : tie.Need-same-length-6
 same-length-6 c = search needs
 
 returns-2 : tie.Need-returns-2
-unfolding formatting
 returns-2 c =
     let way = c .before .before .before .before .before .before .before .before .before in
     let begun = way .before .before in
@@ -61,6 +60,7 @@ returns-2 c =
     let d = device (entry .args .interface) (now (entry .args .array)) (now (entry .args .register)) (now (entry .args .history)) in
     c .end .ensures _ _ _
     ∙ stopped-is set d (entry .args .allowed) _ _ (begun .start .ensures) (entry .args .state) (λ p. endOfRun (entry .args .allowed) (marksRun set p)) (format-stops set (entry .args .allowed)) (c .before .before .before .if1 .left) (c .before .before .if2 .taken) _ (c .before .blank .ensures)
+    ∙ format-started set d (entry .args .allowed) (entry .args .state)
 
 mark-and-erase-requires : tie.Need-mark-and-erase-requires
 mark-and-erase-requires c κs =
@@ -81,7 +81,6 @@ same-length-9 : tie.Need-same-length-9
 same-length-9 c = search needs
 
 returns-3 : tie.Need-returns-3
-unfolding formatting
 returns-3 c =
     let at-mark-and-erase = c .before .before .before .before .before .before in
     let tested = at-mark-and-erase .before .before .before .before in
@@ -90,6 +89,7 @@ returns-3 c =
     let set = setting (entry .args .g) (now (entry .args .mask)) (now (entry .args .fates)) in
     let d = device (entry .args .interface) (now (entry .args .array)) (now (entry .args .register)) (now (entry .args .history)) in
     goes-on set d (entry .args .allowed) _ _ (begun .start .ensures) (entry .args .state) (λ p. endOfRun (entry .args .allowed) (marksRun set p)) (tested .if2 .left) _ (at-mark-and-erase .mark-and-erase .ensures)
+    ∙ format-started set d (entry .args .allowed) (entry .args .state)
 
 pub format-spec : {M : Type 1} → statement M
 format-spec =

@@ -8,8 +8,8 @@ use lib.ListN.{length}
 use Rattle.chip_array.specs.Device.{device}
 use Rattle.bus_polling.proofs.OutcomeLaws.{passed-by-tag, other-by-tag}
 use Rattle.parameters.specs.Page.{told}
-use Rattle.request.specs.Call.{Result}
-use Rattle.identify.specs.Identify.{identified, identifying}
+use Rattle.request.specs.Call.{Result, resultOf}
+use Rattle.identify.specs.Identify.{identified, identifyRequest}
 use Rattle.identify.proofs.FetchLaws.{ends-stopped, ends-told}
 use Rattle.identify.proofs.identify.Statement.{statement}
 use Rattle.identify.proofs.identify.Tie as tie
@@ -21,7 +21,7 @@ no-sizes-requires : tie.Need-no-sizes-requires
 no-sizes-requires c κs = search needs
 
 returns : tie.Need-returns
-unfolding identifying
+unfolding resultOf identifyRequest
 returns c =
     ap₂ identified (c .before .unchanged .ensures _ _ _) (c .no-sizes .ensures) ∙ rw (ne-eqb (length (c .before .before .before .before .before .before .before .before .before .args .parameters .now)) 768 (c .before .before .if1 .taken))
 

@@ -5,8 +5,8 @@ use denote.Ref.{now}
 use Rattle.chip_array.specs.Device.{device, setting}
 use Rattle.request.proofs.StartLaws.{start-called, start-left, refused-is, stopped-is, goes-on}
 use Rattle.scan.specs.Scan.{blocksRead}
-use Rattle.mount.specs.Mount.{mountEnd, mounting}
-use Rattle.mount.proofs.EndLaws.{mount-stops}
+use Rattle.mount.specs.Mount.{mountEnd}
+use Rattle.mount.proofs.EndLaws.{mount-stops, mount-started}
 use Rattle.mount.proofs.mount.Statement.{statement}
 use Rattle.mount.proofs.mount.Tie as tie
 
@@ -23,13 +23,13 @@ same-length-3 : tie.Need-same-length-3
 same-length-3 c = search needs
 
 returns : tie.Need-returns
-unfolding mounting
 returns c =
     let begun = c .before .before .before .before .before .before .before .before in
     let entry = begun .before .before .before .before .before .before .before .before .before in
     let set = setting (entry .args .g) (now (entry .args .mask)) (now (entry .args .fates)) in
     let d = device (entry .args .interface) (now (entry .args .array)) (now (entry .args .register)) (now (entry .args .history)) in
     refused-is set d (entry .args .allowed) _ _ (begun .start .ensures) (entry .args .state) (λ p. mountEnd set (entry .args .allowed) (blocksRead set (entry .args .g .blocks) p)) (c .if1 .taken)
+    ∙ mount-started set d (entry .args .allowed) (entry .args .state)
 
 blank-requires : tie.Need-blank-requires
 blank-requires c κs = search needs
@@ -53,7 +53,6 @@ same-length-6 : tie.Need-same-length-6
 same-length-6 c = search needs
 
 returns-2 : tie.Need-returns-2
-unfolding mounting
 returns-2 c =
     let way = c .before .before .before .before .before .before .before .before .before in
     let begun = way .before .before in
@@ -62,6 +61,7 @@ returns-2 c =
     let d = device (entry .args .interface) (now (entry .args .array)) (now (entry .args .register)) (now (entry .args .history)) in
     c .end .ensures _ _ _
     ∙ stopped-is set d (entry .args .allowed) _ _ (begun .start .ensures) (entry .args .state) (λ p. mountEnd set (entry .args .allowed) (blocksRead set (entry .args .g .blocks) p)) (mount-stops set (entry .args .allowed)) (c .before .before .before .if1 .left) (c .before .before .if2 .taken) _ (c .before .blank .ensures)
+    ∙ mount-started set d (entry .args .allowed) (entry .args .state)
 
 scan-and-judge-requires : tie.Need-scan-and-judge-requires
 scan-and-judge-requires c κs =
@@ -82,7 +82,6 @@ same-length-9 : tie.Need-same-length-9
 same-length-9 c = search needs
 
 returns-3 : tie.Need-returns-3
-unfolding mounting
 returns-3 c =
     let at-scan-and-judge = c .before .before .before .before .before .before in
     let tested = at-scan-and-judge .before .before .before .before in
@@ -91,6 +90,7 @@ returns-3 c =
     let set = setting (entry .args .g) (now (entry .args .mask)) (now (entry .args .fates)) in
     let d = device (entry .args .interface) (now (entry .args .array)) (now (entry .args .register)) (now (entry .args .history)) in
     goes-on set d (entry .args .allowed) _ _ (begun .start .ensures) (entry .args .state) (λ p. mountEnd set (entry .args .allowed) (blocksRead set (entry .args .g .blocks) p)) (tested .if2 .left) _ (at-scan-and-judge .scan-and-judge .ensures)
+    ∙ mount-started set d (entry .args .allowed) (entry .args .state)
 
 pub mount-spec : {M : Type 1} → statement M
 mount-spec =
