@@ -1,3 +1,5 @@
 pub mod CopyTests
 pub mod PickLaws
 pub mod PlaceLaws
+pub mod NumberLaws
+pub mod CompleteLaws

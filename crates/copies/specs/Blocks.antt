@@ -1,7 +1,8 @@
 -- What one block holds. Each definition takes the block's bytes, so that a block that stays is one equation.
-use Prim.Native.Nat.{ℕ, zero, suc, _*_, max}
+use Prim.Native.Nat.{ℕ, zero, suc, _*_, _<_, max}
 use mathlib.Core.Bool.{Bool, true, false, cond}
 use mathlib.Core.List.{List}
+use mathlib.Core.Path.{_≡_}
 use lib.Dec.{eqb}
 use lib.ListN.{getD, take}
 use Rattle.geometry.specs.declared.Geometry.{Geometry}
@@ -47,6 +48,12 @@ completeTo g block (suc n) =
 unfoldable pub isComplete : Geometry → List ℕ → Bool
 isComplete g block = cond (isMarked g block) false (completeTo g block (g .pages))
 
+-- the same, page by page
+pub record Complete (g : Geometry) (block : List ℕ) : Type 0 where
+  pub unmarked : isMarked g block ≡ false
+  pub is-whole : (i : ℕ) → i < g .pages → wholeIn g block i ≡ true
+  pub in-place : (i : ℕ) → i < g .pages → agrees (labelIn g block 0) i (labelIn g block i) ≡ true
+
 abbrev pub numberIn : Geometry → List ℕ → ℕ
 numberIn g block = labelIn g block 0 .number
 
@@ -80,3 +87,7 @@ greatest g block = cond (isMarked g block) 0 (greatestTo g block (g .pages))
 -- the main bytes of a page
 abbrev pub mainIn : Geometry → List ℕ → ℕ → List ℕ
 mainIn g block p = take (g .main) (pageIn g block p)
+
+-- two blocks with the same pages
+abbrev pub SamePages : Geometry → List ℕ → List ℕ → Type 0
+SamePages g x y = (i : ℕ) → i < g .pages → pageIn g x i ≡ pageIn g y i

@@ -6,9 +6,8 @@ use mathlib.Core.Path.{_≡_, refl, sym, ap, ap₂, subst, _∙_}
 use native.Mathlib.Nat.{add-zero}
 use native.Mathlib.Omega.{arith}
 use borrow.Table.Steps.{cases}
-use borrow.Author.Tests.{eq-eqb, eqb-true, eqb-false}
+use borrow.Author.Tests.{eq-eqb}
 use lib.Bits.{bitAnd, and-le-r}
-use lib.Dec.{eqb}
 use lib.ListN.{length, getD, take, replicate, getD-replicate}
 use lib.Seq.{getD-drop}
 use Rattle.geometry.specs.declared.Geometry.{Geometry}
@@ -21,33 +20,10 @@ use Rattle.pages.proofs.LayoutLaws.{encoded-whole, encoded-label, encoded-first
 use Rattle.pages.proofs.ByteLaws.{width-le}
 use Rattle.pages.proofs.OverLaws.{over-getD, over-bytes-to}
 use Rattle.copies.specs.Blocks.{pageIn, wholeIn, labelIn, mainIn, markByte, isMarked, agrees, completeTo, isComplete, anyTo, greatestTo}
+use Rattle.copies.proofs.NumberLaws.{greatest-most, greatest-least}
 use Rattle.fill.specs.Fill.{Copy, copyPage}
 use Rattle.fill.proofs.PageLaws.{page-long}
 use Rattle.damage.specs.Run.{Labelled}
-
--- numbers on whole pages are below some number
-pub greatest-most : (g : Geometry) (row : List ℕ) (k n : ℕ) → 0 < k → ((i : ℕ) → i < n → wholeIn g row i ≡ true → labelIn g row i .number < k) → greatestTo g row n < k
-unfolding greatestTo
-greatest-most g row k zero z f = z
-greatest-most g row k (suc n) z f =
-    let less = greatest-most g row k n z (λ i h. f i (omega (arith, h))) in
-    cases (wholeIn g row n)
-    (λ t. rw t (omega (arith, less, f n (omega arith) t)))
-    (λ t. rw t less)
-
--- the number of a whole page
-pub greatest-least : (g : Geometry) (row : List ℕ) (n i : ℕ) → i < n → wholeIn g row i ≡ true → labelIn g row i .number ≤ greatestTo g row n
-unfolding greatestTo
-greatest-least g row zero i h t = absurd (omega (arith, h))
-greatest-least g row (suc n) i h t =
-    cases (eqb i n)
-    (λ e.
-    let j = eqb-true i n e in
-    let here : wholeIn g row n ≡ true = ap (wholeIn g row) (sym j) ∙ t in
-    rw here (omega (arith, ap (λ (k : ℕ). labelIn g row k .number) j)))
-    (λ e.
-    let less = greatest-least g row n i (omega (arith, h, eqb-false i n e)) t in
-    cases (wholeIn g row n) (λ u. rw u (omega (arith, less))) (λ u. rw u less))
 
 -- page 0 is whole
 pub any-first : (g : Geometry) (row : List ℕ) (n : ℕ) → wholeIn g row 0 ≡ true → anyTo g row (suc n) ≡ true

@@ -7,6 +7,5 @@ pub mod EraseLaws
 pub mod ProgramLaws
 pub mod FillLaws
 pub mod CopyLaws
-pub mod CompleteLaws
 pub mod EachLaws
 pub mod TouchLaws

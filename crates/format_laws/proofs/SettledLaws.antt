@@ -21,11 +21,12 @@ use Rattle.copies.specs.Current.{currentTable, currentCopy, filledLast, nextNum
 use Rattle.copies.specs.Pick.{nothing, at}
 use Rattle.copies.specs.Table.{lists}
 use Rattle.copies.proofs.PickLaws.{picked-is, none-below}
+use Rattle.copies.proofs.CompleteLaws.{complete-pages, table-complete, data-complete, copy-data}
+use Rattle.copies.proofs.NumberLaws.{greatest-least, greatest-in}
 use Rattle.scan_found.specs.Contents.{entryOf, mapOf}
 use Rattle.scan_found.specs.Found.{bitsAt}
 use Rattle.fill.specs.Fill.{tableCopy, tableMain, copyPage}
-use Rattle.damage.proofs.CopyLaws.{erased-unwhole, erased-greatest, greatest-least}
-use Rattle.damage.proofs.CompleteLaws.{complete-pages, table-complete, data-complete, copy-data, greatest-in}
+use Rattle.damage.proofs.CopyLaws.{erased-unwhole, erased-greatest}
 use Rattle.mount_laws.proofs.StateLaws.{mounts-by, map-told}
 use Rattle.state.specs.State.{numberEnd}
 use Rattle.format_laws.proofs.TableBlockLaws as held

@@ -23,6 +23,7 @@ use Rattle.copies.specs.Current.{currentTable, currentCopy, filledLast, nextNum
 use Rattle.copies.specs.Pick.{Pick, nothing, at, Best, Picked, pick}
 use Rattle.copies.specs.Table.{bitmapOf, fieldOf, lists, clearWhere, rightFirst, rightPage, rightTo, rightTable}
 use Rattle.copies.proofs.PickLaws.{pick-is, up-to}
+use Rattle.copies.proofs.CompleteLaws.{complete-pages}
 use Rattle.state.specs.State.{none, mounted, mountedWith, Mounted}
 use Rattle.state.specs.declared.State.{State}
 use Rattle.state.proofs.MountedLaws.{clear-each, mounted-holds}
@@ -30,7 +31,6 @@ use Rattle.scan_found.specs.Contents.{entryOf, mapOf}
 use Rattle.scan_found.specs.Found.{bitsAt, marksTo}
 use Rattle.scan_found.proofs.MapLaws.{length-tabulate, getD-tabulate}
 use Rattle.scan_found.proofs.ToldLaws.{bit-put, bitmap-long}
-use Rattle.damage.proofs.CompleteLaws.{complete-pages}
 use Rattle.mount.specs.Mount.{blockOf, mountedState}
 use Rattle.mount.proofs.MountLaws.{mark-later, mark-bit}
 

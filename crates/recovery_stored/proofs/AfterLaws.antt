@@ -16,11 +16,11 @@ use Rattle.cells.proofs.CellLaws.{getD-raised, bytes-drop, or-full}
 use Rattle.pages.specs.Layout.{whole}
 use Rattle.pages.specs.Over.{Over}
 use Rattle.copies.specs.Blocks.{blockIn, pageIn, markByte, isMarked}
+use Rattle.copies.proofs.CompleteLaws.{mark-bytes}
 use Rattle.fill.specs.Fill.{Copy, copyPage}
 use Rattle.damage.specs.Run.{Labelled}
 use Rattle.damage.proofs.PlaceLaws.{page-long}
 use Rattle.damage.proofs.CopyLaws.{no-mark, page-whole, raised-same, raised-unmarked}
-use Rattle.damage.proofs.CompleteLaws.{mark-bytes}
 use Rattle.recovery_stored.specs.Stored.{Left}
 use Rattle.recovery_stored.specs.After.{After, Based}
 use Rattle.recovery_stored.proofs.PageLaws.{page-raised, left-raised, whole-kept}

@@ -9,11 +9,11 @@ use borrow.Author.Tests.{eqb-true, eqb-false}
 use lib.Dec.{eqb}
 use Rattle.geometry.specs.declared.Geometry.{Geometry}
 use Rattle.geometry.specs.Limits.{Valid}
-use Rattle.copies.specs.Blocks.{blockIn, pageIn, isMarked, isComplete, isTable}
+use Rattle.copies.specs.Blocks.{SamePages, blockIn, pageIn, isMarked, isComplete, isTable}
 use Rattle.copies.specs.Pick.{at, pick, Best, Picked}
 use Rattle.copies.specs.Current.{currentTable, numberAt}
 use Rattle.copies.proofs.PickLaws.{pick-is, picked-is, pick-fewer, pick-same}
-use Rattle.damage.proofs.CompleteLaws.{SamePages, table-complete, number-same, complete-same, table-same}
+use Rattle.copies.proofs.CompleteLaws.{table-complete, number-same, complete-same, table-same}
 use Rattle.recovery_stored.specs.After.{After, Based, Below, MarksSame}
 use Rattle.recovery_stored.proofs.StoredLaws.{same-at}
 

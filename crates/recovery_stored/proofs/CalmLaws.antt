@@ -10,13 +10,13 @@ use lib.Dec.{eqb}
 use Rattle.geometry.specs.declared.Geometry.{Geometry}
 use Rattle.geometry.specs.Limits.{Valid}
 use Rattle.bools.proofs.BoolLaws.{both, clash}
-use Rattle.copies.specs.Blocks.{blockIn, pageIn, mainIn, labelIn, isMarked, isComplete, isTable, isData, isCopyOf}
+use Rattle.copies.specs.Blocks.{SamePages, blockIn, pageIn, mainIn, labelIn, isMarked, isComplete, isTable, isData, isCopyOf}
 use Rattle.copies.specs.Pick.{Pick, nothing, at, pick, Best, Picked}
 use Rattle.copies.specs.Table.{bitmapOf, lists, rightTable}
 use Rattle.copies.specs.Current as current
 use Rattle.copies.specs.Current.{currentTable, currentCopy, numberAt, counts, unlisted, reading}
 use Rattle.copies.proofs.PickLaws.{pick-is, picked-is, pick-fewer, pick-same}
-use Rattle.damage.proofs.CompleteLaws.{SamePages, complete-pages, table-complete, data-complete, copy-data, number-same, label-same, complete-same, table-same, data-same, copy-same}
+use Rattle.copies.proofs.CompleteLaws.{complete-pages, table-complete, data-complete, copy-data, number-same, label-same, complete-same, table-same, data-same, copy-same}
 use Rattle.mount_laws.proofs.StateLaws.{Right, right-at, right-parts, mounts-by, clear-picked, picked-clear}
 use Rattle.recovery_stored.specs.Stored.{Left, Stored}
 use Rattle.recovery_stored.specs.After.{After, Based, Below, Free, MarksSame, Calm}

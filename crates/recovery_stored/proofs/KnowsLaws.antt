@@ -19,6 +19,8 @@ use Rattle.copies.specs.Blocks.{blockIn, pageIn, mainIn, isMarked}
 use Rattle.copies.specs.Table.{bitmapOf, lists}
 use Rattle.copies.specs.Current.{currentTable, currentCopy, mountAnswer}
 use Rattle.copies.specs.Current as current
+use Rattle.copies.proofs.CompleteLaws.{complete-pages, table-complete, complete-number}
+use Rattle.copies.proofs.NumberLaws.{greatest-in}
 use Rattle.scan_found.specs.Contents.{entryOf}
 use Rattle.scan_found.specs.Found.{bitsAt}
 use Rattle.state.specs.State.{nextNumber, mounted, Mounted, heldBits}
@@ -28,7 +30,6 @@ use Rattle.state.proofs.MountedLaws.{mounted-facts}
 use Rattle.state.proofs.NumberLaws.{mounted-told}
 use Rattle.mount.specs.Mount.{blockOf, mountedState}
 use Rattle.mount.proofs.MountLaws.{mark-bit}
-use Rattle.damage.proofs.CompleteLaws.{complete-pages, table-complete, complete-number, greatest-in}
 use Rattle.mount_laws.proofs.StateLaws.{Right, right-table, right-at, bits-long, byte-past, invalid-is, invalid-ends, last-on-chip, entry-is, known-mounted}
 use Rattle.recovery_stored.specs.Stored.{Stored}
 use Rattle.recovery_stored.specs.After.{Free}

@@ -12,10 +12,10 @@ use Rattle.copies.specs.Blocks.{blockIn, pageIn, isMarked, isComplete, isData, 
 use Rattle.copies.specs.Pick.{at}
 use Rattle.copies.specs.Table.{lists}
 use Rattle.copies.specs.Current.{currentTable, currentCopy, numberAt}
+use Rattle.copies.proofs.CompleteLaws.{complete-pages, table-complete, copy-data}
 use Rattle.fill.specs.Fill.{tableCopy, tableMain, copyPage}
 use Rattle.scan_found.specs.Found.{bitsAt}
 use Rattle.state.specs.State.{numberEnd}
-use Rattle.damage.proofs.CompleteLaws.{complete-pages, table-complete, copy-data}
 use Rattle.format_laws.proofs.TableBlockLaws as held
 use Rattle.recovery_stored.specs.Stored.{Stored}
 use Rattle.recovery_stored.specs.After.{After, Based, Below, Free, Listed}

@@ -17,11 +17,11 @@ use Rattle.copies.specs.Blocks.{blockIn, pageIn, labelIn, isComplete, isTable, 
 use Rattle.copies.specs.Pick.{at}
 use Rattle.copies.specs.Current as current
 use Rattle.copies.specs.Current.{currentTable, currentCopy, numberAt, unlisted}
+use Rattle.copies.proofs.CompleteLaws.{complete-pages, data-complete, copy-data}
 use Rattle.fill.specs.Fill.{copy, copyPage}
 use Rattle.state.specs.State.{numberEnd}
 use Rattle.damage.specs.Run.{Labelled}
 use Rattle.damage.proofs.CopyLaws.{copy-label, copy-main}
-use Rattle.damage.proofs.CompleteLaws.{complete-pages, data-complete, copy-data}
 use Rattle.recovery_stored.specs.Stored.{Stored}
 use Rattle.recovery_stored.specs.After.{After, Based, Below, Free, Renewed}
 use Rattle.recovery_stored.proofs.StoredLaws.{stored-based}

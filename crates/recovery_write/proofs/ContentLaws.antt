@@ -27,6 +27,7 @@ use Rattle.copies.specs.Current as current
 use Rattle.copies.specs.Current.{currentTable, currentCopy, numberAt, unlisted, reading}
 use Rattle.copies.specs.Table.{lists}
 use Rattle.copies.proofs.PickLaws.{pick-is}
+use Rattle.copies.proofs.CompleteLaws.{complete-pages}
 use Rattle.scan_found.specs.Contents.{entryOf}
 use Rattle.fill.specs.Fill.{Source, given, kept, copy, copyPage, dataSource, isGiven, givenMain}
 use Rattle.state.specs.State.{none, heldBits}
@@ -34,7 +35,6 @@ use Rattle.state.specs.declared.State.{State}
 use Rattle.state.proofs.HeldLaws.{held-entry}
 use Rattle.write_changes.specs.Changes.{Update}
 use Rattle.damage.specs.Run.{Labelled, Meant, Provides, from-caller, from-copy}
-use Rattle.damage.proofs.CompleteLaws.{complete-pages}
 use Rattle.damage.proofs.CopyLaws.{copy-long, copy-bytes}
 use Rattle.damage.proofs.PlaceLaws.{page-long}
 use Rattle.recovery_stored.proofs.StoredLaws.{same-at}

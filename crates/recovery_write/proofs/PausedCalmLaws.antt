@@ -27,7 +27,7 @@ use Rattle.copies.specs.Current.{currentTable}
 use Rattle.fill.specs.Fill.{Copy, copyPage}
 use Rattle.damage.specs.Run.{Labelled}
 use Rattle.damage.specs.Touched.{Each, TouchedBy}
-use Rattle.damage.proofs.CompleteLaws.{complete-pages}
+use Rattle.copies.proofs.CompleteLaws.{complete-pages}
 use Rattle.damage.proofs.CopyLaws.{copy-long, copy-bytes}
 use Rattle.damage.proofs.FillLaws.{over-erased}
 use Rattle.damage.proofs.EachLaws.{each-map}

@@ -24,11 +24,11 @@ use Rattle.copies.specs.Blocks.{blockIn, pageIn, isMarked, isComplete}
 use Rattle.copies.specs.Pick.{at}
 use Rattle.copies.specs.Table.{lists}
 use Rattle.copies.specs.Current.{currentTable}
+use Rattle.copies.proofs.CompleteLaws.{complete-pages}
 use Rattle.progress.specs.Progress.{Progress}
 use Rattle.fill.specs.Fill.{Copy, Source, copyPage, filled}
 use Rattle.damage.specs.Run.{Labelled, Meant, Filled, fillMost}
 use Rattle.damage.specs.Touched.{Each, Some, Programs, Unfinished, Touch, TouchedBy, Before, Since, Touched}
-use Rattle.damage.proofs.CompleteLaws.{complete-pages}
 use Rattle.damage.proofs.CopyLaws.{copy-complete}
 use Rattle.damage.proofs.FillLaws.{fill-leaves}
 use Rattle.damage.proofs.TouchLaws.{fill-touches}

@@ -5,17 +5,16 @@ use mathlib.Core.List.{List}
 use mathlib.Core.Path.{_≡_, refl, ap, ap₂}
 use native.Mathlib.Omega.{arith}
 use borrow.Table.Steps.{cases}
-use borrow.Author.Tests.{eqb-true, eqb-false}
+use borrow.Author.Tests.{eqb-true}
 use lib.Dec.{eqb}
 use lib.ListN.{getD, take}
 use Rattle.geometry.specs.declared.Geometry.{Geometry}
 use Rattle.geometry.specs.Limits.{Valid}
 use Rattle.bools.proofs.BoolLaws.{both, unless}
 use Rattle.pages.specs.Layout.{labelOf}
-use Rattle.copies.specs.Blocks.{blockIn, pageIn, wholeIn, labelIn, mainIn, numberIn, markByte, isMarked, agrees, completeTo, isComplete, isTable, isData, isCopyOf, greatest}
-use Rattle.copies.specs.Current.{greatestBelow}
+use Rattle.copies.specs.Blocks.{wholeIn, labelIn, mainIn, numberIn, markByte, isMarked, agrees, completeTo, isComplete, Complete, isTable, isData, isCopyOf, greatest, SamePages}
 use Rattle.copies.proofs.PickLaws.{up-to}
-use Rattle.damage.proofs.CopyLaws.{greatest-least}
+use Rattle.copies.proofs.NumberLaws.{greatest-least}
 
 -- a block without a mark has FFh in the mark's place of its first two pages
 pub mark-bytes : (g : Geometry) (x : List ℕ) → isMarked g x ≡ false → (markByte g x 0 ≡ 255) × (markByte g x 1 ≡ 255)
@@ -28,12 +27,7 @@ mark-bytes g x f =
     (λ u. absurd (true≢false (rw (t, u) at f))))
     (λ t. absurd (true≢false (rw t at f)))
 
--- a complete block: no mark, and every page whole and in its place
-pub record Complete (g : Geometry) (x : List ℕ) : Type 0 where
-  pub unmarked : isMarked g x ≡ false
-  pub is-whole : (i : ℕ) → i < g .pages → wholeIn g x i ≡ true
-  pub in-place : (i : ℕ) → i < g .pages → agrees (labelIn g x 0) i (labelIn g x i) ≡ true
-
+-- a complete block, page by page
 complete-to : (g : Geometry) (x : List ℕ) (n : ℕ) → completeTo g x n ≡ true → (i : ℕ) → i < n → (wholeIn g x i ≡ true) × (agrees (labelIn g x 0) i (labelIn g x i) ≡ true)
 unfolding completeTo
 complete-to g x zero t i h = absurd (omega (arith, h))
@@ -67,7 +61,7 @@ copy-data g l x t =
     let parts = both (isData g x) _ t in
     (parts .0, eqb-true (labelIn g x 0 .logical) l (parts .1))
 
--- its number is none above the greatest, and that of a block none above the greatest of the array
+-- its number is none above the greatest
 pub complete-number : (g : Geometry) → Valid g → (x : List ℕ) → isComplete g x ≡ true → numberIn g x ≤ greatest g x
 unfolding greatest
 complete-number g v x t =
@@ -75,18 +69,7 @@ complete-number g v x t =
     let first : 0 < g .pages = omega (arith, v .pages-least) in
     rw (c .unmarked) (greatest-least g x (g .pages) 0 first (c .is-whole 0 first))
 
-pub greatest-in : (g : Geometry) (array : List ℕ) (n b : ℕ) → b < n → greatest g (blockIn g array b) ≤ greatestBelow g array n
-unfolding greatestBelow
-greatest-in g array zero b h = absurd (omega (arith, h))
-greatest-in g array (suc n) b h =
-    cases (eqb b n)
-    (λ e. omega (arith, ap (λ (k : ℕ). greatest g (blockIn g array k)) (eqb-true b n e)))
-    (λ e. omega (arith, greatest-in g array n b (omega (arith, h, eqb-false b n e))))
-
--- the pages of two blocks are the same
-abbrev pub SamePages : Geometry → List ℕ → List ℕ → Type 0
-SamePages g x y = (i : ℕ) → i < g .pages → pageIn g x i ≡ pageIn g y i
-
+-- blocks with the same pages hold the same
 module _ (g : Geometry) (v : Valid g) (x y : List ℕ) (same : SamePages g x y) where
   first : 0 < g .pages
   first = omega (arith, v .pages-least)
