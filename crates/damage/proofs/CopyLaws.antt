@@ -5,7 +5,6 @@ use mathlib.Core.List.{List}
 use mathlib.Core.Path.{_≡_, refl, sym, ap, ap₂, subst, _∙_}
 use native.Mathlib.Nat.{add-zero}
 use native.Mathlib.Omega.{arith}
-use borrow.Table.Steps.{cases}
 use borrow.Author.Tests.{eq-eqb}
 use lib.Bits.{bitAnd, and-le-r}
 use lib.ListN.{length, getD, take, replicate, getD-replicate}
@@ -20,16 +19,10 @@ use Rattle.pages.proofs.LayoutLaws.{encoded-whole, encoded-label, encoded-first
 use Rattle.pages.proofs.ByteLaws.{width-le}
 use Rattle.pages.proofs.OverLaws.{over-getD, over-bytes-to}
 use Rattle.copies.specs.Blocks.{pageIn, wholeIn, labelIn, mainIn, markByte, isMarked, agrees, completeTo, isComplete, anyTo, greatestTo}
-use Rattle.copies.proofs.NumberLaws.{greatest-most, greatest-least}
+use Rattle.copies.proofs.NumberLaws.{greatest-most, greatest-least, any-is}
 use Rattle.fill.specs.Fill.{Copy, copyPage}
 use Rattle.fill.proofs.PageLaws.{page-long}
 use Rattle.damage.specs.Run.{Labelled}
-
--- page 0 is whole
-pub any-first : (g : Geometry) (row : List ℕ) (n : ℕ) → wholeIn g row 0 ≡ true → anyTo g row (suc n) ≡ true
-unfolding anyTo
-any-first g row zero t = rw t
-any-first g row (suc n) t = cases (wholeIn g row (suc n)) (λ u. rw u) (λ u. rw u (any-first g row n t))
 
 -- a block whose first two pages have FFh in the mark's place
 pub no-mark : (g : Geometry) (row : List ℕ) → markByte g row 0 ≡ 255 → markByte g row 1 ≡ 255 → isMarked g row ≡ false
@@ -126,8 +119,8 @@ module _ (g : Geometry) (v : Valid g) (c : Copy) (fits : Labelled c) (main : ℕ
 
     pub copy-any : anyTo g row (g .pages) ≡ true
     copy-any =
-        let e : suc (g .pages - 1) ≡ g .pages = omega (arith, v .pages-least) in
-        ap (anyTo g row) (sym e) ∙ any-first g row (g .pages - 1) (copy-whole 0 (omega (arith, v .pages-least)))
+        let first : 0 < g .pages = omega (arith, v .pages-least) in
+        any-is g row (g .pages) 0 first (copy-whole 0 first)
 
     pub copy-greatest : greatestTo g row (g .pages) ≡ c .number
     copy-greatest =

@@ -9,7 +9,7 @@ use borrow.Table.Steps.{cases}
 use lib.Dec.{eqb, ltb}
 use Rattle.geometry.specs.declared.Geometry.{Geometry}
 use Rattle.copies.specs.Blocks.{anyTo}
-use Rattle.scan_summary.proofs.BlockLaws.{none-to}
+use Rattle.copies.proofs.NumberLaws.{none-to}
 use Rattle.format_erase.specs.declared.Numbers.{Numbers}
 use Rattle.format_erase.specs.Round.{numbersOf, joined}
 

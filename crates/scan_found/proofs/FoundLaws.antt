@@ -19,7 +19,8 @@ use Rattle.copies.specs.Current.{numberAt, greatestBelow}
 use Rattle.copies.specs.Pick.{nothing, at, better, pick}
 use Rattle.scan_summary.specs.Summary.{saysComplete, saysNumber}
 use Rattle.scan_summary.specs.declared.Summary.{Summary}
-use Rattle.scan_summary.proofs.BlockLaws.{says-complete, says-number, says-greatest, none-greatest, greatest-fits, says-marked, complete-label}
+use Rattle.copies.proofs.NumberLaws.{none-greatest}
+use Rattle.scan_summary.proofs.BlockLaws.{says-complete, says-number, says-greatest, greatest-fits, says-marked, complete-label}
 use Rattle.scan_found.specs.Found.{markNoted, isGreater, withGreatest, greatestNoted, isNewer, withTable, tableNoted, noted, foundTo, summaryAt, rightAt, bitsAt, marksTo}
 use Rattle.scan_found.specs.declared.Found.{Found}
 

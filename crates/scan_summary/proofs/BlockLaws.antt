@@ -220,18 +220,6 @@ module _ (g : Geometry) (block : List ℕ) where
   unfolding hasNumber greatest
   says-greatest h t = summed-greatest h ∙ rw (unless (isMarked g block) _ t .0)
 
-  pub none-to : (n : ℕ) → anyTo g block n ≡ false → greatestTo g block n ≡ 0
-  unfolding anyTo greatestTo
-  none-to zero f = refl
-  none-to (suc n) f =
-      cases (wholeIn g block n)
-      (λ t. absurd (false≢true (sym f ∙ rw t)))
-      (λ t. rw t (none-to n (sym (rw t) ∙ f)))
-
-  pub none-greatest : hasNumber g block ≡ false → greatest g block ≡ 0
-  unfolding hasNumber greatest
-  none-greatest f = cases (isMarked g block) (λ t. rw t) (λ t. rw t (none-to (g .pages) (sym (rw t) ∙ f)))
-
   pub says-marked : 2 ≤ g .pages → summed g block (g .pages) .marked ≡ cond (isMarked g block) 1 0
   says-marked h =
       subst (λ (k : ℕ). summed g block k .marked ≡ cond (isMarked g block) 1 0) (more-than-one (g .pages) h) (marks (g .pages - 2))
