@@ -1,0 +1,226 @@
+-- The small chip is formatted, and a write is cut where its copy is whole: 32 main and 16 spare bytes, 4 pages, 4 blocks, 2 logical
+-- blocks. Power is lost, the book still has FFh, and the next mount reads the new page. Assumes nothing.
+use Prim.Native.Nat.{ℕ, zero, suc, _<_}
+use mathlib.Core.Bool.{Bool, true, false, cond}
+use mathlib.Core.List.{List, [], _∷_, _++_}
+use mathlib.Core.Option.{Option, none, some}
+use mathlib.Core.Path.{_≡_, refl, sym, ap, subst, _∙_}
+use native.Mathlib.Omega.{arith}
+use borrow.Author.Tests.{eq-eqb}
+use lib.Count.{ones}
+use lib.ListN.{getD, replicate}
+use Rattle.geometry.specs.declared.Geometry.{Geometry}
+use Rattle.bools.proofs.BoolLaws.{clash}
+use Rattle.cells.specs.Bytes.{Bytes}
+use Rattle.cells.specs.Cells.{programmed, weakened, raised}
+use Rattle.cells.specs.Part.{put}
+use Rattle.bitmaps.specs.Bitmap.{bitAt, withBit, countBits, clearFrom}
+use Rattle.chip_interface.specs.Interface.{poweredOn, begun, statusMode, readMode, plainCommand, addressFits, latched, addressed, fateWord, nextFate, started, statusByte}
+use Rattle.chip_array.specs.Device.{Device, device, fitting, readStarted, programStarted, eraseStarted, completed}
+use Rattle.chip.specs.Chip.{isConfirm, confirmed, confirmable, commanded, dataTaken, dataGiven, dataByte, finished, statusRead, exec}
+use Rattle.bus.specs.Line.{mayGo, cutAfter, send, byteOut, sendAll, sent, goesOn}
+use Rattle.bus_polling.specs.Polling.{waiting, polls, outcomeOf, endedAs}
+use Rattle.bus_polling.specs.Outcomes.{isPassed, isFailed, isSilent, isCut}
+use Rattle.bus_sequences.specs.Cycles.{readCycles, readOutcome, putOut, readOutputs}
+use Rattle.operations.specs.Trace.{ArrayOperation, startedBy}
+use Rattle.pages.specs.Check.{zeroBits}
+use Rattle.pages.specs.Layout.{tableKind, label, whole, allOnes, storedCheck, countedCheck, kindOf, numberWidth, isDataKind, isTableKind, labelOf, numberOf, bytesOf, labelBytes, encoded}
+use Rattle.copies.specs.Blocks.{blockIn, isMarked, agrees, completeTo, isComplete, isTable, isData, isCopyOf, anyTo, greatestTo, hasNumber, greatest}
+use Rattle.copies.specs.Pick.{better, pick, someBelow}
+use Rattle.copies.specs.Table as table
+use Rattle.copies.specs.Current as current
+use Rattle.copies.specs.Current.{currentTable, currentCopy, reading, greatestBelow, sharesNumber, clashesAt, clashes, judgeTable, mountAnswer}
+use Rattle.scan_found.specs.Found.{marksTo}
+use Rattle.state_choose.specs.Choose.{permitted, searchAfter, countPermitted}
+use Rattle.state.specs.State.{blank, mounted, copyBits}
+use Rattle.state.specs.declared.State.{State}
+use Rattle.progress.specs.Progress.{readOn, resetOn}
+use Rattle.progress.specs.Steps.{eraseOn, programOn}
+use Rattle.request.specs.Call.{Result, result, resultOf, startedIn, sized, stopAnswer, endAt}
+use Rattle.request_refusals.specs.Refusals.{refusal, refusalOf}
+use Rattle.scan_block.specs.Pages.{pagesRead}
+use Rattle.scan.specs.Scan.{blocksRead}
+use Rattle.fill.specs.Fill.{mainOf, mainRead, pageFilled, pagesFilled, tableMain, dataSource, isGiven}
+use Rattle.fill_tables.specs.Tables.{Tabled, afterFill, tryBlock, tryTable, tablesFilled}
+use Rattle.write_changes.specs.Changes.{writeUpdate, afterTry, copyTried, copiesFilled, thenTable, changeCall, writeRequest}
+use Rattle.format_marks.specs.Marks.{marksRead}
+use Rattle.format_erase.specs.Round.{afterErase, blockErased, failedAt, joined, numbersAt, erasedTo}
+use Rattle.format.specs.Format.{firstState, tooFew, tablesRun, roundRun, marksRun, formatRequest}
+use Rattle.format_laws.specs.Formatting.{Acknowledged}
+use Rattle.format_laws.proofs.FormattingLaws.{format-acknowledged}
+use Rattle.damage.specs.Run.{failedIn}
+use Rattle.recovery.specs.Book.{Change, write, entered, Note, note, Account, account, blankBook, blankAccount, changed, fed}
+use Rattle.recovery.specs.Copy.{isDataProgram, sentPage, sentPages, hasCopy}
+use Rattle.recovery.specs.Calls as calls
+use Rattle.recovery.specs.Calls.{Lent, toWrite, Event, called, powerLost, AllPossible, Store, store, underWay, settingOf, mountOn, copyOfNote, failedAfter, failedNext, step, unpowered, after, formatOn}
+use Rattle.recovery.specs.Recovery.{readingBy, Unaffected, none-under-way, no-copy, no-byte}
+use Rattle.recovery_proof.proofs.RecoveryLaws.{recovers}
+use Rattle.recovery_proof.proofs.AnswerLaws.{comes-back}
+
+abbrev small : Geometry
+small = record { main = 32; spare = 16; pages = 4; blocks = 4; logical = 2 }
+
+-- nothing fails; what is cut takes effect on every bit
+abbrev lent : ℕ → Lent
+lent allowed = record { mask = replicate 192 255; fates = []; allowed = allowed }
+
+abbrev erased : Device
+erased = device poweredOn (replicate 768 255) (replicate 48 255) (replicate 4 0)
+
+-- the formatting: a table under number 1 in block 0, the others erased
+abbrev tablePages : ℕ → List ℕ
+tablePages i = encoded 16 (label tableKind 0 i 1) (tableMain small (replicate 512 0) i)
+
+abbrev state : State
+state =
+    record { status = 1; table = 0; last = 0; number = 2; marked = replicate 512 0; invalid = replicate 512 0; map = replicate 4096 65535 }
+
+abbrev chip : Device
+chip =
+    device (record { phase = 1; count = 5; address = 196608; first = 0; column = 48; operation = 2; busy = 0; failed = 0; loaded = 0; fate = 0; illegal = 0 })
+    (tablePages 0 ++ (tablePages 1 ++ (tablePages 2 ++ (tablePages 3 ++ replicate 576 255)))) (tablePages 3) (4 ∷ 0 ∷ 0 ∷ 0 ∷ [])
+
+format-is : formatOn small (lent 10000) erased (blank 0) ≡ result 0 state chip 354
+unfolding ones begun statusMode readMode plainCommand addressFits latched addressed fateWord nextFate started statusByte fitting readStarted programStarted eraseStarted completed isConfirm confirmed confirmable commanded dataTaken dataGiven dataByte finished statusRead exec programmed weakened raised put mayGo cutAfter send byteOut sendAll sent goesOn waiting polls outcomeOf isPassed endedAs readCycles readOutcome putOut readOutputs startedBy readOn resetOn pagesRead blocksRead sized stopAnswer isSilent isCut bitAt withBit countBits zeroBits numberWidth bytesOf numberOf labelBytes encoded kindOf labelOf allOnes storedCheck countedCheck whole isMarked marksTo marksRead afterErase blockErased failedAt erasedTo eraseOn programOn isFailed mainOf mainRead pageFilled pagesFilled tableMain permitted searchAfter countPermitted afterFill tryBlock tryTable tablesFilled firstState tooFew tablesRun roundRun marksRun table.tablePage isDataKind isTableKind anyTo greatest joined numbersAt greatestBelow greatestTo hasNumber resultOf formatRequest
+format-is = refl
+
+-- the write of logical block 0, page 0 that sends 235 cycles, cut before the last, which would read its last program's status
+abbrev page : List ℕ
+page = replicate 32 165
+
+abbrev cut : Tabled
+cut = changeCall (settingOf small (lent 234)) chip 234 state (writeUpdate state 0 0 page)
+
+abbrev arrayOf : Tabled → List ℕ
+arrayOf t = t .progress .line .chip .array
+
+-- its answer, whether it has a complete copy, the answer of a mount, and what page 0 of logical block 0 then reads
+pub cut-told : cut .answer ∷ cond (hasCopy small (arrayOf cut) (cut .progress .started)) 1 0 ∷ mountAnswer small (arrayOf cut) ∷ reading small (arrayOf cut) 0 0 0 ≡ 11 ∷ 1 ∷ 0 ∷ page
+unfolding ones begun statusMode readMode plainCommand addressFits latched addressed fateWord nextFate started statusByte fitting readStarted programStarted eraseStarted completed isConfirm confirmed confirmable commanded dataTaken dataGiven dataByte finished statusRead exec programmed weakened raised put mayGo cutAfter send byteOut sendAll sent goesOn waiting polls outcomeOf isPassed endedAs readCycles readOutcome putOut readOutputs startedBy readOn stopAnswer isSilent isCut bitAt withBit zeroBits numberWidth bytesOf numberOf labelBytes encoded kindOf eraseOn programOn isFailed mainOf mainRead pageFilled pagesFilled tableMain permitted searchAfter afterFill tryBlock tryTable tablesFilled table.tablePage isDataKind isTableKind copyBits copyTried afterTry copiesFilled thenTable dataSource isGiven hasCopy sentPages sentPage isDataProgram someBelow better pick isMarked agrees completeTo isComplete isData isCopyOf currentCopy current.pageOf whole allOnes storedCheck countedCheck labelOf countBits clearFrom isTable currentTable sharesNumber clashesAt clashes judgeTable mountAnswer table.clearWhere table.rightFirst table.rightPage table.rightTo table.rightTable
+cut-told = refl
+
+cut-answer : cut .answer ≡ 11
+cut-answer = ap (λ (x : List ℕ). getD x 0 0) cut-told
+
+is-one : (b : Bool) → _≡_ {A = ℕ} (cond b 1 0) 1 → b ≡ true
+is-one true e = refl
+is-one false e = absurd (omega (arith, e))
+
+cut-copy : hasCopy small (arrayOf cut) (cut .progress .started) ≡ true
+cut-copy = is-one _ (ap (λ (x : List ℕ). getD x 1 0) cut-told)
+
+bytes-same : (n x : ℕ) → x < 256 → Bytes (replicate n x)
+bytes-same zero x h i = omega arith
+bytes-same (suc n) x h zero = h
+bytes-same (suc n) x h (suc i) = bytes-same n x h i
+
+-- the list
+abbrev before : Store
+before = calls.begun small (lent 10000) erased (blank 0)
+
+-- power is lost, and memory comes back as zeros
+abbrev list : List Event
+list = called (toWrite (lent 234) 0 0 page) ∷ powerLost (blank 0) (replicate 48 0) ∷ []
+
+abbrev stored : Store
+stored = after small list before
+
+-- what a write that is not refused leaves, and the loss of power after it
+abbrev afterCut : Geometry → Store → Change → Result → List ArrayOperation → Store
+afterCut g y c r os =
+    store (r .state) (r .chip) (fed g (changed c (r .answer) os) (y .account)) (y .marked) (failedAfter (y .failed) os)
+
+write-steps : (g : Geometry) (a : Lent) (l p : ℕ) (bytes : List ℕ) (y : Store) → refusalOf (settingOf g a) (y .chip) (y .state) l p bytes ≡ 0
+    → let t = changeCall (settingOf g a) (y .chip) (a .allowed) (y .state) (writeUpdate (y .state) l p bytes) in
+    step g (toWrite a l p bytes) y ≡ afterCut g y (write l p bytes) (endAt (a .allowed) (t .answer) (t .state) (t .progress .line)) (t .progress .started)
+unfolding resultOf startedIn step writeRequest failedNext
+write-steps g a l p bytes y z = rw (eq-eqb (refusalOf (settingOf g a) (y .chip) (y .state) l p bytes) 0 z)
+
+format-done : formatOn small (lent 10000) erased (blank 0) .answer ≡ 0
+format-done = ap (λ (r : Result). r .answer) format-is
+
+unrefused : refusalOf (settingOf small (lent 234)) chip state 0 0 page ≡ 0
+unfolding refusal
+unrefused =
+    let a = subst (Acknowledged (settingOf small (lent 10000))) format-is (format-acknowledged (settingOf small (lent 10000)) erased 10000 (blank 0) (bytes-same 192 255 (omega arith)) format-done) in
+    rw (a .still-sized, a .counts-mounted)
+
+abbrev marks : ℕ → Bool
+marks b = isMarked small (blockIn small (erased .array) b)
+
+abbrev fails : ℕ → Bool
+fails b = failedIn b (startedIn (formatRequest (settingOf small (lent 10000)) erased 10000 (blank 0)))
+
+abbrev start : Store
+start = store state chip (blankAccount small) marks fails
+
+begun-is : before ≡ start
+unfolding calls.begun
+begun-is = ap (λ (r : Result). store (r .state) (r .chip) (blankAccount small) marks fails) format-is
+
+stored-is : stored ≡ unpowered (blank 0) (replicate 48 0) (afterCut small start (write 0 0 page) (endAt 234 (cut .answer) (cut .state) (cut .progress .line)) (cut .progress .started))
+unfolding after
+stored-is =
+    ap (unpowered (blank 0) (replicate 48 0)) (ap (step small (toWrite (lent 234) 0 0 page)) begun-is ∙ write-steps small (lent 234) 0 0 page start unrefused)
+
+-- a request answered 11 is noted, and no page changes
+fed-cut : (c : Change) (k : ℕ) (os : List ArrayOperation) → k ≡ 11 → fed small (changed c k os) (blankAccount small) ≡ account (blankBook small) (some (note c os))
+unfolding fed
+fed-cut c k os e = rw e
+
+account-is : stored .account ≡ account (blankBook small) (some (note (write 0 0 page) (cut .progress .started)))
+unfolding unpowered
+account-is = ap (λ (y : Store). y .account) stored-is ∙ fed-cut (write 0 0 page) (cut .answer) (cut .progress .started) cut-answer
+
+noted : underWay stored ≡ some (note (write 0 0 page) (cut .progress .started))
+noted = ap (λ (x : Account). x .noted) account-is
+
+-- before the mount the book has FFh
+pub book-before : (logical p : ℕ) → stored .account .book logical p ≡ replicate 32 255
+book-before logical p = ap (λ (x : Account). x .book logical p) account-is
+
+-- and the request noted has a complete copy
+pub copy-noted : copyOfNote small (stored .chip .array) (underWay stored) ≡ true
+unfolding copyOfNote unpowered
+copy-noted =
+    ap (λ (x : Option Note). copyOfNote small (stored .chip .array) x) noted
+    ∙ ap (λ (y : Store). hasCopy small (y .chip .array) (cut .progress .started)) stored-is
+    ∙ cut-copy
+
+-- so it shows: it has a copy, and would change a byte
+abbrev changeOf : Option Note → Change
+changeOf none = write 0 0 []
+changeOf (some t) = t .change
+
+abbrev is-some : Option Note → Bool
+is-some none = false
+is-some (some t) = true
+
+shows : Unaffected small stored → ⊥
+unfolding copyOfNote entered
+shows (none-under-way e) = clash {b = is-some (underWay stored)} (ap is-some noted) (ap is-some e)
+shows (no-copy t e f) = clash copy-noted (ap (copyOfNote small (stored .chip .array)) e ∙ f)
+shows (no-byte t e same) =
+    let change : t .change ≡ write 0 0 page = sym (ap changeOf e) ∙ ap changeOf noted in
+    let here : page ≡ replicate 32 255 =
+    sym (ap (λ (c : Change). entered small c (stored .account .book) 0 0) change) ∙ same 0 0 (omega arith) (omega arith) ∙ book-before 0 0 in
+    absurd (omega (arith, ap (λ (x : List ℕ). getD x 0 0) here))
+
+-- the mount, heard and not cut, reads the new page
+abbrev mount : Result
+mount = mountOn small (lent 10000) stored
+
+possible : AllPossible small list
+unfolding AllPossible mounted
+possible = ((bytes-same 192 255 (omega arith), bytes-same 32 165 (omega arith)), ((refl, refl), tt))
+
+mount-done : mount .answer ≡ 0
+mount-done =
+    comes-back small (lent 10000) erased (blank 0) (bytes-same 192 255 (omega arith)) format-done list possible (lent 10000) refl (λ slow. omega (arith, slow .within)) (omega arith)
+
+pub mount-reads : readingBy small mount 0 0 ≡ page
+unfolding entered
+mount-reads =
+    let r = recovers small (lent 10000) erased (blank 0) (bytes-same 192 255 (omega arith)) format-done list possible (lent 10000)
+    (λ e. omega (arith, e, mount-done)) (λ e. omega (arith, e, mount-done)) (λ e. omega (arith, e, mount-done)) in
+    r .otherwise (note (write 0 0 page) (cut .progress .started)) noted shows 0 0 (omega arith) (omega arith)
