@@ -35,8 +35,8 @@ fn scan_and_judge(
     ensures { λ r. ⌜ ((cs : List Cycle) (os : List ArrayOperation) → result (r .answer) (r .state) (device (r .interface) (now (array .exit)) (now (register .exit)) (now (history .exit))) (r .sent) ≡ mountEnd (setting g (now (mask .entry)) (now (fates .entry))) allowed (blocksRead (setting g (now (mask .entry)) (now (fates .entry))) (g .blocks) (progress (line from (now (array .entry)) (now (register .entry)) (now (history .entry))) Passed cs os))) ⌝ }
 {
     let mut page = [0u8; 4352];
-    let mut kinds = [0usize; 4096];
-    let mut logicals = [0usize; 4096];
+    let mut kinds = [0u8; 4096];
+    let mut logicals = [0u16; 4096];
     let mut numbers = [0u64; 4096];
     let size = geometry::page_size(g);
     let scanned = scan::scan_chip(

@@ -13,8 +13,8 @@ ghost use Rattle.mount_judge.specs.Judging.{judgedBy, stateOf};
 pub fn judge(
     found: Found,
     g: Geometry,
-    kinds: &[usize; 4096],
-    logicals: &[usize; 4096],
+    kinds: &[u8; 4096],
+    logicals: &[u16; 4096],
     numbers: &[u64; 4096],
 ) -> usize
     requires { ⌜ Valid g ⌝ }
@@ -47,8 +47,8 @@ pub fn judge(
 pub fn mounted_state(
     found: Found,
     g: Geometry,
-    kinds: &[usize; 4096],
-    logicals: &[usize; 4096],
+    kinds: &[u8; 4096],
+    logicals: &[u16; 4096],
     numbers: &[u64; 4096],
 ) -> State
     requires { ⌜ Valid g ⌝ }

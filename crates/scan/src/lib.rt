@@ -39,8 +39,8 @@ pub fn scan_chip(
     mask: &[u8],
     fates: &[u32],
     page: &mut [u8],
-    kinds: &mut [usize],
-    logicals: &mut [usize],
+    kinds: &mut [u8],
+    logicals: &mut [u16],
     numbers: &mut [u64],
 ) -> ChipScanned
     requires { ⌜ Called (setting g (now mask) (now fates)) (line from (now array) (now register) (now history)) ⌝ }

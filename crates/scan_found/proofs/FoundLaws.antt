@@ -8,13 +8,16 @@ use native.Mathlib.Omega.{arith}
 use borrow.Table.Steps.{cases}
 use borrow.Author.Tests.{eq-eqb, ne-eqb, ltb-true, ltb-false}
 use lib.Dec.{eqb, ltb}
+use lib.ListN.{drop}
 use Rattle.geometry.specs.declared.Geometry.{Geometry}
 use Rattle.bools.proofs.BoolLaws.{both}
-use Rattle.geometry.specs.Sizes.{blockSize}
+use Rattle.geometry.specs.Sizes.{pageSize, blockSize}
 use Rattle.cells.specs.Bytes.{Bytes}
+use Rattle.cells.proofs.CellLaws.{bytes-drop}
 use Rattle.cells.proofs.PartLaws.{bytes-part}
-use Rattle.pages.specs.Layout.{isTableKind}
-use Rattle.copies.specs.Blocks.{blockIn, isMarked, isComplete, isTable, hasNumber, greatest}
+use Rattle.pages.specs.Layout.{isTableKind, kindOf, labelOf}
+use Rattle.pages.proofs.LayoutLaws.{numberOf-fits}
+use Rattle.copies.specs.Blocks.{blockIn, pageIn, isMarked, isComplete, isTable, hasNumber, greatest}
 use Rattle.copies.specs.Current.{numberAt, greatestBelow}
 use Rattle.copies.specs.Pick.{nothing, at, better, pick}
 use Rattle.scan_summary.specs.Summary.{saysComplete, saysNumber}
@@ -323,3 +326,17 @@ module _ (g : Geometry) (array : List ℕ) where
       small-arms (saysComplete s) _ a
       (small-arms (isTableKind (s .kind)) _ a (small-arms (isNewer s a) (withTable n s (rightAt g array n) (bitsAt g array n) a) a (omega (arith, h)) counted) counted)
       counted
+
+-- kind and logical block of a complete block of bytes have one byte and two
+label-fits : (main : ℕ) (p : List ℕ) → Bytes p → (labelOf main p .kind < 256) × (labelOf main p .logical < 256 ^ 2)
+unfolding labelOf kindOf
+label-fits main p b =
+    (bytes-drop main p b 1, numberOf-fits 2 (drop 2 (drop main p)) (bytes-drop 2 (drop main p) (bytes-drop main p b)))
+
+pub copy-fits : (g : Geometry) → 2 ≤ g .pages → (array : List ℕ) → Bytes array → (n : ℕ) → saysComplete (summaryAt g array n) ≡ true
+    → (summaryAt g array n .kind < 256) × (summaryAt g array n .logical < 65536)
+copy-fits g two array b n t =
+    let row = blockIn g array n in
+    let c = complete-label g row two (sym (says-complete g row two) ∙ t) in
+    let l = label-fits (g .main) (pageIn g row 0) (bytes-part (0 * pageSize g) (pageSize g) row (bytes-part (n * blockSize g) (blockSize g) array b)) in
+    (omega (arith, c .kind-is, l .0), omega (arith, c .logical-is, l .1))

@@ -1,12 +1,20 @@
 // The copies that a scan found: kind, logical block and number of each complete block; clashes and the map.
 use scan_summary::Summary;
+ghost use mathlib.Core.Bool.{true};
 ghost use mathlib.Core.Path.{_≡_};
 ghost use Prim.Native.Nat.{_<_, _≤_};
 ghost use lib.ListN.{length};
 ghost use Rattle.copies.specs.Pick.{someBelow};
+ghost use Rattle.scan_summary.specs.Summary.{saysComplete};
 ghost use Rattle.scan_found.specs.Contents.{contents, copyNoted, counted, bears, pastLast, clashing, replaces, isCandidate, entryNoted, mapTo};
 
 fn wide(x: u16) -> usize
+    ensures { λ r. ⌜ r ≡ x ⌝ }
+{
+    x as usize
+}
+
+fn wide_byte(x: u8) -> usize
     ensures { λ r. ⌜ r ≡ x ⌝ }
 {
     x as usize
@@ -16,10 +24,11 @@ fn wide(x: u16) -> usize
 pub fn note_copy(
     summary: Summary,
     block: usize,
-    kinds: &mut [usize],
-    logicals: &mut [usize],
+    kinds: &mut [u8],
+    logicals: &mut [u16],
     numbers: &mut [u64],
 )
+    requires { ⌜ (saysComplete summary ≡ true → (summary .kind < 256) × (summary .logical < 65536)) ⌝ }
     requires { ⌜ block < length (now kinds) ⌝ }
     requires { ⌜ block < length (now logicals) ⌝ }
     requires { ⌜ block < length (now numbers) ⌝ }
@@ -28,15 +37,15 @@ pub fn note_copy(
     if !summary.is_complete() {
         return;
     }
-    kinds[block] = summary.kind;
-    logicals[block] = summary.logical;
+    kinds[block] = summary.kind as u8;
+    logicals[block] = summary.logical as u16;
     numbers[block] = summary.number;
 }
 
 // Whether a block is complete and not listed.
 fn is_counted(
-    kinds: &[usize; 4096],
-    logicals: &[usize; 4096],
+    kinds: &[u8; 4096],
+    logicals: &[u16; 4096],
     numbers: &[u64; 4096],
     bits: &[u8; 512],
     block: usize,
@@ -55,8 +64,8 @@ fn is_counted(
 
 // Whether a counted block bears a number.
 fn does_bear(
-    kinds: &[usize; 4096],
-    logicals: &[usize; 4096],
+    kinds: &[u8; 4096],
+    logicals: &[u16; 4096],
     numbers: &[u64; 4096],
     bits: &[u8; 512],
     number: u64,
@@ -73,8 +82,8 @@ fn does_bear(
 
 // Whether a counted block below another bears a number.
 fn is_shared(
-    kinds: &[usize; 4096],
-    logicals: &[usize; 4096],
+    kinds: &[u8; 4096],
+    logicals: &[u16; 4096],
     numbers: &[u64; 4096],
     bits: &[u8; 512],
     number: u64,
@@ -95,8 +104,8 @@ fn is_shared(
 
 // Whether a block is a data copy of a logical block past the last.
 fn is_past_last(
-    kinds: &[usize; 4096],
-    logicals: &[usize; 4096],
+    kinds: &[u8; 4096],
+    logicals: &[u16; 4096],
     numbers: &[u64; 4096],
     logical: usize,
     block: usize,
@@ -104,16 +113,16 @@ fn is_past_last(
     requires { ⌜ block < 4096 ⌝ }
     ensures { λ r. ⌜ r ≡ pastLast (contents (now (kinds .entry)) (now (logicals .entry)) (now (numbers .entry))) logical block ⌝ }
 {
-    if !pages::is_data(kinds[block]) {
+    if !pages::is_data(wide_byte(kinds[block])) {
         return false;
     }
-    logical <= logicals[block]
+    logical <= wide(logicals[block])
 }
 
 // Whether a counted block is such a copy, or bears the number of a counted one below it.
 fn is_clashing(
-    kinds: &[usize; 4096],
-    logicals: &[usize; 4096],
+    kinds: &[u8; 4096],
+    logicals: &[u16; 4096],
     numbers: &[u64; 4096],
     bits: &[u8; 512],
     logical: usize,
@@ -133,8 +142,8 @@ fn is_clashing(
 
 // Whether one of the first blocks clashes.
 pub fn is_clash(
-    kinds: &[usize; 4096],
-    logicals: &[usize; 4096],
+    kinds: &[u8; 4096],
+    logicals: &[u16; 4096],
     numbers: &[u64; 4096],
     bits: &[u8; 512],
     logical: usize,
@@ -155,8 +164,8 @@ pub fn is_clash(
 
 // Whether block b replaces the entry of the map for its logical block.
 fn does_replace(
-    kinds: &[usize; 4096],
-    logicals: &[usize; 4096],
+    kinds: &[u8; 4096],
+    logicals: &[u16; 4096],
     numbers: &[u64; 4096],
     blocks: usize,
     old: usize,
@@ -173,8 +182,8 @@ fn does_replace(
 
 // Whether a counted block is a data copy of one of the logical blocks.
 fn is_candidate(
-    kinds: &[usize; 4096],
-    logicals: &[usize; 4096],
+    kinds: &[u8; 4096],
+    logicals: &[u16; 4096],
     numbers: &[u64; 4096],
     bits: &[u8; 512],
     logical: usize,
@@ -184,8 +193,8 @@ fn is_candidate(
     ensures { λ r. ⌜ r ≡ isCandidate (contents (now (kinds .entry)) (now (logicals .entry)) (now (numbers .entry))) (now (bits .entry)) logical block ⌝ }
 {
     if is_counted(kinds, logicals, numbers, bits, block) {
-        if pages::is_data(kinds[block]) {
-            return logicals[block] < logical;
+        if pages::is_data(wide_byte(kinds[block])) {
+            return wide(logicals[block]) < logical;
         }
     }
     false
@@ -193,8 +202,8 @@ fn is_candidate(
 
 // Enters a block into the map.
 fn note_entry(
-    kinds: &[usize; 4096],
-    logicals: &[usize; 4096],
+    kinds: &[u8; 4096],
+    logicals: &[u16; 4096],
     numbers: &[u64; 4096],
     bits: &[u8; 512],
     blocks: usize,
@@ -206,7 +215,7 @@ fn note_entry(
     ensures { λ _. ⌜ now (map .exit) ≡ entryNoted (contents (now (kinds .entry)) (now (logicals .entry)) (now (numbers .entry))) (now (bits .entry)) blocks logical block (now (map .entry)) ⌝ }
 {
     if is_candidate(kinds, logicals, numbers, bits, logical, block) {
-        let l = logicals[block];
+        let l = wide(logicals[block]);
         let old = wide(map[l]);
         if does_replace(kinds, logicals, numbers, blocks, old, block) {
             map[l] = block as u16;
@@ -216,8 +225,8 @@ fn note_entry(
 
 // Enters the current copies into the map.
 pub fn map_copies(
-    kinds: &[usize; 4096],
-    logicals: &[usize; 4096],
+    kinds: &[u8; 4096],
+    logicals: &[u16; 4096],
     numbers: &[u64; 4096],
     bits: &[u8; 512],
     blocks: usize,

@@ -1,7 +1,8 @@
 -- `scan::scan_chip` meets its contract: after each block the scan has come through as ChipLaws tells. Assumes nothing.
-use Prim.Native.Nat.{ℕ, _-_, _≤_}
-use mathlib.Core.Bool.{false≢true}
-use mathlib.Core.Path.{_≡_, refl, sym, subst, _∙_}
+use Prim.Native.Nat.{ℕ, _-_, _≤_, _<_}
+use mathlib.Core.Bool.{true, false≢true}
+use mathlib.Core.List.{List}
+use mathlib.Core.Path.{_≡_, refl, sym, ap, subst, _∙_}
 use native.Mathlib.Omega.{arith}
 use borrow.Author.Needs.{needs}
 use denote.Ref.{now}
@@ -9,7 +10,11 @@ use lib.ListN.{length}
 use Rattle.chip_array.specs.Device.{setting}
 use Rattle.bus.specs.Line.{line}
 use Rattle.bus_polling.proofs.OutcomeLaws.{passed-by-tag, other-by-tag, is-passed}
+use Rattle.scan_summary.specs.Summary.{saysComplete}
+use Rattle.scan_summary.specs.declared.Summary.{Summary}
+use Rattle.scan_found.specs.Found.{summaryAt}
 use Rattle.scan_found.specs.Contents.{contents}
+use Rattle.scan_found.proofs.FoundLaws.{copy-fits}
 use Rattle.scan.proofs.ChipLaws.{Through, chip-begins, chip-goes, chip-stops}
 use Rattle.scan.proofs.scan_chip.Statement.{statement}
 use Rattle.scan.proofs.scan_chip.Tie as tie
@@ -121,13 +126,20 @@ note-requires c κs =
 note-copy-requires : tie.Need-note-copy-requires Inv-loop μ-loop
 note-copy-requires c κs =
     let way = c .before .before .before .before .before .before .before .before .before in
-    let way-2 = way .before .before .before .before .before .before .before .before .before in
-    let at-loop-test = way-2 .before .before .before .before .before in
+    let at-match = c .before .before .before .before .before .before in
+    let at-scan-block = way .before .before .before .before .before .before .before .before in
+    let at-loop-test = at-scan-block .before .before .before .before .before .before in
     let turn = at-loop-test .before in
-    let way-3 = turn .before .before .before .before .before .before .before .before .before in
-    let s = way-3 .before .before in
+    let at-slice-known = turn .before .before .before .before .before .before .before .before .before .before in
+    let s = at-slice-known .before in
     let lp = turn .loop in
-    (omega (arith, at-loop-test .loop-test .taken, lp .inv .5, s .pre .1 .1 .0), (omega (arith, at-loop-test .loop-test .taken, lp .inv .6, s .pre .1 .1 .1 .0), omega (arith, at-loop-test .loop-test .taken, lp .inv .7, s .pre .1 .1 .1 .1)))
+    let v = lp .inv .8 .called .is-valid in
+    let p = passed-by-tag _ (at-match .match .keys1) in
+    let summary-is = at-scan-block .scan-block .ensures .1 .1 .1 .1 .1 .0 p ∙ ap (λ (x : List ℕ). summaryAt (s .args .g) x (lp .block)) (lp .inv .8 .same-array) in (
+      subst (λ (x : Summary). saysComplete x ≡ true → (x .kind < 256) × (x .logical < 65536)) (sym summary-is)
+          (copy-fits (s .args .g) (omega (arith, v .pages-least)) (now (s .args .array)) (λ i. omega (arith, at-slice-known .slice-known .given i)) (lp .block)),
+      (omega (arith, at-loop-test .loop-test .taken, lp .inv .5, s .pre .1 .1 .0), (omega (arith, at-loop-test .loop-test .taken, lp .inv .6, s .pre .1 .1 .1 .0), omega (arith, at-loop-test .loop-test .taken, lp .inv .7, s .pre .1 .1 .1 .1))),
+    )
 
 add-block : tie.Need-add-block Inv-loop μ-loop
 add-block c =

@@ -1,6 +1,9 @@
 -- `scan_found::contents::is_candidate` meets its contract. Assumes nothing.
-use mathlib.Core.Path.{sym, _∙_}
+use Prim.Native.Nat.{ℕ}
+use mathlib.Core.Path.{sym, ap, _∙_}
 use denote.Ref.{now}
+use lib.Dec.{ltb}
+use Rattle.pages.specs.Layout.{isDataKind}
 use Rattle.scan_found.specs.Contents.{contents}
 use Rattle.scan_found.proofs.ContentsLaws.{candidate-data, candidate-other, candidate-not}
 use borrow.Author.Needs.{needs}
@@ -10,30 +13,39 @@ use Rattle.scan_found.proofs.contents.is_candidate.Tie as tie
 is-counted-requires : tie.Need-is-counted-requires
 is-counted-requires c κs = search needs
 
-mul-is-data : tie.Need-mul-is-data
-mul-is-data c = search needs
+element-copy-out-wide-byte : tie.Need-element-copy-out-wide-byte
+element-copy-out-wide-byte c = search needs
 
-element-copy-out-is-data : tie.Need-element-copy-out-is-data
-element-copy-out-is-data c = search needs
+wide-byte-requires : tie.Need-wide-byte-requires
+wide-byte-requires c κs = search needs
 
 is-data-requires : tie.Need-is-data-requires
 is-data-requires c κs = search needs
 
-mul-result : tie.Need-mul-result
-mul-result c = search needs
+mul-wide : tie.Need-mul-wide
+mul-wide c = search needs
 
-element-copy-out-result : tie.Need-element-copy-out-result
-element-copy-out-result c = search needs
+element-copy-out-wide : tie.Need-element-copy-out-wide
+element-copy-out-wide c = search needs
+
+wide-requires : tie.Need-wide-requires
+wide-requires c κs = search needs
 
 returns : tie.Need-returns
 returns c =
-    let a = c .before .before .before .before .before .before .args in
-    candidate-data (contents (now (a .kinds)) (now (a .logicals)) (now (a .numbers))) (now (a .bits)) (a .block) (a .logical) (sym (c .before .before .before .before .before .is-counted .ensures) ∙ c .before .before .before .before .if1 .taken) (sym (c .before .before .is-data .ensures) ∙ c .before .if2 .taken)
+    let at-if = c .before .before in
+    let at-wide-byte = at-if .before .before in
+    let at-counted = at-wide-byte .before .before in
+    let a = at-counted .before .before .args in
+    ap (λ (x : ℕ). ltb x (a .logical)) (c .wide .ensures)
+    ∙ candidate-data (contents (now (a .kinds)) (now (a .logicals)) (now (a .numbers))) (now (a .bits)) (a .block) (a .logical) (sym (at-counted .before .is-counted .ensures) ∙ at-counted .if1 .taken) (sym (at-if .before .is-data .ensures ∙ ap isDataKind (at-wide-byte .wide-byte .ensures)) ∙ at-if .if2 .taken)
 
 returns-2 : tie.Need-returns-2
 returns-2 c =
-    let a = c .before .before .before .before .before .args in
-    candidate-other (contents (now (a .kinds)) (now (a .logicals)) (now (a .numbers))) (now (a .bits)) (a .block) (a .logical) (sym (c .before .before .before .before .is-counted .ensures) ∙ c .before .before .before .if1 .taken) (sym (c .before .is-data .ensures) ∙ c .if2 .left)
+    let at-wide-byte = c .before .before in
+    let at-counted = at-wide-byte .before .before in
+    let a = at-counted .before .before .args in
+    candidate-other (contents (now (a .kinds)) (now (a .logicals)) (now (a .numbers))) (now (a .bits)) (a .block) (a .logical) (sym (at-counted .before .is-counted .ensures) ∙ at-counted .if1 .taken) (sym (c .before .is-data .ensures ∙ ap isDataKind (at-wide-byte .wide-byte .ensures)) ∙ c .if2 .left)
 
 returns-3 : tie.Need-returns-3
 returns-3 c =
@@ -45,11 +57,12 @@ is-candidate-spec =
     tie.close
     (tie.spec
     is-counted-requires
-    mul-is-data
-    element-copy-out-is-data
+    element-copy-out-wide-byte
+    wide-byte-requires
     is-data-requires
-    mul-result
-    element-copy-out-result
+    mul-wide
+    element-copy-out-wide
+    wide-requires
     returns
     returns-2
     returns-3)

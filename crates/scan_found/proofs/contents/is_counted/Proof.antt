@@ -15,9 +15,6 @@ returns c =
     let a = c .before .before .before .args in
     not-listed (contents (now (a .kinds)) (now (a .logicals)) (now (a .numbers))) (now (a .bits)) (a .block) (sym (c .before .is-set .ensures) ∙ c .if1 .taken)
 
-mul-if2 : tie.Need-mul-if2
-mul-if2 c = search needs
-
 element-copy-out-if2 : tie.Need-element-copy-out-if2
 element-copy-out-if2 c = search needs
 
@@ -33,4 +30,4 @@ returns-3 c =
 
 pub is-counted-spec : {M : Type 1} → statement M
 is-counted-spec =
-    tie.close (tie.spec is-set-requires returns mul-if2 element-copy-out-if2 returns-2 returns-3)
+    tie.close (tie.spec is-set-requires returns element-copy-out-if2 returns-2 returns-3)

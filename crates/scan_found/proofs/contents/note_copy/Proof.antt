@@ -13,11 +13,20 @@ returns : tie.Need-returns
 unfolding copyNoted
 returns c = rw (sym (c .before .is-complete .ensures) ∙ not-true _ (c .if1 .taken))
 
-mul-kinds : tie.Need-mul-kinds
-mul-kinds c = search needs
+cast-kinds : tie.Need-cast-kinds
+cast-kinds c =
+    let at-if = c .before in
+    let s = at-if .before .before .before .before .before in
+    search (needs, s .pre .0 (sym (at-if .before .is-complete .ensures) ∙ not-false _ (at-if .if1 .left)) .0)
 
 slice-write-kinds : tie.Need-slice-write-kinds
 slice-write-kinds c = search needs
+
+cast-logicals : tie.Need-cast-logicals
+cast-logicals c =
+    let at-if = c .before .before in
+    let s = at-if .before .before .before .before .before in
+    search (needs, s .pre .0 (sym (at-if .before .is-complete .ensures) ∙ not-false _ (at-if .if1 .left)) .1)
 
 mul-logicals : tie.Need-mul-logicals
 mul-logicals c = search needs
@@ -42,7 +51,9 @@ same-length-3 c = search needs
 
 returns-2 : tie.Need-returns-2
 unfolding copyNoted
-returns-2 c = rw (sym (c .before .is-complete .ensures) ∙ not-false _ (c .if1 .left))
+returns-2 c =
+    let at-if = c .before .before in
+    rw (sym (at-if .before .is-complete .ensures) ∙ not-false _ (at-if .if1 .left))
 
 pub note-copy-spec : {M : Type 1} → statement M
 note-copy-spec =
@@ -50,8 +61,9 @@ note-copy-spec =
     (tie.spec
     is-complete-requires
     returns
-    mul-kinds
+    cast-kinds
     slice-write-kinds
+    cast-logicals
     mul-logicals
     slice-write-logicals
     mul-numbers
