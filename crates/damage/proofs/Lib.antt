@@ -1,6 +1,7 @@
 pub mod FateLaws
 pub mod PlaceLaws
 pub mod TraceLaws
+pub mod FailedLaws
 pub mod ReadLaws
 pub mod ReplayLaws
 pub mod EraseLaws

@@ -1,5 +1,5 @@
 -- A request on its way, told without its cycles: what each of its operations leaves of the chip.
-use Prim.Native.Nat.{ℕ, _+_, _*_, _≤_, _<_, _^_}
+use Prim.Native.Nat.{ℕ, zero, suc, _+_, _*_, _≤_, _<_, _^_}
 use mathlib.Core.Bool.{Bool, true, false, cond}
 use mathlib.Core.List.{List, [], _∷_}
 use mathlib.Core.Logic.{_⊎_}
@@ -37,6 +37,11 @@ pub record Failing (fates : List ℕ) : Type 0 where
 unfoldable pub failedIn : ℕ → List ArrayOperation → Bool
 failedIn b [] = false
 failedIn b (o ∷ os) = let more = failedIn b os in cond (cond (eqb (o .block) b) (isFailed (o .answer)) false) true more
+
+-- how many of the first n blocks have one
+unfoldable pub failedCount : List ArrayOperation → ℕ → ℕ
+failedCount os zero = 0
+failedCount os (suc n) = failedCount os n + cond (failedIn n os) 1 0
 
 -- the same operations failed in q as in p, and the last of q, of this block, if it failed
 abbrev pub FailedMore : Progress → Progress → ℕ → Type 0

@@ -2,7 +2,7 @@
 use Prim.Native.Nat.{ℕ, zero, suc, _+_, _*_, _≤_, _<_}
 use mathlib.Core.Bool.{true, false, false≢true}
 use mathlib.Core.List.{List, []}
-use mathlib.Core.Logic.{_⊎_, inl, inr, ⊎-elim}
+use mathlib.Core.Logic.{_⊎_, _↔_, inl, inr, ⊎-elim}
 use mathlib.Core.Path.{_≡_, refl, sym, ap, subst, _∙_}
 use native.Mathlib.Nat.{mul-le-mul-right, add-zero}
 use native.Mathlib.Omega.{arith}
@@ -42,7 +42,8 @@ use Rattle.format_erase.specs.Round.{Round, erasedTo}
 use Rattle.format_erase.proofs.RoundLaws.{round-stopped}
 use Rattle.fill_tables.specs.Tables.{Tabled, tabled}
 use Rattle.format.specs.Format.{firstState, tooFew, stopped, tablesOf, tablesRun, roundRun, marksRun, formatRun}
-use Rattle.damage.specs.Run.{failedIn, NoneFailed, Sound, Unchanged, Spent, readMost, blockOn, Slow, Failing, tableFillMost}
+use Rattle.damage.specs.Run.{failedIn, failedCount, NoneFailed, Sound, Unchanged, Spent, readMost, blockOn, Slow, Failing, tableFillMost}
+use Rattle.damage.proofs.FailedLaws.{failed-least}
 use Rattle.damage.proofs.PlaceLaws.{page-erased}
 use Rattle.damage.proofs.ReadLaws.{read-unchanged, read-spends, read-calm, reset-unchanged, reset-spends}
 use Rattle.damage.proofs.CopyLaws.{erased-unmarked}
@@ -50,7 +51,7 @@ use Rattle.format_laws.proofs.SettledLaws as settled
 use Rattle.format_laws.proofs.TablesLaws.{Ready, Done, Left, tables-leave}
 use Rattle.format_laws.proofs.RoundLaws.{Rounded, round-leaves}
 use Rattle.format_laws.proofs.CountLaws.{count-unfailed, none-unfailed, some-unfailed}
-use Rattle.format_laws.specs.Formatting.{Formatted, FormatAnswer, is-worn, is-silent, is-cut, unfailed, roundFrom, roundDone, blockMost, formatMost}
+use Rattle.format_laws.specs.Formatting.{Formatted, FormatAnswer, is-worn, is-silent, is-cut, unfailed, marksDone, roundFrom, roundDone, NumbersEnd, blockMost, formatMost}
 use Rattle.bitmaps.proofs.BitmapLaws.{blank-bit}
 
 -- how a formatting of chip d ends that may send n cycles, whatever fails or is cut
@@ -61,7 +62,8 @@ pub record FormatLeft (s : Setting) (d : Device) (n : ℕ) (t : Tabled) : Type 0
       ⊎ (unfailed (s .geometry) (d .array) (t .progress .started) (s .geometry .blocks) ≡ 0)
   pub worn-so : isPassed (roundDone s d n .outcome) ≡ true → unfailed (s .geometry) (d .array) (roundDone s d n .started) (s .geometry .blocks) < s .geometry .logical + 2 → t .answer ≡ 8
   pub worn-out : isPassed (roundDone s d n .outcome) ≡ true → unfailed (s .geometry) (d .array) (t .progress .started) (s .geometry .blocks) ≡ 0 → (t .answer ≡ 8) ⊎ (t .answer ≡ 9)
-  pub spent-by : t .answer ≡ 9 → Failing (s .fates)
+  pub spent-exactly : (t .answer ≡ 9) ↔ NumbersEnd (s .geometry) (d .array) (roundFrom s (marksDone s d n)) (t .progress .started)
+  pub spent-fails : t .answer ≡ 9 → Failing (s .fates)
   pub silent-by : t .answer ≡ 10 → Slow (s .fates)
   pub used-up : t .answer ≡ 11 → t .progress .line .left ≡ 0
   pub round-failed : (b : ℕ) → b < s .geometry .blocks → failedIn b (roundDone s d n .started) ≡ true → Failing (s .fates)
@@ -145,7 +147,8 @@ pub record Whole (s : Setting) (p : Progress) (t : Tabled) : Type 0 where
   pub worn-so : isPassed (roundFrom s p .progress .outcome) ≡ true → unfailed (s .geometry) (p .line .chip .array) (roundFrom s p .progress .started) (s .geometry .blocks) < s .geometry .logical + 2
       → t .answer ≡ 8
   pub worn-out : isPassed (roundFrom s p .progress .outcome) ≡ true → unfailed (s .geometry) (p .line .chip .array) (t .progress .started) (s .geometry .blocks) ≡ 0 → (t .answer ≡ 8) ⊎ (t .answer ≡ 9)
-  pub spent-by : t .answer ≡ 9 → Failing (s .fates)
+  pub spent-exactly : (t .answer ≡ 9) ↔ NumbersEnd (s .geometry) (p .line .chip .array) (roundFrom s p) (t .progress .started)
+  pub spent-fails : t .answer ≡ 9 → Failing (s .fates)
   pub silent-by : t .answer ≡ 10 → Slow (s .fates)
   pub used-up : t .answer ≡ 11 → t .progress .line .left ≡ 0
   pub round-failed : (b : ℕ) → b < s .geometry .blocks → failedIn b (roundFrom s p .progress .started) ≡ true → Failing (s .fates)
@@ -183,15 +186,16 @@ module _ (s : Setting) (v : Valid (s .geometry)) (mask-bytes : Bytes (s .mask)) 
 
   -- a run that ends with the first round
   stops : (a : ℕ) → FormatAnswer a → (a ≡ 0 → ⊥) → (a ≡ 8 → unfailed-round < g .logical + 2) → (isPassed (r .progress .outcome) ≡ true → unfailed-round < g .logical + 2 → a ≡ 8) → (a ≡ 9 → ⊥)
-      → (a ≡ 10 → Slow (s .fates)) → (a ≡ 11 → r .progress .line .left ≡ 0) → Whole s p (tabled (r .progress) a (blank 2))
-  stops a is not-done worn-by worn-so not-spent silent-by used =
+      → (isPassed (r .progress .outcome) ≡ true → unfailed-round < g .logical + 2) → (a ≡ 10 → Slow (s .fates)) → (a ≡ 11 → r .progress .line .left ≡ 0) → Whole s p (tabled (r .progress) a (blank 2))
+  stops a is not-done worn-by worn-so not-spent few silent-by used =
       record {
         sound = rounded .sound;
         answers = is;
         worn-by = λ z. inl (worn-by z);
         worn-so = worn-so;
         worn-out = λ y none. inl (worn-so y (omega (arith, none)));
-        spent-by = λ z. absurd (not-spent z);
+        spent-exactly = (λ z. absurd (not-spent z), λ e. absurd (omega (arith, e .blocks-left, few (e .round-passed))));
+        spent-fails = λ z. absurd (not-spent z);
         silent-by = silent-by;
         used-up = used;
         round-failed = rounded .failed-by;
@@ -318,7 +322,18 @@ module _ (s : Setting) (v : Valid (s .geometry)) (mask-bytes : Bytes (s .mask)) 
         ⊎-elim
         (λ most. rounded .greatest-by (λ z. omega (arith, most, z)))
         (λ f. f)
-        (left .spent-by z)
+        (left .spent-fails z)
+
+    -- and exactly where the numbers end
+    fails-more : failedCount (r .progress .started) (g .blocks) ≤ failedCount (t .progress .started) (g .blocks)
+    fails-more = failed-least (r .progress .started) (t .progress .started) (left .failed-kept) (g .blocks)
+
+    numbers-end : g .logical + 2 ≤ unfailed-round → (t .answer ≡ 9) ↔ NumbersEnd g (p .line .chip .array) r (t .progress .started)
+    unfolding firstState
+    numbers-end enough = (
+      λ z. record { round-passed = y; blocks-left = enough; above = omega (arith, left .spent-by z, fails-more) },
+      λ e. left .spent-so (omega (arith, e .above, fails-more)),
+    )
 
     -- no block is left: worn or spent
     none-left : unfailed g (p .line .chip .array) (t .progress .started) (g .blocks) ≡ 0 → (t .answer ≡ 8) ⊎ (t .answer ≡ 9)
@@ -337,25 +352,26 @@ module _ (s : Setting) (v : Valid (s .geometry)) (mask-bytes : Bytes (s .mask)) 
     unfolding tooFew
     few-blocks few = omega (arith, round-count, ltb-true (countPermitted marked (r .invalid) (replicate 512 0) (g .blocks)) (g .logical + 2) few)
 
-    many-blocks : tooFew g marked (r .invalid) ≡ false → unfailed-round < g .logical + 2 → ⊥
+    enough-blocks : tooFew g marked (r .invalid) ≡ false → g .logical + 2 ≤ unfailed-round
     unfolding tooFew
-    many-blocks enough less = omega (arith, less, round-count, ltb-false (countPermitted marked (r .invalid) (replicate 512 0) (g .blocks)) (g .logical + 2) enough)
+    enough-blocks enough = omega (arith, round-count, ltb-false (countPermitted marked (r .invalid) (replicate 512 0) (g .blocks)) (g .logical + 2) enough)
 
     tables-whole : Whole s p (tablesRun s marked (r .invalid) (r .numbers .greatest) (r .progress))
     unfolding tablesRun
     tables-whole =
         cases (tooFew g marked (r .invalid))
         (λ few. subst (Whole s p) (sym (rw few))
-        (stops 8 is-worn (λ z. omega (arith, z)) (λ z. few-blocks few) (λ x less. refl) (λ z. omega (arith, z)) (λ z. absurd (omega (arith, z))) (λ z. absurd (omega (arith, z)))))
+        (stops 8 is-worn (λ z. omega (arith, z)) (λ z. few-blocks few) (λ x less. refl) (λ z. omega (arith, z)) (λ x. few-blocks few) (λ z. absurd (omega (arith, z))) (λ z. absurd (omega (arith, z)))))
         (λ enough.
         subst (Whole s p) (sym (rw enough))
         (record {
           sound = left .sound;
           answers = left .answers;
           worn-by = λ z. inr (none-unfailed g (p .line .chip .array) (t .progress .started) (g .blocks) (worn-all z));
-          worn-so = λ x less. absurd (many-blocks enough less);
+          worn-so = λ x less. absurd (omega (arith, less, enough-blocks enough));
           worn-out = λ x none. none-left none;
-          spent-by = spent-failing;
+          spent-exactly = numbers-end (enough-blocks enough);
+          spent-fails = spent-failing;
           silent-by = left .silent-by;
           used-up = left .used-up;
           round-failed = rounded .failed-by;
@@ -380,7 +396,7 @@ module _ (s : Setting) (v : Valid (s .geometry)) (mask-bytes : Bytes (s .mask)) 
       let least = stop .1 in
       subst (Whole s p) (sym (rw f))
       (stops (stopAnswer (r .progress .outcome)) (stop .0) (λ z. omega (arith, z, least)) (λ z. absurd (omega (arith, z, least))) (λ y. absurd (false≢true (sym f ∙ y)))
-      (λ z. omega (arith, z, least)) (λ z. rounded .sound .silent-by (stop-silent (r .progress .outcome) z)) (λ z. rounded .sound .used-up (stop-cut (r .progress .outcome) z))))
+      (λ z. omega (arith, z, least)) (λ y. absurd (false≢true (sym f ∙ y))) (λ z. rounded .sound .silent-by (stop-silent (r .progress .outcome) z)) (λ z. rounded .sound .used-up (stop-cut (r .progress .outcome) z))))
 
 -- the request from its reset on
 module _ (s : Setting) (d : Device) (n : ℕ) (t : sizedFor s d ≡ true) (mask-bytes : Bytes (s .mask)) where
@@ -420,7 +436,8 @@ module _ (s : Setting) (d : Device) (n : ℕ) (t : sizedFor s d ≡ true) (mask-
             ⊎-elim (λ e. inl (subst (λ (k : ℕ). k < s .geometry .logical + 2) (unfailed-same (roundFrom s q .progress .started)) e)) (λ e. inr (sym (unfailed-same (x .progress .started)) ∙ e)) (w .worn-by z);
         worn-so = λ y less. w .worn-so y (subst (λ (k : ℕ). k < s .geometry .logical + 2) (sym (unfailed-same (roundFrom s q .progress .started))) less);
         worn-out = λ y none. w .worn-out y (unfailed-same (x .progress .started) ∙ none);
-        spent-by = w .spent-by;
+        spent-exactly = subst (λ (a : List ℕ). (x .answer ≡ 9) ↔ NumbersEnd (s .geometry) a (roundFrom s q) (x .progress .started)) (same .same-array) (w .spent-exactly);
+        spent-fails = w .spent-fails;
         silent-by = w .silent-by;
         used-up = w .used-up;
         round-failed = w .round-failed;
@@ -451,7 +468,8 @@ module _ (s : Setting) (d : Device) (n : ℕ) (t : sizedFor s d ≡ true) (mask-
         worn-by = λ z. absurd (omega (arith, z, least));
         worn-so = λ y. absurd (false≢true (sym (ap (λ (x : Progress). isPassed (x .outcome)) (none-erased f) ∙ f) ∙ y));
         worn-out = λ y. absurd (false≢true (sym (ap (λ (x : Progress). isPassed (x .outcome)) (none-erased f) ∙ f) ∙ y));
-        spent-by = λ z. absurd (omega (arith, z, least));
+        spent-exactly = (λ z. absurd (omega (arith, z, least)), λ e. absurd (false≢true (sym (ap (λ (x : Progress). isPassed (x .outcome)) (none-erased f) ∙ f) ∙ e .round-passed)));
+        spent-fails = λ z. absurd (omega (arith, z, least));
         silent-by = λ z. same .sound .silent-by (stop-silent (q .outcome) z);
         used-up = λ z. same .sound .used-up (stop-cut (q .outcome) z);
         round-failed = λ b h y. absurd (false≢true (sym (ap (λ (x : Progress). failedIn b (x .started)) (none-erased f) ∙ calm b) ∙ y));

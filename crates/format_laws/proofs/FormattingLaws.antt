@@ -95,7 +95,8 @@ module _ (s : Setting) (d : Device) (n : ℕ) (mask-bytes : Bytes (s .mask)) (t 
         worn-by = left .worn-by;
         worn-so = left .worn-so;
         worn-out = left .worn-out;
-        spent-by = left .spent-by;
+        spent-exactly = left .spent-exactly;
+        spent-fails = left .spent-fails;
         silent-by = left .silent-by;
         marked-kept = left .marked-kept;
         marks-same = left .marks;
@@ -203,5 +204,5 @@ unfolding resultOf formatRequest
 format-done s d n state mask-bytes t fast passing enough h =
     let f = run-ends s d n mask-bytes t in
     rw t
-    (by-answer (f .answers) (not-worn s d n mask-bytes t passing enough) (λ z. passing (f .spent-by z)) (λ z. fast (f .silent-by z))
+    (by-answer (f .answers) (not-worn s d n mask-bytes t passing enough) (λ z. passing (f .spent-fails z)) (λ z. fast (f .silent-by z))
     (λ z. omega (arith, f .cut-at z, f .sent-most, h)))

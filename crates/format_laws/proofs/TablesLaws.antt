@@ -38,8 +38,9 @@ use Rattle.request.proofs.CallLaws.{stop-answer, stop-least, answer-silent, ans
 use Rattle.fill_tables.proofs.AfterLaws.{after-passed, after-failed}
 use Rattle.bus_polling.proofs.OutcomeLaws.{unfailed-end, failed-unpassed, passed-answered, failed-answered, passed-unfailed}
 use Rattle.fill_tables.specs.Tables.{Tried, tryBlock, tryTable, afterFill, Tabled, tabled, endedBy, tablesFilled}
-use Rattle.damage.specs.Run.{failedIn, Sound, Meant, from-caller, Filled, Spent, blockOn, pageOn, Slow, Failing, programMost, tableFillMost, sourceMost}
+use Rattle.damage.specs.Run.{failedIn, failedCount, Sound, Meant, from-caller, Filled, Spent, blockOn, pageOn, Slow, Failing, programMost, tableFillMost, sourceMost}
 use Rattle.damage.proofs.TraceLaws.{unfailed-none}
+use Rattle.damage.proofs.FailedLaws.{failed-same, failed-more}
 use Rattle.damage.proofs.PlaceLaws.{page-erased}
 use Rattle.damage.proofs.FillLaws.{fill-given, over-erased}
 use Rattle.damage.proofs.CopyLaws.{copy-long, copy-bytes, copy-unmarked, raised-greatest, raised-unmarked}
@@ -85,14 +86,16 @@ pub record Unfailed (s : Setting) (marked : List ℕ) (p : Progress) : Type 0 wh
   pub unmarked : bitAt marked block ≡ false
   pub unfailed : failedIn block (p .started) ≡ false
 
--- however table fills end: worn only where every block that was permitted has failed since, spent only where no number was
--- left or a fill failed
+-- however table fills end: worn only where every block that was permitted has failed since, spent exactly where the numbers were
+-- taken by the fills that failed since, so only where no number was left or a fill failed
 pub record Left (s : Setting) (held : List ℕ) (st : State) (p : Progress) (t : Tabled) : Type 0 where
   pub sound : Sound s (t .progress)
   pub answers : FormatAnswer (t .answer)
   pub worn-by : t .answer ≡ 8 → (b : ℕ) → b < s .geometry .blocks → permitted (st .marked) (st .invalid) held b ≡ true → failedIn b (t .progress .started) ≡ true
   pub unworn : (t .answer ≡ 8 → ⊥) → (t .answer ≡ 9 → ⊥) → Unfailed s (st .marked) (t .progress)
-  pub spent-by : t .answer ≡ 9 → (4294967296 ≤ st .number) ⊎ Failing (s .fates)
+  pub spent-by : t .answer ≡ 9 → numberEnd + failedCount (p .started) (s .geometry .blocks) ≤ nextNumber st + failedCount (t .progress .started) (s .geometry .blocks)
+  pub spent-so : numberEnd + failedCount (p .started) (s .geometry .blocks) ≤ nextNumber st + failedCount (t .progress .started) (s .geometry .blocks) → t .answer ≡ 9
+  pub spent-fails : t .answer ≡ 9 → (4294967296 ≤ st .number) ⊎ Failing (s .fates)
   pub silent-by : t .answer ≡ 10 → Slow (s .fates)
   pub used-up : t .answer ≡ 11 → t .progress .line .left ≡ 0
   pub failed-kept : (b : ℕ) → failedIn b (p .started) ≡ true → failedIn b (t .progress .started) ≡ true
@@ -309,6 +312,8 @@ module _ (s : Setting) (mask-bytes : Bytes (s .mask)) (held : List ℕ) where
           worn-by = λ z b h t. absurd (false≢true (sym (none b h) ∙ t));
           unworn = λ x y. absurd (x refl);
           spent-by = λ z. absurd (omega (arith, z));
+          spent-so = λ h. absurd (omega (arith, h, number-fits));
+          spent-fails = λ z. absurd (omega (arith, z));
           silent-by = λ z. absurd (omega (arith, z));
           used-up = λ z. absurd (omega (arith, z));
           failed-kept = λ b t. t;
@@ -382,6 +387,11 @@ module _ (s : Setting) (mask-bytes : Bytes (s .mask)) (held : List ℕ) where
           (λ w. block-left .sound .failed-by w)
           (λ f. absurd (false≢true (sym (block-left .failures c ∙ rw (y, f) (and-none (eqb b c))) ∙ t))))
 
+      one-failed : isFailed (ended .outcome) ≡ true → failedCount (ended .started) (s .geometry .blocks) ≡ failedCount (p .started) (s .geometry .blocks) + 1
+      one-failed w =
+          failed-more (p .started) (ended .started) b (r .failures b below ∙ free .1)
+          (λ c. block-left .failures c ∙ ap (λ (x : Bool). cond (failedIn c (p .started)) true (cond (eqb b c) x false)) w) (s .geometry .blocks) below
+
       -- the fills that follow a failed one
       goes-on : isFailed (ended .outcome) ≡ true → (t : Tabled) → Left s held (withInvalid b numbered) (resumed ended) t → Left s held st p t
       goes-on w t x =
@@ -393,7 +403,9 @@ module _ (s : Setting) (mask-bytes : Bytes (s .mask)) (held : List ℕ) where
                 (λ e. subst (λ (k : ℕ). failedIn k (t .progress .started) ≡ true) (sym (eqb-true c b e)) (x .failed-kept b (failed-now w)))
                 (λ e. x .worn-by z c h (permitted-other (st .marked) (st .invalid) held b bit-room c (eqb-false c b e) ∙ y));
             unworn = x .unworn;
-            spent-by = λ z. inr (block-left .sound .failed-by w);
+            spent-by = λ z. omega (arith, x .spent-by z, one-failed w);
+            spent-so = λ h. x .spent-so (omega (arith, h, one-failed w));
+            spent-fails = λ z. inr (block-left .sound .failed-by w);
             silent-by = x .silent-by;
             used-up = x .used-up;
             failed-kept = λ c y. x .failed-kept c (failed-before c y);
@@ -425,6 +437,8 @@ module _ (s : Setting) (mask-bytes : Bytes (s .mask)) (held : List ℕ) where
             worn-by = λ z. end-unlike (ended .outcome) 8 (omega arith) (omega arith) z;
             unworn = λ x y. record { block = b; below = below; unmarked = free .0; unfailed = unfailed-none p ended b f (block-left .failures) b ∙ r .failures b below ∙ free .1 };
             spent-by = λ z. end-unlike (ended .outcome) 9 (omega arith) (omega arith) z;
+            spent-so = λ h. absurd (omega (arith, h, number-fits, failed-same (p .started) (ended .started) (unfailed-none p ended b f (block-left .failures)) (s .geometry .blocks)));
+            spent-fails = λ z. end-unlike (ended .outcome) 9 (omega arith) (omega arith) z;
             silent-by = λ z. block-left .sound .silent-by (answer-silent (ended .outcome) z);
             failed-kept = failed-before;
             failed-by = failed-since;
@@ -454,7 +468,9 @@ module _ (s : Setting) (mask-bytes : Bytes (s .mask)) (held : List ℕ) where
         answers = is-spent;
         worn-by = λ z. absurd (omega (arith, z));
         unworn = λ x y. absurd (y refl);
-        spent-by = λ z. inl (omega (arith, h));
+        spent-by = λ z. omega (arith, h);
+        spent-so = λ z. refl;
+        spent-fails = λ z. inl (omega (arith, h));
         silent-by = λ z. absurd (omega (arith, z));
         used-up = λ z. absurd (omega (arith, z));
         failed-kept = λ b t. t;

@@ -1,8 +1,8 @@
 -- What every formatting leaves, and what an acknowledged one gives.
-use Prim.Native.Nat.{ℕ, zero, suc, _+_, _*_, _≤_, _<_}
+use Prim.Native.Nat.{ℕ, zero, suc, _+_, _-_, _*_, _≤_, _<_}
 use mathlib.Core.Bool.{true, false, cond}
 use mathlib.Core.List.{List, []}
-use mathlib.Core.Logic.{_⊎_}
+use mathlib.Core.Logic.{_⊎_, _↔_}
 use mathlib.Core.Path.{_≡_}
 use lib.ListN.{length, replicate}
 use Rattle.geometry.specs.declared.Geometry.{Geometry}
@@ -18,7 +18,7 @@ use Rattle.scan_found.specs.Found.{marksTo}
 use Rattle.operations.specs.Trace.{ArrayOperation}
 use Rattle.bus_polling.specs.Outcomes.{isPassed}
 use Rattle.bus_polling.specs.declared.Outcome.the-variants.{Passed}
-use Rattle.state.specs.State.{blank, mounted}
+use Rattle.state.specs.State.{blank, numberEnd, mounted}
 use Rattle.state.specs.declared.State.{State}
 use Rattle.request.specs.Call.{Result, sizedFor, callLine}
 use Rattle.progress.specs.Progress.{Progress, progress, resetOn}
@@ -28,7 +28,7 @@ use Rattle.fill.specs.Fill.{tableCopy, tableMain, copyPage}
 use Rattle.format.specs.Format.{formatRun}
 use Rattle.mount.specs.Mount.{mountedState}
 use Rattle.damage.specs.Replay.{Replayed}
-use Rattle.damage.specs.Run.{failedIn, Slow, Failing, readMost, eraseMost, tableFillMost}
+use Rattle.damage.specs.Run.{failedIn, failedCount, Slow, Failing, readMost, eraseMost, tableFillMost}
 
 -- what demand 3 starts from: the table on the chip with its number, its pages as they were programmed and what it lists,
 -- every other unmarked block that it does not list erased, so that nothing unlisted is complete but it, a mount that
@@ -79,6 +79,18 @@ roundFrom s p = erasedTo s (marksTo (s .geometry) (p .line .chip .array) (s .geo
 abbrev pub roundDone : Setting → Device → ℕ → Progress
 roundDone s d n = roundFrom s (marksDone s d n) .progress
 
+-- the number that the last table fill needed: one above the greatest on a whole page read in the first round, 1 if none, and one more for
+-- each block whose table fill failed; os is the trace of all
+abbrev pub numberNeeded : Geometry → Round → List ArrayOperation → ℕ
+numberNeeded g r os =
+    r .numbers .greatest + 1 + (failedCount os (g .blocks) - failedCount (r .progress .started) (g .blocks))
+
+-- a table fill needs a number above 4,294,967,295: the first round passed and left N + 2 blocks, and the number needed is past the last
+pub record NumbersEnd (g : Geometry) (array : List ℕ) (r : Round) (os : List ArrayOperation) : Type 0 where
+  pub round-passed : isPassed (r .progress .outcome) ≡ true
+  pub blocks-left : g .logical + 2 ≤ unfailed g array (r .progress .started) (g .blocks)
+  pub above : numberEnd ≤ numberNeeded g r os
+
 -- the answers of a formatting of a chip whose sizes go together
 pub data FormatAnswer : ℕ → Type 0 where
   is-done : FormatAnswer 0
@@ -91,8 +103,8 @@ pub data FormatAnswer : ℕ → Type 0 where
 -- cycle legal where it is sent, the sizes kept, blocks with a factory mark untouched, no more cycles than formatMost; if it is acknowledged, no
 -- block has got a mark, and the table lists the blocks of which an erase or a program failed, and no others; if not, the state is stopped. It is worn where
 -- under N + 2 unmarked blocks are unfailed after the first round of erases, and else only where none is in the end;
--- there it is worn, or spent before that. It is spent only where a fate word fails, silent only where one is slow, and
--- cut only where all n cycles were sent
+-- there it is worn, or spent before that. It is spent exactly where a table fill needs a number above the last, so only where a fate
+-- word fails; silent only where one is slow, and cut only where all n cycles were sent
 pub record Formatting (s : Setting) (d : Device) (n : ℕ) (r : Result) : Type 0 where
   pub legal : r .chip .interface .illegal ≡ 0
   pub replayed : Replayed s (callLine d n .chip) (r .chip) (formatRun s d n .progress .cycles)
@@ -104,7 +116,8 @@ pub record Formatting (s : Setting) (d : Device) (n : ℕ) (r : Result) : Type 0
       → r .answer ≡ 8
   pub worn-out : isPassed (roundDone s d n .outcome) ≡ true → unfailed (s .geometry) (d .array) (formatRun s d n .progress .started) (s .geometry .blocks) ≡ 0
       → (r .answer ≡ 8) ⊎ (r .answer ≡ 9)
-  pub spent-by : r .answer ≡ 9 → Failing (s .fates)
+  pub spent-exactly : (r .answer ≡ 9) ↔ NumbersEnd (s .geometry) (d .array) (roundFrom s (marksDone s d n)) (formatRun s d n .progress .started)
+  pub spent-fails : r .answer ≡ 9 → Failing (s .fates)
   pub silent-by : r .answer ≡ 10 → Slow (s .fates)
   pub marked-kept : (b : ℕ) → b < s .geometry .blocks → isMarked (s .geometry) (blockIn (s .geometry) (d .array) b) ≡ true
       → blockIn (s .geometry) (r .chip .array) b ≡ blockIn (s .geometry) (d .array) b

@@ -42,15 +42,16 @@ use Rattle.fill_tables.specs.Tables.{Tabled, tabled, tablesFilled}
 use Rattle.request_refusals.specs.Refusals.{refusalOf}
 use Rattle.request_refusals.proofs.RefusalLaws.{accepts}
 use Rattle.damage.specs.Replay.{Replayed}
-use Rattle.damage.specs.Run.{Sound, Slow, Filled, failedIn, blockOn, fillMost, tableFillMost, readMost, programMost}
+use Rattle.damage.specs.Run.{Sound, Slow, Filled, failedIn, failedCount, blockOn, fillMost, tableFillMost, readMost, programMost}
 use Rattle.damage.proofs.TraceLaws.{unfailed-none}
+use Rattle.damage.proofs.FailedLaws.{failed-none, failed-same}
 use Rattle.damage.proofs.FillLaws.{fill-leaves, fill-given}
 use Rattle.damage.proofs.ReplayLaws.{leads-first, leads-kept, replayed, lengths-sized}
 use Rattle.format_laws.proofs.FormatLaws.{count-most}
 use Rattle.write_changes.specs.Changes.{Update, Copied, copied, copyFilled, stoppedAt, thenTable, changing, writeUpdate, eraseUpdate, writeRequest, writing, eraseRefusal, eraseRequest, erasingLogical}
 use Rattle.write_changes.proofs.KeepLaws.{change-keeps}
 use Rattle.write_changes.proofs.LoopLaws.{Copying, copies-end, Tabling, tables-end}
-use Rattle.write_laws.specs.Changing.{InRange, ChangeAnswer, is-done, is-worn, is-spent, is-silent, is-cut, changeMost, failedCount, newPage, newTable, Holds, firstOf, copiesDone, changeDone, heldLast, Acknowledged, Changing}
+use Rattle.write_laws.specs.Changing.{InRange, ChangeAnswer, is-done, is-worn, is-spent, is-silent, is-cut, changeMost, newPage, newTable, Holds, firstOf, copiesDone, changeDone, heldLast, Acknowledged, Changing}
 use Rattle.write_laws.proofs.NextLaws.{held-unpermitted, unheld-so, permitted-free, copy-held, table-held, next-copy, next-table}
 use Rattle.write_laws.proofs.PhaseLaws as phase
 use Rattle.write_laws.proofs.MeantLaws as meant
@@ -128,7 +129,7 @@ module _ (s : Setting) (d : Device) (n : ℕ) (st₀ : State) (u : Update) (rang
         marked-same = refl;
         bits = meant.bits-so (g .blocks) (st₀ .invalid) (ranged .invalid-long) (ranged .invalid-bytes) (facts .invalid-end);
         failures = λ b h. sym (or-none (bitAt (st₀ .invalid) b));
-        numbers = omega (arith, phase.failed-none (g .blocks));
+        numbers = omega (arith, failed-none (g .blocks));
         kept = λ b h f. refl;
         spent = omega arith;
       }
@@ -162,7 +163,7 @@ module _ (s : Setting) (d : Device) (n : ℕ) (st₀ : State) (u : Update) (rang
     -- it passed
     module _ (y : isPassed (q .outcome) ≡ true) where
       none-more : failedCount (q .started) (g .blocks) ≡ failedCount (p .started) (g .blocks)
-      none-more = phase.failed-same (p .started) (q .started) (unfailed-none p q b (passed-unfailed (q .outcome) y) (left .failures)) (g .blocks)
+      none-more = failed-same (p .started) (q .started) (unfailed-none p q b (passed-unfailed (q .outcome) y) (left .failures)) (g .blocks)
 
       copy-made : CopyMade (withCopy (u .logical) b (taken st)) q
       copy-made =
@@ -214,7 +215,7 @@ module _ (s : Setting) (d : Device) (n : ℕ) (st₀ : State) (u : Update) (rang
   made = copiesDone s d n st₀ u
 
   before-first : Before st₀ false first
-  before-first = record { mid = mid-first; any-failed = sym (le-ltb 0 (failedCount (first .started) (g .blocks)) (omega (arith, phase.failed-none (g .blocks)))) }
+  before-first = record { mid = mid-first; any-failed = sym (le-ltb 0 (failedCount (first .started) (g .blocks)) (omega (arith, failed-none (g .blocks)))) }
 
   copies : Copies made
   copies = copies-end s held u Before Copies copying (numbersLeft st₀) st₀ false first before-first refl

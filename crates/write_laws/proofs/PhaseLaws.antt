@@ -1,14 +1,13 @@
 -- Fills one after the other, each of a permitted block: what holds before each of them, and how they end. Assumes nothing.
-use Prim.Native.Nat.{ℕ, zero, suc, _+_, _*_, _/_, _≤_, _<_}
+use Prim.Native.Nat.{ℕ, _+_, _*_, _/_, _≤_, _<_}
 use mathlib.Core.Bool.{Bool, true, false, cond}
-use mathlib.Core.List.{List, []}
+use mathlib.Core.List.{List}
 use mathlib.Core.Logic.{_⊎_, ⊎-elim}
 use mathlib.Core.Path.{_≡_, refl, sym, ap, subst, _∙_}
 use native.Mathlib.Nat.{suc-mul}
 use native.Mathlib.Numerals.{add-one}
 use native.Mathlib.Omega.{arith}
 use borrow.Table.Steps.{cases}
-use borrow.Author.Tests.{eqb-true, eqb-false, ne-eqb}
 use lib.Dec.{eqb}
 use lib.ListN.{length}
 use Rattle.geometry.specs.declared.Geometry.{Geometry}
@@ -20,7 +19,6 @@ use Rattle.chip_array.specs.Device.{Setting}
 use Rattle.bus_polling.specs.Outcomes.{isPassed, isFailed, isSilent, isCut, isIllegal}
 use Rattle.bus_polling.proofs.OutcomeLaws.{passed-answered, failed-answered, passed-unfailed, unfailed-end}
 use Rattle.operations.specs.Ends.{Called}
-use Rattle.operations.specs.Trace.{ArrayOperation}
 use Rattle.state_choose.specs.Choose.{permitted, countPermitted}
 use Rattle.state_choose.proofs.ChooseLaws.{count-less}
 use Rattle.state.specs.State.{blank, nextNumber, numberEnd, heldBits, taken, withInvalid, Mounted}
@@ -29,42 +27,11 @@ use Rattle.request.specs.Call.{stopAnswer}
 use Rattle.request.proofs.CallLaws.{stop-answer, stop-least, stop-silent, stop-cut}
 use Rattle.progress.specs.Progress.{Progress}
 use Rattle.progress.specs.Steps.{resumed}
-use Rattle.damage.specs.Run.{Sound, Slow, Filled, failedIn, blockOn}
+use Rattle.damage.specs.Run.{Sound, Slow, Filled, failedIn, failedCount, blockOn}
 use Rattle.damage.proofs.TraceLaws.{or-assoc, unfailed-none}
+use Rattle.damage.proofs.FailedLaws.{failed-same, failed-more}
 use Rattle.write_laws.proofs.NextLaws.{next-invalid}
-use Rattle.write_laws.specs.Changing.{ChangeAnswer, is-done, is-worn, is-spent, is-silent, is-cut, failedCount}
-
--- the count of failed blocks: none at first, as many where the same ones failed, and one more where one more did
-pub failed-none : (n : ℕ) → failedCount [] n ≡ 0
-unfolding failedCount failedIn
-failed-none zero = refl
-failed-none (suc n) = rw (failed-none n)
-
-module _ (os ps : List ArrayOperation) where
-  pub failed-same : ((c : ℕ) → failedIn c ps ≡ failedIn c os) → (n : ℕ) → failedCount ps n ≡ failedCount os n
-  unfolding failedCount
-  failed-same e zero = refl
-  failed-same e (suc n) = rw (e n, failed-same e n)
-
-  module _ (b : ℕ) (was : failedIn b os ≡ false) (e : (c : ℕ) → failedIn c ps ≡ cond (failedIn c os) true (cond (eqb b c) true false)) where
-    failed-before : (n : ℕ) → n ≤ b → failedCount ps n ≡ failedCount os n
-    unfolding failedCount
-    failed-before zero h = refl
-    failed-before (suc n) h =
-        rw (e n, ne-eqb b n (λ x. omega (arith, x, h)), failed-before n (omega (arith, h))) (ap (λ (x : Bool). failedCount os n + cond x 1 0) (or-none (failedIn n os)))
-
-    pub failed-more : (n : ℕ) → b < n → failedCount ps n ≡ failedCount os n + 1
-    unfolding failedCount
-    failed-more zero h = absurd (omega (arith, h))
-    failed-more (suc n) h =
-        cases (eqb b n)
-        (λ y.
-        let same = eqb-true b n y in
-        let unfailed : failedIn n os ≡ false = ap (λ (k : ℕ). failedIn k os) (sym same) ∙ was in
-        rw (e n, y, unfailed, failed-before n (omega (arith, same))) (omega arith))
-        (λ f.
-        let less = failed-more n (omega (arith, h, eqb-false b n f)) in
-        rw (e n, f, or-none (failedIn n os)) (omega (arith, less)))
+use Rattle.write_laws.specs.Changing.{ChangeAnswer, is-done, is-worn, is-spent, is-silent, is-cut}
 
 -- permitted by the bits of the block alone
 pub permitted-by : (marked marked' invalid invalid' held : List ℕ) (b : ℕ) → bitAt marked b ≡ bitAt marked' b → bitAt invalid b ≡ bitAt invalid' b

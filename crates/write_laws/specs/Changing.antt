@@ -1,5 +1,5 @@
 -- How a write or an erase that is not refused ends on a ready chip, whatever the array holds and whatever fails, is silent or is cut.
-use Prim.Native.Nat.{ℕ, zero, suc, _+_, _-_, _*_, _≤_, _<_}
+use Prim.Native.Nat.{ℕ, _+_, _-_, _*_, _≤_, _<_}
 use mathlib.Core.Bool.{true, false, cond}
 use mathlib.Core.List.{List, []}
 use mathlib.Core.Logic.{_⊎_}
@@ -23,7 +23,7 @@ use Rattle.fill.specs.Fill.{copy, copyPage, mainOf, dataSource, tableCopy, tabl
 use Rattle.fill_tables.specs.Tables.{Tabled}
 use Rattle.write_changes.specs.Changes.{Update, Copied, copiesFilled, changeCall}
 use Rattle.damage.specs.Replay.{Replayed}
-use Rattle.damage.specs.Run.{failedIn, Slow, fillMost, tableFillMost}
+use Rattle.damage.specs.Run.{failedIn, failedCount, Slow, fillMost, tableFillMost}
 
 -- lists as their types have them: array and mask are bytes, the state's invalid bitmap is 512 bytes, its map has 4,096 entries
 pub record InRange (s : Setting) (d : Device) (st : State) : Type 0 where
@@ -44,11 +44,6 @@ pub data ChangeAnswer : ℕ → Type 0 where
 -- the most cycles: every block filled once with a data copy and once with a table
 abbrev pub changeMost : Geometry → ℕ
 changeMost g = g .blocks * fillMost g + g .blocks * tableFillMost g
-
--- how many of the first n blocks have a failed erase or program in a trace
-unfoldable pub failedCount : List ArrayOperation → ℕ → ℕ
-failedCount os zero = 0
-failedCount os (suc n) = failedCount os n + cond (failedIn n os) 1 0
 
 -- the pages of a new copy: given by the caller, kept from the old copy as the array before had it, FFh where there is none
 abbrev pub newPage : Geometry → List ℕ → Update → ℕ → ℕ → List ℕ
