@@ -48,7 +48,7 @@ enum flash_store_answer {
 
 enum {
     FLASH_STORE_STATE_BYTES = 9248,   /* the mounted state, laid out as docs/FORMAT.md says */
-    FLASH_STORE_INTERFACE_WORDS = 11, /* the chip's command interface, laid out as docs/FORMAT.md says; all 0 at power on */
+    FLASH_STORE_INTERFACE_WORDS = 12, /* the chip's command interface, laid out as docs/FORMAT.md says; all 0 at power on */
     FLASH_STORE_PARAMETER_BYTES = 768 /* the chip's parameter page: three copies of 256 bytes (002, Table 13) */
 };
 

@@ -6,7 +6,7 @@ pub mod parameters;
 use parameters::PARAMETER_BYTES;
 
 pub const STATE_BYTES: usize = 9248;
-pub const INTERFACE_WORDS: usize = 11;
+pub const INTERFACE_WORDS: usize = 12;
 pub const SIZE_WORDS: usize = 4;
 pub const LAST_NUMBER: u64 = 4_294_967_295;
 
@@ -83,6 +83,7 @@ pub const FAILED: usize = 7;
 pub const LOADED: usize = 8;
 pub const FATES_USED: usize = 9;
 pub const ILLEGAL_SEEN: usize = 10;
+pub const PROTECTED: usize = 11;
 
 // Phases.
 pub const READY: u64 = 0;
@@ -1159,6 +1160,8 @@ pub fn call(geometry: &Geometry, request: &Request, side: &mut Side, call: &Call
     if !reads_blank(request, &before) {
         chip.interface[FATES_USED] = 0;
         chip.interface[ILLEGAL_SEEN] = 0;
+        // The write-protect line is taken as high.
+        chip.interface[PROTECTED] = 0;
     }
     let bus = Bus { geometry: *geometry, chip, parameters, call, watch, sent: 0 };
     let mut store = Store { bus, state: before, held: Vec::new(), failed: false };

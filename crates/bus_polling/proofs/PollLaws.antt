@@ -3,65 +3,85 @@ use Prim.Native.Nat.{ℕ, zero, suc, _+_, _-_, _*_, _/_, _%_, _<_, _≤_}
 use mathlib.Core.Bool.{Bool, true, false, cond, not, true≢false, false≢true}
 use mathlib.Core.List.{List, []}
 use mathlib.Core.Logic.{_⊎_, inl, inr, ⊎-elim}
-use mathlib.Core.Path.{_≡_, refl, sym, ap, _∙_, subst}
+use mathlib.Core.Path.{_≡_, refl, sym, ap, ap₂, _∙_, subst}
 use native.Mathlib.Omega.{arith}
 use borrow.Author.Tests.{eq-eqb, ne-eqb, eqb-true, eqb-false}
 use borrow.Table.Steps.{cases}
 use lib.Dec.{eqb}
 use lib.ListN.{replicate}
 use Rattle.geometry.specs.declared.Geometry.{Geometry}
-use Rattle.chip_interface.specs.Interface.{statusByte}
+use Rattle.chip_interface.specs.Interface.{statusByte, protectedByte}
 use Rattle.chip_array.specs.Device.{Device, Setting, setting, completed}
 use Rattle.chip.specs.Chip.{Cycle, exec, finished, statusRead, statusShown}
 use Rattle.chip.specs.Chip.Cycle.{status}
 use Rattle.bus.specs.Line.{Line, admits, send, sendAll, statusOut, goesOn, Going}
 use Rattle.bus.proofs.LineLaws.{going, send-on, send-off, blocked-stops, sendAll-stopped}
-use Rattle.bus_polling.specs.Polling.{outcomeOf, endedAs, ready, judged, waiting, polls, polled}
+use Rattle.bus_polling.specs.Polling.{outcomeOf, answerOf, endedAs, ready, judged, writable, waiting, polls, polled}
+use Rattle.bus_polling.specs.Outcomes.{isPassed, answered, guarded}
+use Rattle.bus_polling.specs.declared.Outcome.{Outcome}
 use Rattle.bus_polling.specs.declared.Outcome.the-variants.{Passed, Failed, Silent}
+use Rattle.bus_polling.proofs.OutcomeLaws.{guarded-same, guarded-answered, guarded-unpassed}
 
--- a chip that reports ready is in the status phase, and its fail bit is as it was
-pub record Settled (k : ℕ) (d : Device) : Type 0 where
-  pub is : d .interface .illegal ≡ 0 → (d .interface .phase ≡ 1) × (d .interface .failed ≡ k)
+same-arms : (b : Bool) (o : Outcome) → cond b o o ≡ o
+same-arms true o = refl
+same-arms false o = refl
 
-pub settled : {k : ℕ} {d : Device} → d .interface .phase ≡ 1 → d .interface .failed ≡ k → Settled k d
-settled p f = record { is = λ _. (p, f) }
+-- a chip that reports ready is in the status phase, and its fail bit and its write-protect line are as they were
+pub record Settled (w k : ℕ) (d : Device) : Type 0 where
+  pub is : d .interface .illegal ≡ 0 → (d .interface .phase ≡ 1) × (d .interface .failed ≡ k) × (d .interface .protected ≡ w)
 
-pub refused-settled : {k : ℕ} {d : Device} → d .interface .illegal ≡ 1 → Settled k d
+pub settled : {w k : ℕ} {d : Device} → d .interface .phase ≡ 1 → d .interface .failed ≡ k → d .interface .protected ≡ w → Settled w k d
+settled p f v = record { is = λ _. (p, f, v) }
+
+pub refused-settled : {w k : ℕ} {d : Device} → d .interface .illegal ≡ 1 → Settled w k d
 refused-settled e = record { is = λ h. absurd (true≢false (ap (λ (n : ℕ). eqb n 1) (sym e ∙ h))) }
 
-pub arms : (k : ℕ) (b : Bool) (x y : Device) → Settled k x → Settled k y → Settled k (cond b x y)
-arms k true x y p q = p
-arms k false x y p q = q
+pub arms : (w k : ℕ) (b : Bool) (x y : Device) → Settled w k x → Settled w k y → Settled w k (cond b x y)
+arms w k true x y p q = p
+arms w k false x y p q = q
 
-pub finished-settled : (g : Geometry) (d : Device) → Settled (d .interface .failed) (finished g d)
+pub finished-settled : (g : Geometry) (d : Device) → Settled (d .interface .protected) (d .interface .failed) (finished g d)
 unfolding finished completed
 finished-settled g d = search (arms, settled, refused-settled) depth 9
 
 -- the status byte of a read that leaves the chip d
 pub record Told (byte : ℕ) (d : Device) : Type 0 where
-  pub tells : d .interface .illegal ≡ 0 → ((byte ≡ 128) × (d .interface .phase ≡ 8)) ⊎ ((byte ≡ statusByte 1 (d .interface .failed)) × (d .interface .phase ≡ 1))
+  pub tells : d .interface .illegal ≡ 0 → ((byte ≡ statusByte (d .interface .protected) 0 0) × (d .interface .phase ≡ 8)) ⊎ ((byte ≡ statusByte (d .interface .protected) 1 (d .interface .failed)) × (d .interface .phase ≡ 1))
 
-pub settled-told : (k : ℕ) (d : Device) → Settled k d → Told (statusByte 1 k) d
-settled-told k d p = record { tells = λ h. inr (ap (statusByte 1) (sym (p .is h .1)), p .is h .0) }
+pub settled-told : (w k : ℕ) (d : Device) → Settled w k d → Told (statusByte w 1 k) d
+settled-told w k d p =
+    record { tells = λ h. inr (ap₂ (λ (x y : ℕ). statusByte x 1 y) (sym (p .is h .2)) (sym (p .is h .1)), p .is h .0) }
 
 pub status-told : (g : Geometry) (d : Device) → Told (statusShown (d .interface)) (statusRead g d)
-unfolding statusRead statusShown statusByte
+unfolding statusRead statusShown
 status-told g d =
     cases (eqb (d .interface .phase) 1)
-    (λ a. rw a (settled-told (d .interface .failed) d (settled (eqb-true _ _ a) refl)))
+    (λ a. rw a (settled-told (d .interface .protected) (d .interface .failed) d (settled (eqb-true _ _ a) refl refl)))
     (λ a. cases (eqb (d .interface .phase) 8)
     (λ b. cases (eqb (d .interface .busy) 0)
-    (λ z. rw (a, b, z) (settled-told (d .interface .failed) (finished g d) (finished-settled g d)))
+    (λ z. rw (a, b, z) (settled-told (d .interface .protected) (d .interface .failed) (finished g d) (finished-settled g d)))
     (λ z. rw (a, b, z) (record { tells = λ h. inl (refl, eqb-true _ _ b) })))
     (λ b. rw (a, b) (record { tells = λ h. absurd (true≢false (ap (λ (n : ℕ). eqb n 1) h)) })))
 
-pub ready-told : (k : ℕ) → ready (statusByte 1 k) ≡ true
-unfolding statusByte ready
-ready-told k = cases (eqb k 0) (λ a. rw a) (λ a. rw a)
+pub busy-told : (w : ℕ) → ready (statusByte w 0 0) ≡ false
+unfolding statusByte protectedByte ready
+busy-told w = cases (eqb w 0) (λ a. rw a) (λ a. rw a)
 
-pub judged-told : (k : ℕ) → judged (statusByte 1 k) ≡ cond (eqb k 0) Passed Failed
-unfolding statusByte judged
-judged-told k = cases (eqb k 0) (λ a. rw a) (λ a. rw a)
+pub ready-told : (w k : ℕ) → ready (statusByte w 1 k) ≡ true
+unfolding statusByte protectedByte ready
+ready-told w k =
+    cases (eqb w 0) (λ b. cases (eqb k 0) (λ a. rw (b, a)) (λ a. rw (b, a))) (λ b. cases (eqb k 0) (λ a. rw (b, a)) (λ a. rw (b, a)))
+
+pub judged-told : (w k : ℕ) → judged (statusByte w 1 k) ≡ cond (eqb k 0) Passed Failed
+unfolding statusByte protectedByte judged
+judged-told w k =
+    cases (eqb w 0) (λ b. cases (eqb k 0) (λ a. rw (b, a)) (λ a. rw (b, a))) (λ b. cases (eqb k 0) (λ a. rw (b, a)) (λ a. rw (b, a)))
+
+-- bit 7 of a status that is ready is clear exactly where the line is low
+pub writable-told : (w k : ℕ) → writable (statusByte w 1 k) ≡ eqb w 0
+unfolding statusByte protectedByte writable
+writable-told w k =
+    cases (eqb w 0) (λ b. cases (eqb k 0) (λ a. rw (b, a)) (λ a. rw (b, a))) (λ b. cases (eqb k 0) (λ a. rw (b, a)) (λ a. rw (b, a)))
 
 -- the bit of the status byte that says ready
 pub ready-bit : (n : ℕ) → not (eqb (n / 64 % 2 * 64) 0) ≡ ready n
@@ -72,6 +92,16 @@ ready-bit n =
     (λ a.
     let z : n / 64 % 2 ≡ 0 = omega (arith, eqb-false (n / 64 % 2) 1 a) in
     rw (eq-eqb (n / 64 % 2 * 64) 0 (ap (λ (x : ℕ). x * 64) z), a))
+
+-- the bit that says writable
+pub writable-bit : (n : ℕ) → not (eqb (n / 128 % 2 * 128) 0) ≡ writable n
+unfolding writable
+writable-bit n =
+    cases (eqb (n / 128 % 2) 1)
+    (λ a. rw (ne-eqb (n / 128 % 2 * 128) 0 (λ e. omega (arith, e, eqb-true (n / 128 % 2) 1 a)), a))
+    (λ a.
+    let z : n / 128 % 2 ≡ 0 = omega (arith, eqb-false (n / 128 % 2) 1 a) in
+    rw (eq-eqb (n / 128 % 2 * 128) 0 (ap (λ (x : ℕ). x * 128) z), a))
 
 -- outcomes of a line that goes on, and of one that stopped
 pub outcome-judged : (l : Line) → Going l → l .chip .interface .phase ≡ 1 → outcomeOf l ≡ cond (eqb (l .chip .interface .failed) 0) Passed Failed
@@ -92,6 +122,42 @@ ended-stopped l h =
     (λ a. cases (eqb (l .chip .interface .illegal) 0) (λ b. absurd (true≢false (sym (rw (a, b)) ∙ h))) (λ b. rw (a, b)))
     (λ a. rw a)
 
+pub stopped-unanswered : (l : Line) → goesOn l ≡ false → answered (endedAs l) ≡ false
+unfolding endedAs goesOn answered
+stopped-unanswered l h =
+    cases (eqb (l .cut) 0)
+    (λ a. cases (eqb (l .chip .interface .illegal) 0) (λ b. absurd (true≢false (sym (rw (a, b)) ∙ h))) (λ b. rw (a, b)))
+    (λ a. rw a)
+
+-- how a program or an erase ended, from the outcome and the status byte of its status reads
+pub answer-is : (l : Line) (o : Outcome) (byte : ℕ) → o ≡ outcomeOf l → (answered o ≡ true → writable byte ≡ eqb (l .chip .interface .protected) 0) → cond (writable byte) o (guarded o) ≡ answerOf l
+answer-is l o byte e w =
+    cases (answered o)
+    (λ t. ap (λ (b : Bool). cond b o (guarded o)) (w t) ∙ ap (λ (x : Outcome). cond (eqb (l .chip .interface .protected) 0) x (guarded x)) e)
+    (λ t.
+    ap (cond (writable byte) o) (guarded-same o t)
+    ∙ same-arms (writable byte) o
+    ∙ sym (same-arms (eqb (l .chip .interface .protected) 0) o)
+    ∙ ap (cond (eqb (l .chip .interface .protected) 0) o) (sym (guarded-same o t))
+    ∙ ap (λ (x : Outcome). cond (eqb (l .chip .interface .protected) 0) x (guarded x)) e)
+
+-- with the line high it is the outcome, with the line low never passed or failed; ready was reported where the outcome says so
+pub answer-high : (l : Line) → l .chip .interface .protected ≡ 0 → answerOf l ≡ outcomeOf l
+answer-high l high = rw (eq-eqb _ _ high)
+
+pub answer-low : (l : Line) → (l .chip .interface .protected ≡ 0 → ⊥) → answerOf l ≡ guarded (outcomeOf l)
+answer-low l low = rw (ne-eqb _ _ low)
+
+pub answer-answered : (l : Line) → answered (answerOf l) ≡ answered (outcomeOf l)
+answer-answered l =
+    cases (eqb (l .chip .interface .protected) 0) (λ t. rw t) (λ t. rw t (guarded-answered (outcomeOf l)))
+
+-- passed tells that the line is high
+pub passed-high : (l : Line) → isPassed (answerOf l) ≡ true → l .chip .interface .protected ≡ 0
+passed-high l h =
+    cases (eqb (l .chip .interface .protected) 0) (λ t. eqb-true _ _ t)
+    (λ t. absurd (false≢true (sym (rw t (guarded-unpassed (outcomeOf l))) ∙ h)))
+
 module _ (s : Setting) where
   -- a line that goes on after a cycle sent it
   pub sent-on : (l : Line) (c : Cycle) → goesOn (send s l c) ≡ true → admits l ≡ true
@@ -109,17 +175,16 @@ module _ (s : Setting) where
       (subst (Told (statusShown (l .chip .interface))) (sym (chip-on l status h)) (status-told (s .geometry) (l .chip)))
 
   -- a status that is ready tells how the operation ended, and one that is not leaves the chip busy
-  pub told-ready : (l : Line) → goesOn (send s l status) ≡ true → ready (statusOut l) ≡ true → (send s l status .chip .interface .phase ≡ 1) × (judged (statusOut l) ≡ outcomeOf (send s l status))
-  unfolding ready
+  pub told-ready : (l : Line) → goesOn (send s l status) ≡ true → ready (statusOut l) ≡ true → (send s l status .chip .interface .phase ≡ 1) × (judged (statusOut l) ≡ outcomeOf (send s l status)) × (writable (statusOut l) ≡ eqb (send s l status .chip .interface .protected) 0)
   told-ready l h t =
       let g = going (send s l status) h in
-      ⊎-elim (λ w. absurd (false≢true (sym (ap ready (w .0)) ∙ t)))
-      (λ w. (w .1, ap judged (w .0) ∙ judged-told _ ∙ sym (outcome-judged (send s l status) g (w .1))))
+      ⊎-elim (λ w. absurd (false≢true (sym (ap ready (w .0) ∙ busy-told _) ∙ t)))
+      (λ w. (w .1, ap judged (w .0) ∙ judged-told _ _ ∙ sym (outcome-judged (send s l status) g (w .1)), ap writable (w .0) ∙ writable-told _ _))
       (line-told l h .tells (g .legal))
 
   pub told-busy : (l : Line) → goesOn (send s l status) ≡ true → ready (statusOut l) ≡ false → send s l status .chip .interface .phase ≡ 8
   told-busy l h t =
-      ⊎-elim (λ w. w .1) (λ w. absurd (false≢true (sym t ∙ ap ready (w .0) ∙ ready-told _)))
+      ⊎-elim (λ w. w .1) (λ w. absurd (false≢true (sym t ∙ ap ready (w .0) ∙ ready-told _ _)))
       (line-told l h .tells (going (send s l status) h .legal))
 
   pub polled-stops : (n : ℕ) (l : Line) → goesOn (send s l status) ≡ false → polled s (suc n) l ≡ send s l status
@@ -140,11 +205,11 @@ module _ (s : Setting) where
       let w : m - n ≡ suc (m - (n + 1)) = omega arith in
       e ∙ rw w (sym (polled-stops _ l (rw e at h)))
 
-  pub ready-at : {k : Line} {byte : ℕ} (l : Line) (m n : ℕ) → n < m → k ≡ send s l status → byte ≡ statusOut l → goesOn k ≡ true → ready byte ≡ true → (k ≡ polled s (m - n) l) × (judged byte ≡ outcomeOf k)
+  pub ready-at : {k : Line} {byte : ℕ} (l : Line) (m n : ℕ) → n < m → k ≡ send s l status → byte ≡ statusOut l → goesOn k ≡ true → ready byte ≡ true → (k ≡ polled s (m - n) l) × (judged byte ≡ outcomeOf k) × (writable byte ≡ eqb (k .chip .interface .protected) 0)
   ready-at l m n p e f h t =
       let w : m - n ≡ suc (m - (n + 1)) = omega arith in
       let r = told-ready l (rw e at h) (rw f at t) in
-      (e ∙ rw w (sym (polled-ends _ l (rw e at h) (ap (λ (x : ℕ). eqb x 8) (r .0)))), ap judged f ∙ r .1 ∙ ap outcomeOf (sym e))
+      (e ∙ rw w (sym (polled-ends _ l (rw e at h) (ap (λ (x : ℕ). eqb x 8) (r .0)))), ap judged f ∙ r .1 ∙ ap outcomeOf (sym e), ap writable f ∙ r .2 ∙ ap (λ (x : Line). eqb (x .chip .interface .protected) 0) (sym e))
 
   pub busy-at : {k : Line} {byte : ℕ} (l : Line) (m n : ℕ) → n < m → k ≡ send s l status → byte ≡ statusOut l → goesOn k ≡ true → ready byte ≡ false → (polled s (m - (n + 1)) k ≡ polled s (m - n) l) × (outcomeOf k ≡ Silent)
   busy-at l m n p e f h t =
@@ -182,9 +247,9 @@ module _ (s : Setting) where
 
 -- a read that is ready, and one that is not, for every mask and all fates, which a status read does not ask
 module _ (g : Geometry) where
-  pub poll-ready : {k : Line} {byte : ℕ} (l : Line) (m n : ℕ) → n < m → ((x y : List ℕ) → k ≡ send (setting g x y) l status) → byte ≡ statusOut l → goesOn k ≡ true → ready byte ≡ true → ((x y : List ℕ) → k ≡ polled (setting g x y) (m - n) l) × (judged byte ≡ outcomeOf k)
+  pub poll-ready : {k : Line} {byte : ℕ} (l : Line) (m n : ℕ) → n < m → ((x y : List ℕ) → k ≡ send (setting g x y) l status) → byte ≡ statusOut l → goesOn k ≡ true → ready byte ≡ true → ((x y : List ℕ) → k ≡ polled (setting g x y) (m - n) l) × (judged byte ≡ outcomeOf k) × (writable byte ≡ eqb (k .chip .interface .protected) 0)
   poll-ready l m n p e f h t =
-      (λ x y. ready-at (setting g x y) l m n p (e x y) f h t .0, ready-at (setting g [] []) l m n p (e [] []) f h t .1)
+      (λ x y. ready-at (setting g x y) l m n p (e x y) f h t .0, ready-at (setting g [] []) l m n p (e [] []) f h t .1, ready-at (setting g [] []) l m n p (e [] []) f h t .2)
 
   pub poll-goes : {k : Line} {byte : ℕ} (l : Line) (m n : ℕ) → n < m → ((x y : List ℕ) → k ≡ send (setting g x y) l status) → byte ≡ statusOut l → goesOn k ≡ true → ready byte ≡ false → ((x y : List ℕ) → polled (setting g x y) (m - (n + 1)) k ≡ polled (setting g x y) (m - n) l) × (outcomeOf k ≡ Silent)
   poll-goes l m n p e f h t =

@@ -8,6 +8,7 @@ use Rattle.chip_array.specs.Device.{Device, Setting}
 use Rattle.chip.specs.Chip.{Cycle, exec}
 use Rattle.chip.specs.Chip.Cycle.{status}
 use Rattle.bus.specs.Line.{Line, send, goesOn}
+use Rattle.bus_polling.specs.Outcomes.{guarded}
 use Rattle.bus_polling.specs.declared.Outcome.{Outcome}
 use Rattle.bus_polling.specs.declared.Outcome.the-variants.{Passed, Failed, Silent, Cut, Illegal}
 use Rattle.chip_interface.specs.Interface.{busyStatusPhase}
@@ -33,6 +34,10 @@ outcomeOf l =
     Illegal)
     Cut
 
+-- how a program or an erase ended: what was answered with the write-protect line low is neither passed nor failed
+abbrev pub answerOf : Line → Outcome
+answerOf l = cond (eqb (l .chip .interface .protected) 0) (outcomeOf l) (guarded (outcomeOf l))
+
 -- how a run of cycles ended that asks for no status
 unfoldable pub endedAs : Line → Outcome
 endedAs l = cond (eqb (l .cut) 0) (cond (eqb (l .chip .interface .illegal) 0) Passed Illegal) Cut
@@ -43,6 +48,10 @@ ready byte = eqb (byte / 64 % 2) 1
 
 unfoldable pub judged : ℕ → Outcome
 judged byte = cond (eqb (byte % 2) 0) Passed Failed
+
+-- status bit 7: the write-protect line is high
+unfoldable pub writable : ℕ → Bool
+writable byte = eqb (byte / 128 % 2) 1
 
 -- status reads one by one: until ready, cut or refused, at most n
 unfoldable pub polled : Setting → ℕ → Line → Line

@@ -18,15 +18,15 @@ use Rattle.c_buffers.specs.Buffers.{interfaceWords, lent, lengthsRight, 
 -- the lengths asked for
 pub record Long (state interface sent : ℕ) : Type 0 where
   pub state-long : state ≡ stateLength
-  pub interface-long : interface ≡ 11
+  pub interface-long : interface ≡ 12
   pub sent-long : sent ≡ 1
 
 pub right-long : (state interface sent : ℕ) → lengthsRight state interface sent ≡ true → Long state interface sent
 unfolding lengthsRight
 right-long state interface sent h =
     let p = both (eqb state stateLength) _ h in
-    let q = both (eqb interface 11) (eqb sent 1) (p .1) in
-    record { state-long = eqb-true state stateLength (p .0); interface-long = eqb-true interface 11 (q .0); sent-long = eqb-true sent 1 (q .1) }
+    let q = both (eqb interface 12) (eqb sent 1) (p .1) in
+    record { state-long = eqb-true state stateLength (p .0); interface-long = eqb-true interface 12 (q .0); sent-long = eqb-true sent 1 (q .1) }
 
 -- what a request hands back, written into the buffers
 single : (xs : List ℕ) (n : ℕ) → length xs ≡ 1 → set xs 0 n ≡ n ∷ []

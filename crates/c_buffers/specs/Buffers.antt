@@ -18,7 +18,7 @@ geometryOf main spare pages blocks logical = record { main = main; spare = spare
 -- the chip's interface as words, one a field
 unfoldable pub interfaceWords : Interface → List ℕ
 interfaceWords i =
-    i .phase ∷ i .count ∷ i .address ∷ i .first ∷ i .column ∷ i .operation ∷ i .busy ∷ i .failed ∷ i .loaded ∷ i .fate ∷ i .illegal ∷ []
+    i .phase ∷ i .count ∷ i .address ∷ i .first ∷ i .column ∷ i .operation ∷ i .busy ∷ i .failed ∷ i .loaded ∷ i .fate ∷ i .illegal ∷ i .protected ∷ []
 
 unfoldable pub interfaceOf : List ℕ → Interface
 interfaceOf xs =
@@ -34,6 +34,7 @@ interfaceOf xs =
       loaded = getD xs 8 0;
       fate = getD xs 9 0;
       illegal = getD xs 10 0;
+      protected = getD xs 11 0;
     }
 
 -- the sizes that a chip tells, as words
@@ -56,9 +57,9 @@ lent state interface array register history sent =
 abbrev pub chipOf : Lent → Device
 chipOf l = device (interfaceOf (l .interface)) (l .array) (l .register) (l .history)
 
--- the bytes of a state, 11 words of interface, one word for the cycles sent
+-- the bytes of a state, 12 words of interface, one word for the cycles sent
 unfoldable pub lengthsRight : ℕ → ℕ → ℕ → Bool
-lengthsRight state interface sent = cond (eqb state stateLength) (cond (eqb interface 11) (eqb sent 1) false) false
+lengthsRight state interface sent = cond (eqb state stateLength) (cond (eqb interface 12) (eqb sent 1) false) false
 
 abbrev pub rightly : Lent → Bool
 rightly l = lengthsRight (length (l .state)) (length (l .interface)) (length (l .sent))

@@ -18,7 +18,7 @@ pub fn is_lent_rightly(state: usize, interface: usize, sent: usize) -> bool
     if state != c_state::LENGTH {
         return false;
     }
-    if interface != 11 {
+    if interface != 12 {
         return false;
     }
     sent == 1
@@ -26,7 +26,7 @@ pub fn is_lent_rightly(state: usize, interface: usize, sent: usize) -> bool
 
 // The chip's interface from its words.
 pub fn interface_of(interface: &[usize]) -> Interface
-    requires { ⌜ length (now interface) ≡ 11 ⌝ }
+    requires { ⌜ length (now interface) ≡ 12 ⌝ }
     ensures { λ r. ⌜ r ≡ interfaceOf (now (interface .entry)) ⌝ }
 {
     Interface {
@@ -41,12 +41,13 @@ pub fn interface_of(interface: &[usize]) -> Interface
         loaded: interface[8],
         fate: interface[9],
         illegal: interface[10],
+        protected: interface[11],
     }
 }
 
 // Writes the words of the chip's interface.
 pub fn write_interface(from: Interface, interface: &mut [usize])
-    requires { ⌜ length (now interface) ≡ 11 ⌝ }
+    requires { ⌜ length (now interface) ≡ 12 ⌝ }
     ensures { λ _. ⌜ now (interface .exit) ≡ interfaceWords from ⌝ }
 {
     interface[0] = from.phase;
@@ -60,6 +61,7 @@ pub fn write_interface(from: Interface, interface: &mut [usize])
     interface[8] = from.loaded;
     interface[9] = from.fate;
     interface[10] = from.illegal;
+    interface[11] = from.protected;
 }
 
 // Writes the four sizes that a chip tells.
@@ -81,7 +83,7 @@ pub fn hand_back(
     sent: &mut [usize],
 ) -> usize
     requires { ⌜ length (now state) ≡ stateLength ⌝ }
-    requires { ⌜ length (now interface) ≡ 11 ⌝ }
+    requires { ⌜ length (now interface) ≡ 12 ⌝ }
     requires { ⌜ length (now sent) ≡ 1 ⌝ }
     ensures { λ r. ⌜ ((a p h : List ℕ) → handed r (lent (now (state .exit)) (now (interface .exit)) a p h (now (sent .exit))) ≡ putBack (result (returned .answer) (returned .state) (device (returned .interface) a p h) (returned .sent))) ⌝ }
     ensures { λ _. ⌜ bytesState (now (state .exit)) ≡ returned .state ⌝ }

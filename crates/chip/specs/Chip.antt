@@ -44,7 +44,7 @@ commanded code s d =
 
 abbrev pub nextColumn : Interface → Interface
 nextColumn i =
-    record { phase = i .phase; count = i .count; address = i .address; first = i .first; column = i .column + 1; operation = i .operation; busy = i .busy; failed = i .failed; loaded = i .loaded; fate = i .fate; illegal = i .illegal }
+    record { phase = i .phase; count = i .count; address = i .address; first = i .first; column = i .column + 1; operation = i .operation; busy = i .busy; failed = i .failed; loaded = i .loaded; fate = i .fate; illegal = i .illegal; protected = i .protected }
 
 -- a data input cycle: after 80h and its address, up to the last column
 unfoldable pub dataTaken : ℕ → Device → Device
@@ -84,7 +84,7 @@ parameterByte page i = cond (outputsParameters i) (getD page (i .column) 0) 0
 
 abbrev pub lessBusy : Interface → Interface
 lessBusy i =
-    record { phase = i .phase; count = i .count; address = i .address; first = i .first; column = i .column; operation = i .operation; busy = i .busy - 1; failed = i .failed; loaded = i .loaded; fate = i .fate; illegal = i .illegal }
+    record { phase = i .phase; count = i .count; address = i .address; first = i .first; column = i .column; operation = i .operation; busy = i .busy - 1; failed = i .failed; loaded = i .loaded; fate = i .fate; illegal = i .illegal; protected = i .protected }
 
 -- the parameter page asks for no geometry
 unfoldable pub finished : Geometry → Device → Device
@@ -102,8 +102,8 @@ statusRead g d =
 
 unfoldable pub statusShown : Interface → ℕ
 statusShown i =
-    cond (eqb (i .phase) statusPhase) (statusByte 1 (i .failed))
-    (cond (eqb (i .phase) busyStatusPhase) (cond (eqb (i .busy) 0) (statusByte 1 (i .failed)) (statusByte 0 0)) 0)
+    cond (eqb (i .phase) statusPhase) (statusByte (i .protected) 1 (i .failed))
+    (cond (eqb (i .phase) busyStatusPhase) (cond (eqb (i .busy) 0) (statusByte (i .protected) 1 (i .failed)) (statusByte (i .protected) 0 0)) 0)
 
 -- the chip after one more cycle
 unfoldable pub exec : Setting → Device → Cycle → Device

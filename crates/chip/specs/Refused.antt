@@ -40,7 +40,7 @@ parameterPage = replicate 768 79
 
 abbrev pub parametersAt : ℕ → Interface
 parametersAt column =
-    record { phase = outputPhase; count = 1; address = 0; first = 0; column = column; operation = parametersOperation; busy = 0; failed = 0; loaded = 1; fate = 0; illegal = 0 }
+    record { phase = outputPhase; count = 1; address = 0; first = 0; column = column; operation = parametersOperation; busy = 0; failed = 0; loaded = 1; fate = 0; illegal = 0; protected = 0 }
 
 -- the chip with these lengths of array, register and history, and a call with a mask of this length
 abbrev pub long : Interface → ℕ → ℕ → ℕ → Device

@@ -243,10 +243,11 @@ pub fn status(
 {
     let phase = i.phase;
     let failed = i.failed;
+    let protected = i.protected;
     if phase == chip_interface::STATUS {
         return Shown {
             interface: i,
-            byte: chip_interface::status_byte(1, failed),
+            byte: chip_interface::status_byte(protected, 1, failed),
         };
     }
     if phase != chip_interface::BUSY_STATUS {
@@ -259,11 +260,11 @@ pub fn status(
     if busy != 0 {
         return Shown {
             interface: less_busy(i),
-            byte: chip_interface::status_byte(0, 0),
+            byte: chip_interface::status_byte(protected, 0, 0),
         };
     }
     Shown {
         interface: finish(i, g, array, register, history),
-        byte: chip_interface::status_byte(1, failed),
+        byte: chip_interface::status_byte(protected, 1, failed),
     }
 }

@@ -56,22 +56,22 @@ module _ (s : Setting) (d : Device) where
       (λ a. rw a))
 
 -- after 10h with a whole page the history lies above the page
-history-above : (s : Setting) (d : Device) → blockAt (s .geometry) (d .interface) < length (d .history)
+history-above : (s : Setting) (d : Device) → d .interface .protected ≡ 0 → blockAt (s .geometry) (d .interface) < length (d .history)
     → eqb (d .interface .phase) 6 ≡ true → eqb (d .interface .first) 0 ≡ true → eqb (d .interface .column) (pageSize (s .geometry)) ≡ true
     → pageAt (s .geometry) (d .interface) < getD (programStarted s d .history) (blockAt (s .geometry) (d .interface)) 0
 unfolding programStarted
-history-above s d h p z c =
+history-above s d high h p z c =
     cases (leb (getD (d .history) (blockAt (s .geometry) (d .interface)) 0) (pageAt (s .geometry) (d .interface)))
-    (λ t. rw (p, z, c, t, getD-set-same) (omega arith))
+    (λ t. rw (p, z, c, t, eq-eqb _ _ high, getD-set-same) (omega arith))
     (λ t. rw (p, z, c, t) (leb-false _ _ t))
 
 -- the page of a program, programmed again with no erase between, whatever the array and the register hold by then
-pub program-twice : (s : Setting) (d : Device) (a r : List ℕ) → blockAt (s .geometry) (d .interface) < length (d .history)
+pub program-twice : (s : Setting) (d : Device) (a r : List ℕ) → d .interface .protected ≡ 0 → blockAt (s .geometry) (d .interface) < length (d .history)
     → programStarted s (device (d .interface) a r (programStarted s d .history)) ≡ illegalCycle (device (d .interface) a r (programStarted s d .history))
-program-twice s d a r h =
+program-twice s d a r high h =
     let again = device (d .interface) a r (programStarted s d .history) in
     cases (eqb (d .interface .phase) 6)
     (λ p. cases (eqb (d .interface .first) 0)
-    (λ z. cases (eqb (d .interface .column) (pageSize (s .geometry))) (λ c. program-below s again (history-above s d h p z c)) (λ c. program-short s again (eqb-false _ _ c)))
+    (λ z. cases (eqb (d .interface .column) (pageSize (s .geometry))) (λ c. program-below s again (history-above s d high h p z c)) (λ c. program-short s again (eqb-false _ _ c)))
     (λ z. program-late s again (eqb-false _ _ z)))
     (λ p. program-elsewhere s again (eqb-false _ _ p))

@@ -1,3 +1,4 @@
 pub mod DeviceLaws
 pub mod RefusedTests
 pub mod IllegalLaws
+pub mod ProtectLaws

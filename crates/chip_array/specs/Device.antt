@@ -11,7 +11,7 @@ use Rattle.geometry.specs.Sizes.{pageSize, blockSize, chipSize}
 use Rattle.cells.specs.Cells.{programmed, weakened, raised}
 use Rattle.cells.specs.Part.{part, put}
 use Rattle.chip_interface.specs.declared.Interface.{Interface}
-use Rattle.chip_interface.specs.Interface.{refused, inPhase, started, rowOfAddress, readAddressPhase, programDataPhase, eraseAddressPhase, statusPhase}
+use Rattle.chip_interface.specs.Interface.{refused, inPhase, started, unstarted, rowOfAddress, readAddressPhase, programDataPhase, eraseAddressPhase, statusPhase}
 
 -- history has a byte for each block: the lowest page that may be programmed, 255 where the last erase did not pass
 pub record Device : Type 0 where
@@ -92,11 +92,13 @@ programStarted s d =
     (cond (eqb (d .interface .first) 0)
     (cond (eqb (d .interface .column) (pageSize (s .geometry)))
     (cond (leb (getD (d .history) (blockAt (s .geometry) (d .interface)) 0) (pageAt (s .geometry) (d .interface)))
+    (cond (eqb (d .interface .protected) 0)
     (device
     (started 2 (s .fates) (d .interface))
     (withPage (s .geometry) d (programmed (addressedPage (s .geometry) d) (weakened (d .register) (s .mask))))
     (d .register)
     (set (d .history) (blockAt (s .geometry) (d .interface)) (pageAt (s .geometry) (d .interface) + 1)))
+    (withInterface (unstarted 2 (d .interface)) d))
     (illegalCycle d))
     (illegalCycle d))
     (illegalCycle d))
@@ -107,17 +109,19 @@ unfoldable pub eraseStarted : Setting → Device → Device
 eraseStarted s d =
     cond (eqb (d .interface .phase) eraseAddressPhase)
     (cond (eqb (d .interface .count) 5)
+    (cond (eqb (d .interface .protected) 0)
     (device
     (started 3 (s .fates) (d .interface))
     (withBlock (s .geometry) d (raised (blockOf (s .geometry) d) (s .mask)))
     (d .register)
     (set (d .history) (blockAt (s .geometry) (d .interface)) 255))
+    (withInterface (unstarted 3 (d .interface)) d))
     (illegalCycle d))
     (illegalCycle d)
 
 abbrev pub pageLoaded : Interface → Interface
 pageLoaded i =
-    record { phase = statusPhase; count = i .count; address = i .address; first = i .first; column = i .column; operation = i .operation; busy = i .busy; failed = i .failed; loaded = 1; fate = i .fate; illegal = i .illegal }
+    record { phase = statusPhase; count = i .count; address = i .address; first = i .first; column = i .column; operation = i .operation; busy = i .busy; failed = i .failed; loaded = 1; fate = i .fate; illegal = i .illegal; protected = i .protected }
 
 -- ready is reported: a passed program clears every bit that the data has clear, a passed erase sets every bit of the block
 unfoldable pub completed : Geometry → Device → Device

@@ -18,7 +18,7 @@ erasedChip i = device i (replicate 768 255) (replicate 48 255) (replicate 4 0)
 -- after 80h, an address and data for the columns from `first` to below `column`
 abbrev pub dataAt : ℕ → ℕ → ℕ → Interface
 dataAt row first column =
-    record { phase = programDataPhase; count = 5; address = row * 65536 + first; first = first; column = column; operation = 0; busy = 0; failed = 0; loaded = 0; fate = 0; illegal = 0 }
+    record { phase = programDataPhase; count = 5; address = row * 65536 + first; first = first; column = column; operation = 0; busy = 0; failed = 0; loaded = 0; fate = 0; illegal = 0; protected = 0 }
 
 -- a whole page of data for a row, after a program of another row and after an erase that did not pass
 abbrev pub programAgain : ℕ → ℕ → Device

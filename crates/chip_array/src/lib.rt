@@ -80,6 +80,10 @@ pub fn confirm_program(
     if page < wide(history[block]) {
         return i.refuse();
     }
+    let protected = i.protected;
+    if protected != 0 {
+        return i.stay(chip_interface::PROGRAM);
+    }
     chip_effects::program_part(row, g, array, register, mask);
     history[block] = (page + 1) as u8;
     i.start(chip_interface::PROGRAM, fates)
@@ -108,6 +112,10 @@ pub fn confirm_erase(
     let count = i.count;
     if count != 5 {
         return i.refuse();
+    }
+    let protected = i.protected;
+    if protected != 0 {
+        return i.stay(chip_interface::ERASE);
     }
     let address = i.address;
     let row = chip_interface::row_of_address(address);

@@ -77,26 +77,26 @@ eraseConfirm = 208
 
 abbrev pub poweredOn : Interface
 poweredOn =
-    record { phase = readyPhase; count = 0; address = 0; first = 0; column = 0; operation = 0; busy = 0; failed = 0; loaded = 0; fate = 0; illegal = 0 }
+    record { phase = readyPhase; count = 0; address = 0; first = 0; column = 0; operation = 0; busy = 0; failed = 0; loaded = 0; fate = 0; illegal = 0; protected = 0 }
 
 -- the same interface after a cycle that was answered illegal
 abbrev pub refused : Interface → Interface
 refused i =
-    record { phase = i .phase; count = i .count; address = i .address; first = i .first; column = i .column; operation = i .operation; busy = i .busy; failed = i .failed; loaded = i .loaded; fate = i .fate; illegal = 1 }
+    record { phase = i .phase; count = i .count; address = i .address; first = i .first; column = i .column; operation = i .operation; busy = i .busy; failed = i .failed; loaded = i .loaded; fate = i .fate; illegal = 1; protected = i .protected }
 
 abbrev pub inPhase : ℕ → Interface → Interface
 inPhase p i =
-    record { phase = p; count = i .count; address = i .address; first = i .first; column = i .column; operation = i .operation; busy = i .busy; failed = i .failed; loaded = i .loaded; fate = i .fate; illegal = i .illegal }
+    record { phase = p; count = i .count; address = i .address; first = i .first; column = i .column; operation = i .operation; busy = i .busy; failed = i .failed; loaded = i .loaded; fate = i .fate; illegal = i .illegal; protected = i .protected }
 
--- FFh, taken in every phase (3.15): status E0h, no page in the register
+-- FFh, taken in every phase (3.15): status E0h where the write-protect line is high, no page in the register
 abbrev pub afterReset : Interface → Interface
 afterReset i =
-    record { phase = readyPhase; count = 0; address = 0; first = 0; column = 0; operation = 0; busy = 0; failed = 0; loaded = 0; fate = i .fate; illegal = i .illegal }
+    record { phase = readyPhase; count = 0; address = 0; first = 0; column = 0; operation = 0; busy = 0; failed = 0; loaded = 0; fate = i .fate; illegal = i .illegal; protected = i .protected }
 
 -- the first cycle of an operation, from the ready, status or data output phase
 abbrev pub beginning : ℕ → ℕ → Interface → Interface
 beginning p n i =
-    record { phase = p; count = n; address = 0; first = i .first; column = i .column; operation = i .operation; busy = i .busy; failed = i .failed; loaded = 0; fate = i .fate; illegal = i .illegal }
+    record { phase = p; count = n; address = 0; first = i .first; column = i .column; operation = i .operation; busy = i .busy; failed = i .failed; loaded = 0; fate = i .fate; illegal = i .illegal; protected = i .protected }
 
 unfoldable pub begun : ℕ → ℕ → Interface → Interface
 begun p n i = cond (leb (i .phase) outputPhase) (beginning p n i) (refused i)
@@ -110,7 +110,7 @@ statusMode i =
 -- 00h where the register holds a page (3.1, 3.11): data output from the present column
 abbrev pub outputResumed : Interface → Interface
 outputResumed i =
-    record { phase = outputPhase; count = i .count; address = i .address; first = i .column; column = i .column; operation = i .operation; busy = i .busy; failed = i .failed; loaded = i .loaded; fate = i .fate; illegal = i .illegal }
+    record { phase = outputPhase; count = i .count; address = i .address; first = i .column; column = i .column; operation = i .operation; busy = i .busy; failed = i .failed; loaded = i .loaded; fate = i .fate; illegal = i .illegal; protected = i .protected }
 
 -- 00h
 unfoldable pub readMode : Interface → Interface
@@ -144,7 +144,7 @@ shifted byte a = a / 256 + byte * 4294967296
 
 abbrev pub moreAddress : ℕ → Interface → Interface
 moreAddress a i =
-    record { phase = i .phase; count = i .count + 1; address = a; first = i .first; column = i .column; operation = i .operation; busy = i .busy; failed = i .failed; loaded = i .loaded; fate = i .fate; illegal = i .illegal }
+    record { phase = i .phase; count = i .count + 1; address = a; first = i .first; column = i .column; operation = i .operation; busy = i .busy; failed = i .failed; loaded = i .loaded; fate = i .fate; illegal = i .illegal; protected = i .protected }
 
 -- the phase after the last address byte
 abbrev pub afterAddress : ℕ → ℕ
@@ -152,7 +152,7 @@ afterAddress p = cond (eqb p programAddressPhase) programDataPhase p
 
 abbrev pub fullAddress : ℕ → Interface → Interface
 fullAddress a i =
-    record { phase = afterAddress (i .phase); count = 5; address = a; first = columnOfAddress a; column = columnOfAddress a; operation = i .operation; busy = i .busy; failed = i .failed; loaded = i .loaded; fate = i .fate; illegal = i .illegal }
+    record { phase = afterAddress (i .phase); count = 5; address = a; first = columnOfAddress a; column = columnOfAddress a; operation = i .operation; busy = i .busy; failed = i .failed; loaded = i .loaded; fate = i .fate; illegal = i .illegal; protected = i .protected }
 
 -- one address byte in a phase that expects it; the last one only if the address lies in the geometry
 unfoldable pub latched : Geometry → ℕ → Interface → Interface
@@ -191,18 +191,28 @@ failedFor operation word = cond (eqb operation 1) 0 (failedOf word)
 -- after the confirm cycle of an array operation (1 read, 2 program, 3 erase)
 unfoldable pub started : ℕ → List ℕ → Interface → Interface
 started operation fates i =
-    record { phase = busyPhase; count = i .count; address = i .address; first = i .first; column = i .column; operation = operation; busy = busyOf (fateWord fates (i .fate)); failed = failedFor operation (fateWord fates (i .fate)); loaded = 0; fate = nextFate fates (i .fate); illegal = i .illegal }
+    record { phase = busyPhase; count = i .count; address = i .address; first = i .first; column = i .column; operation = operation; busy = busyOf (fateWord fates (i .fate)); failed = failedFor operation (fateWord fates (i .fate)); loaded = 0; fate = nextFate fates (i .fate); illegal = i .illegal; protected = i .protected }
+
+-- 10h or D0h with the write-protect line low: nothing starts (2.5), no fate word is taken, and the status shows the operation as failed with bit 7 clear
+abbrev pub unstarted : ℕ → Interface → Interface
+unstarted operation i =
+    record { phase = readyPhase; count = i .count; address = i .address; first = i .first; column = i .column; operation = operation; busy = 0; failed = 1; loaded = 0; fate = i .fate; illegal = i .illegal; protected = i .protected }
 
 -- the parameter page is fetched (operation 4): busy with a fate word, and like a read it does not fail
 abbrev pub parametersStarted : List ℕ → Interface → Interface
 parametersStarted fates i =
-    record { phase = busyPhase; count = 1; address = 0; first = 0; column = 0; operation = parametersOperation; busy = busyOf (fateWord fates (i .fate)); failed = 0; loaded = 0; fate = nextFate fates (i .fate); illegal = i .illegal }
+    record { phase = busyPhase; count = 1; address = 0; first = 0; column = 0; operation = parametersOperation; busy = busyOf (fateWord fates (i .fate)); failed = 0; loaded = 0; fate = nextFate fates (i .fate); illegal = i .illegal; protected = i .protected }
 
 -- the address cycle after ECh: 00h alone names the parameter page
 unfoldable pub parameterAddressed : ℕ → List ℕ → Interface → Interface
 parameterAddressed byte fates i =
     cond (eqb (i .phase) parameterAddressPhase) (cond (eqb byte 0) (parametersStarted fates i) (refused i)) (refused i)
 
--- 80h busy, E0h passed, E1h failed
-unfoldable pub statusByte : ℕ → ℕ → ℕ
-statusByte ready failed = cond (eqb ready 0) 128 (cond (eqb failed 0) 224 225)
+-- with the write-protect line low, bit 7 clear: 00h busy, 60h ready, 61h failed
+unfoldable pub protectedByte : ℕ → ℕ → ℕ
+protectedByte ready failed = cond (eqb ready 0) 0 (cond (eqb failed 0) 96 97)
+
+-- with the line high 80h busy, E0h passed, E1h failed
+unfoldable pub statusByte : ℕ → ℕ → ℕ → ℕ
+statusByte protected ready failed =
+    cond (eqb protected 0) (cond (eqb ready 0) 128 (cond (eqb failed 0) 224 225)) (protectedByte ready failed)

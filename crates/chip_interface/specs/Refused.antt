@@ -85,7 +85,7 @@ parametersBusy = parameterAddressed 0 [] parametersBegun
 -- data output that has come to a column
 abbrev pub outputAt : ℕ → Interface
 outputAt column =
-    record { phase = outputPhase; count = 5; address = 0; first = 0; column = column; operation = 1; busy = 0; failed = 0; loaded = 1; fate = 0; illegal = 0 }
+    record { phase = outputPhase; count = 5; address = 0; first = 0; column = column; operation = 1; busy = 0; failed = 0; loaded = 1; fate = 0; illegal = 0; protected = 0 }
 
 -- every command of 002, Table 5, that the model does not have, and one that is in no table
 abbrev pub otherCodes : List ℕ

@@ -2,7 +2,7 @@
 use geometry::Geometry;
 ghost use mathlib.Core.Path.{_≡_};
 ghost use Prim.Native.Nat.{_%_, _<_};
-ghost use Rattle.chip_interface.specs.Interface.{poweredOn, refused, inPhase, afterReset, begun, outputResumed, statusMode, readMode, plainCommand, moreAddress, fullAddress, latched, addressed, shifted, rowOfAddress, failedOf, started, fateWord, nextFate, addressFits, statusByte, parametersStarted, parameterAddressed};
+ghost use Rattle.chip_interface.specs.Interface.{poweredOn, refused, inPhase, afterReset, begun, outputResumed, statusMode, readMode, plainCommand, moreAddress, fullAddress, latched, addressed, shifted, rowOfAddress, failedOf, started, unstarted, fateWord, nextFate, addressFits, protectedByte, statusByte, parametersStarted, parameterAddressed};
 
 // All fields are numbers of one width: a struct with gaps costs a store for each cycle.
 pub struct Interface {
@@ -28,6 +28,8 @@ pub struct Interface {
     pub fate: usize,
     // 1 once a cycle was answered illegal.
     pub illegal: usize,
+    // Not 0 where the write-protect line is low; no cycle changes it.
+    pub protected: usize,
 }
 
 pub const READY: usize = 0;
@@ -87,6 +89,7 @@ impl Interface {
             loaded: 0,
             fate: 0,
             illegal: 0,
+            protected: 0,
         }
     }
 
@@ -294,6 +297,18 @@ impl Interface {
         self
     }
 
+    // The confirm cycle of a program or an erase on a protected chip.
+    pub fn stay(mut self, operation: usize) -> Self
+        ensures { λ r. ⌜ r ≡ unstarted operation self ⌝ }
+    {
+        self.phase = READY;
+        self.operation = operation;
+        self.busy = 0;
+        self.failed = 1;
+        self.loaded = 0;
+        self
+    }
+
     // The parameter page is fetched, with its fate.
     fn start_parameters(mut self, fates: &[u32]) -> Self
         ensures { λ r. ⌜ r ≡ parametersStarted (now (fates .entry)) self ⌝ }
@@ -393,10 +408,26 @@ fn next_fate(fates: &[u32], at: usize) -> usize
     at
 }
 
-// The status byte: bit 7 not protected, bits 6 and 5 ready, bit 0 failed.
-pub fn status_byte(ready: usize, failed: usize) -> u8
-    ensures { λ r. ⌜ r ≡ statusByte ready failed ⌝ }
+// The status byte of a protected chip: bit 7 clear.
+fn protected_byte(ready: usize, failed: usize) -> u8
+    ensures { λ r. ⌜ r ≡ protectedByte ready failed ⌝ }
 {
+    if ready == 0 {
+        return 0x00;
+    }
+    if failed == 0 {
+        return 0x60;
+    }
+    0x61
+}
+
+// The status byte: bit 7 not protected, bits 6 and 5 ready, bit 0 failed.
+pub fn status_byte(protected: usize, ready: usize, failed: usize) -> u8
+    ensures { λ r. ⌜ r ≡ statusByte protected ready failed ⌝ }
+{
+    if protected != 0 {
+        return protected_byte(ready, failed);
+    }
     if ready == 0 {
         return 0x80;
     }

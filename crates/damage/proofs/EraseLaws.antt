@@ -16,15 +16,14 @@ use Rattle.cells.proofs.CellLaws.{length-raised}
 use Rattle.chip_interface.specs.Interface.{busyOf, failedFor}
 use Rattle.chip_array.specs.Device.{Setting}
 use Rattle.bus.specs.Line.{Line, sendAll}
-use Rattle.bus_polling.specs.Outcomes.{isPassed, answered, isFailed, isIllegal, isCut, isSilent}
-use Rattle.bus_polling.specs.Polling.{outcomeOf}
+use Rattle.bus_polling.specs.Outcomes.{isPassed, answered, isFailed, isIllegal, isCut, isSilent, isProtected}
 use Rattle.bus_polling.specs.declared.Outcome.{Outcome}
 use Rattle.bus_sequences.specs.Cycles.{eraseCycles}
 use Rattle.operations.specs.Ends.{Called, CanErase, End, endOf, eraseEnd, confirmedEnd, passes, endsAs, totalFor, wordFor, pollsFor, withBlockBytes}
-use Rattle.operations.proofs.EraseLaws.{erase-ends, erase-legal, erase-next, erase-starts}
+use Rattle.operations.proofs.EraseLaws.{erase-ends, erase-answer, erase-legal, erase-next, erase-starts}
 use Rattle.operations.specs.Trace.{ArrayOperation, eraseStarts}
 use Rattle.copies.specs.Blocks.{blockIn}
-use Rattle.progress.specs.Progress.{Progress}
+use Rattle.progress.specs.Progress.{Progress, lineOf}
 use Rattle.progress.specs.Steps.{eraseOn}
 use Rattle.progress.proofs.StepLaws.{erase-on-line, erase-on-outcome, whole-effect}
 use Rattle.damage.specs.Run.{failedIn, FailedMore, Sound, Erased, OthersSame, blockOn}
@@ -59,6 +58,16 @@ ends-known s l op m =
     (λ u. cases (eqb (failedFor op (wordFor s (l .chip))) 0) (λ w. rw (t, u, w)) (λ w. rw (t, u, w)))
     (λ u. rw (t, u)))
 
+pub ends-unprotected : (s : Setting) (l : Line) (op m : ℕ) → isProtected (endsAs s l op m) ≡ false
+unfolding isProtected
+ends-unprotected s l op m =
+    cases (ltb (l .left) (totalFor s (l .chip) m))
+    (λ t. rw t)
+    (λ t.
+    cases (ltb (busyOf (wordFor s (l .chip))) 256)
+    (λ u. cases (eqb (failedFor op (wordFor s (l .chip))) 0) (λ w. rw (t, u, w)) (λ w. rw (t, u, w)))
+    (λ u. rw (t, u)))
+
 -- one that is cut leaves no cycle
 pub ends-used-up : (s : Setting) (l : Line) (op m : ℕ) → isCut (endsAs s l op m) ≡ true → l .left - totalFor s (l .chip) m ≡ 0
 unfolding isCut
@@ -80,12 +89,12 @@ part-effect s l op m a₁ h₁ a₂ h₂ f =
     (λ t. inl (rw t))
     (λ t. cases (passes s l op m) (λ u. absurd (false≢true (sym f ∙ passes-passed s l op m u))) (λ u. inr (rw (t, u))))
 
-module _ (s : Setting) (p : Progress) (block : ℕ) (below : block < s .geometry .blocks) (t : isPassed (p .outcome) ≡ true) (called : Called s (p .line)) where
+module _ (s : Setting) (p : Progress) (block : ℕ) (below : block < s .geometry .blocks) (t : isPassed (p .outcome) ≡ true) (called : Called s (p .line)) (high : lineOf p ≡ 0) where
   abbrev next : Progress
   next = eraseOn s block p
 
   can : CanErase s (p .line) block
-  can = record { called = called; block-below = below }
+  can = record { may = record { called = called; block-below = below }; high = high }
 
   line-is : next .line ≡ sendAll s (p .line) (eraseCycles s (p .line) (rowOf (s .geometry) block 0))
   line-is = erase-on-line s block p (p .line) refl t
@@ -94,8 +103,7 @@ module _ (s : Setting) (p : Progress) (block : ℕ) (below : block < s .geometry
   end-is = ap endOf line-is ∙ erase-ends s (p .line) block can
 
   pub erase-outcome-is : next .outcome ≡ eraseEnd s (p .line) block .outcome
-  unfolding endOf
-  erase-outcome-is = erase-on-outcome s block p (p .line) refl t ∙ ap outcomeOf (sym line-is) ∙ ap (λ (e : End). e .outcome) end-is
+  erase-outcome-is = erase-on-outcome s block p (p .line) refl t ∙ erase-answer s (p .line) block can
 
   array-is : next .line .chip .array ≡ eraseEnd s (p .line) block .array
   unfolding endOf
@@ -114,11 +122,12 @@ module _ (s : Setting) (p : Progress) (block : ℕ) (below : block < s .geometry
   sound =
       record {
         known = ap isIllegal erase-outcome-is ∙ ends-known s (p .line) 3 4;
+        unprotected = ap isProtected erase-outcome-is ∙ ends-unprotected s (p .line) 3 4;
         used-up = λ c. left-is ∙ ends-used-up s (p .line) 3 4 (sym (ap isCut erase-outcome-is) ∙ c);
         silent-by = λ z. ends-slow s (p .line) 3 4 (sym (ap isSilent erase-outcome-is) ∙ z);
         failed-by = λ z. ends-failing s (p .line) 3 4 (sym (ap isFailed erase-outcome-is) ∙ z);
-        legal = ap (λ (x : Line). x .chip .interface .illegal) line-is ∙ erase-legal s (p .line) block can;
-        called = λ a. subst (Called s) (sym line-is) (erase-next s (p .line) block can (sym (ap answered erase-outcome-is) ∙ a));
+        legal = ap (λ (x : Line). x .chip .interface .illegal) line-is ∙ erase-legal s (p .line) block (can .may);
+        called = λ a. subst (Called s) (sym line-is) (erase-next s (p .line) block (can .may) (sym (ap answered (erase-on-outcome s block p (p .line) refl t)) ∙ a));
       }
 
   pub erase-started : next .started ≡ p .started ++ eraseStarts s (p .line) (rowOf (s .geometry) block 0)

@@ -24,11 +24,12 @@ use Rattle.operations.specs.Ends.{Called}
 use Rattle.pages.specs.Over.{Over, none, more}
 use Rattle.pages.proofs.OverLaws.{over-refl, programmed-over}
 use Rattle.copies.specs.Blocks.{blockIn, pageIn, mainIn}
-use Rattle.progress.specs.Progress.{Progress, readOn}
+use Rattle.progress.specs.Progress.{Progress, lineOf, readOn}
 use Rattle.fill.specs.Fill.{Copy, Source, copyPage, mainOf, mainRead, pageFilled, pagesFilled, filled, given, kept}
 use Rattle.progress.specs.Steps.{eraseOn, programOn}
 use Rattle.bus_polling.proofs.OutcomeLaws.{passed-answered, passed-unfailed, read-end-unfailed, passed-read-end}
 use Rattle.progress.proofs.StepLaws.{program-stopped}
+use Rattle.progress.proofs.WordLaws.{read-keeps, erase-keeps, program-keeps}
 use Rattle.fill.proofs.FillLaws.{fill-stopped}
 use Rattle.damage.specs.Run.{NoneFailed, Unchanged, OthersSame, Programmed, Provides, from-caller, from-copy, Meant, Filled, pageOn, Spent, readMost, programMost, pageMost, eraseMost, fillMost, tableFillMost, sourceMost}
 use Rattle.damage.proofs.TraceLaws.{unfailed-none, none-unfailed}
@@ -52,10 +53,10 @@ source-most g (given main) = omega arith
 source-most g (kept old) = omega arith
 
 module _ (s : Setting) (p : Progress) (block : ℕ) (below : block < s .geometry .blocks) (c : Copy) (source : ℕ → Source) (pages : ℕ → List ℕ)
-    (meant : Meant s (p .line .chip .array) block c source pages) (mask-bytes : Bytes (s .mask)) where
+    (meant : Meant s (p .line .chip .array) block c source pages) (mask-bytes : Bytes (s .mask)) (high : lineOf p ≡ 0) where
   -- more cycles may be allowed
   weaker : {q : Progress} {n k j : ℕ} → k ≤ j → Filled s p q block pages n k → Filled s p q block pages n j
-  weaker h r = record { sound = r .sound; others = r .others; done = r .done; ahead = r .ahead; in-order = r .in-order; damaged = r .damaged; spent = omega (arith, r .spent, h); failures = r .failures }
+  weaker h r = record { sound = r .sound; others = r .others; done = r .done; ahead = r .ahead; in-order = r .in-order; damaged = r .damaged; spent = omega (arith, r .spent, h); same-line = r .same-line; failures = r .failures }
 
   over-blank : (i : ℕ) → i < s .geometry .pages → Over (pages i) (replicate (pageSize (s .geometry)) 255)
   over-blank i h = subst (λ (n : ℕ). Over (pages i) (replicate n 255)) (meant .long i h) (over-erased (pages i) (meant .bytes i h))
@@ -76,7 +77,10 @@ module _ (s : Setting) (p : Progress) (block : ℕ) (below : block < s .geometry
     left : Programmed s q next block n (pages n)
     left =
         program-leaves s q block n (pages n) t
-        (record { called = r .sound .called (passed-answered (q .outcome) t); block-below = below; page-below = page-below; in-order = r .in-order t; bytes-long = meant .long n page-below })
+        (record {
+          may = record { called = r .sound .called (passed-answered (q .outcome) t); block-below = below; page-below = page-below; in-order = r .in-order t; bytes-long = meant .long n page-below };
+          high = r .same-line ∙ high;
+        })
 
     others-next : OthersSame s p next block
     others-next b h x = left .others b h x ∙ r .others b h x
@@ -120,12 +124,13 @@ module _ (s : Setting) (p : Progress) (block : ℕ) (below : block < s .geometry
           in-order = λ y. subst (λ (k : ℕ). getD (next .line .chip .history) block 0 ≤ k) (add-one n) (left .in-order y);
           damaged = λ f. inr (inr (damage-next f));
           spent = omega (arith, r .spent, left .spent);
+          same-line = program-keeps s block n (pages n) q ∙ r .same-line;
           failures = λ b.
               left .failures b ∙ ap (λ (x : Bool). cond x true (cond (eqb block b) (isFailed (next .outcome)) false)) (unfailed-none p q block (passed-unfailed (q .outcome) t) (r .failures) b);
         }
 
   -- a read in between changes nothing
-  module _ (q : Progress) (n k : ℕ) (r : Filled s p q block pages n k) (t : isPassed (q .outcome) ≡ true) (q' : Progress) (u : Unchanged s (q .line .chip .array) (q .line .chip .history) q') (j : ℕ) (few : Spent q q' j) (calm : NoneFailed q q') where
+  module _ (q : Progress) (n k : ℕ) (r : Filled s p q block pages n k) (t : isPassed (q .outcome) ≡ true) (q' : Progress) (u : Unchanged s (q .line .chip .array) (q .line .chip .history) q') (j : ℕ) (few : Spent q q' j) (calm : NoneFailed q q') (level : lineOf q' ≡ lineOf q) where
     same-page : (i : ℕ) → pageOn s q' block i ≡ pageOn s q block i
     same-page i = ap (λ (a : List ℕ). pageIn (s .geometry) (blockIn (s .geometry) a block) i) (u .same-array)
 
@@ -139,6 +144,7 @@ module _ (s : Setting) (p : Progress) (block : ℕ) (below : block < s .geometry
           in-order = λ y. subst (λ (x : List ℕ). getD x block 0 ≤ n) (sym (u .same-history)) (r .in-order t);
           damaged = λ f. inr (inr (all-over q' n (λ i h. same-page i ∙ r .done t i h) (λ i h l. same-page i ∙ r .ahead t i h l)));
           spent = omega (arith, r .spent, few);
+          same-line = level ∙ r .same-line;
           failures = none-unfailed p q' block (read-end-unfailed (q' .outcome) (u .ends)) (λ b. calm b ∙ unfailed-none p q block (passed-unfailed (q .outcome) t) (r .failures) b);
         }
 
@@ -152,6 +158,7 @@ module _ (s : Setting) (p : Progress) (block : ℕ) (below : block < s .geometry
           in-order = λ y. absurd (false≢true (sym f ∙ y));
           damaged = after-read .damaged;
           spent = after-read .spent;
+          same-line = after-read .same-line;
           failures = after-read .failures;
         }
 
@@ -186,8 +193,11 @@ module _ (s : Setting) (p : Progress) (block : ℕ) (below : block < s .geometry
           (row-below (s .geometry) (still-called .is-valid) old n old-below page-below)
           (omega (arith, still-called .is-valid .main-least)) (omega arith) q so-far
 
+      fetch-level : lineOf fetched ≡ lineOf q
+      fetch-level = read-keeps s (rowOf (s .geometry) old n) 0 (s .geometry .main) q
+
       pub fetch-leaves : Filled s p fetched block pages n (k + readMost (s .geometry .main))
-      fetch-leaves = after-read q n k r t fetched fetch-unchanged (readMost (s .geometry .main)) fetch-spends fetch-calm
+      fetch-leaves = after-read q n k r t fetched fetch-unchanged (readMost (s .geometry .main)) fetch-spends fetch-calm fetch-level
 
       kept-next : (bytes : List ℕ) → bytes ≡ pages n → Filled s p (programOn s block n bytes fetched) block pages (suc n) (k + pageMost (s .geometry))
       kept-next bytes e =
@@ -197,7 +207,7 @@ module _ (s : Setting) (p : Progress) (block : ℕ) (below : block < s .geometry
           (weaker (omega arith) (program-next fetched n page-below (k + readMost (s .geometry .main)) fetch-leaves y)))
           (λ f.
           subst (λ (x : Progress). Filled s p x block pages (suc n) (k + pageMost (s .geometry))) (sym (program-stopped s block n bytes fetched f))
-          (weaker (omega arith) (after-stop q n k r t fetched fetch-unchanged (readMost (s .geometry .main)) fetch-spends fetch-calm f)))
+          (weaker (omega arith) (after-stop q n k r t fetched fetch-unchanged (readMost (s .geometry .main)) fetch-spends fetch-calm fetch-level f)))
 
     provided-next : (from : Source) (page : List ℕ) → Provides (s .geometry) (p .line .chip .array) block c n from page → page ≡ pages n → Filled s p (pageFilled s block c n from q) block pages (suc n) (k + sourceMost (s .geometry) from)
     unfolding pageFilled mainOf mainRead sourceMost
@@ -235,13 +245,14 @@ module _ (s : Setting) (p : Progress) (block : ℕ) (below : block < s .geometry
             in-order = λ y. absurd (false≢true (sym f ∙ y));
             damaged = r .damaged;
             spent = r .spent;
+            same-line = r .same-line;
             failures = r .failures;
           }
 
   -- right after the erase
   pub erase-filled : isPassed (p .outcome) ≡ true → Called s (p .line) → Filled s p (eraseOn s block p) block pages 0 eraseMost
   erase-filled t called =
-      let e = erase-leaves s p block below t called in
+      let e = erase-leaves s p block below t called high in
       record {
         sound = e .sound;
         others = e .others;
@@ -250,6 +261,7 @@ module _ (s : Setting) (p : Progress) (block : ℕ) (below : block < s .geometry
         in-order = e .in-order;
         damaged = λ f. ⊎-elim inl (λ x. inr (inl x)) (e .partly f);
         spent = e .spent;
+        same-line = erase-keeps s block p;
         failures = e .failures;
       }
 

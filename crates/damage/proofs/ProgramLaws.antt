@@ -14,12 +14,11 @@ use Rattle.cells.specs.Cells.{programmed, weakened}
 use Rattle.cells.proofs.CellLaws.{length-programmed}
 use Rattle.chip_array.specs.Device.{Setting}
 use Rattle.bus.specs.Line.{Line, sendAll}
-use Rattle.bus_polling.specs.Outcomes.{isPassed, answered, isFailed, isIllegal, isCut, isSilent}
-use Rattle.bus_polling.specs.Polling.{outcomeOf}
+use Rattle.bus_polling.specs.Outcomes.{isPassed, answered, isFailed, isIllegal, isCut, isSilent, isProtected}
 use Rattle.bus_polling.specs.declared.Outcome.{Outcome}
 use Rattle.bus_sequences.specs.Cycles.{programCycles}
 use Rattle.operations.specs.Ends.{Called, CanProgram, End, endOf, programEnd, confirmedEnd, totalFor, withRow, rowBytesOf}
-use Rattle.operations.proofs.ProgramLaws.{program-ends, program-legal, program-next, program-starts}
+use Rattle.operations.proofs.ProgramLaws.{program-ends, program-answer, program-legal, program-next, program-starts}
 use Rattle.operations.specs.Trace.{ArrayOperation, programStarts}
 use Rattle.copies.specs.Blocks.{blockIn, pageIn}
 use Rattle.progress.specs.Progress.{Progress}
@@ -29,7 +28,7 @@ use Rattle.damage.specs.Run.{failedIn, FailedMore, Sound, Programmed, Ot
 use Rattle.damage.proofs.FateLaws.{ends-slow, ends-failing}
 use Rattle.damage.proofs.TraceLaws.{failed-append, failed-one, cut-unfailed}
 use Rattle.damage.proofs.PlaceLaws.{page-place, page-there, page-elsewhere, page-other-block, page-long}
-use Rattle.damage.proofs.EraseLaws.{part-effect, ends-known, ends-used-up, total-most}
+use Rattle.damage.proofs.EraseLaws.{part-effect, ends-known, ends-unprotected, ends-used-up, total-most}
 
 module _ (s : Setting) (p : Progress) (block page : ℕ) (bytes : List ℕ) (t : isPassed (p .outcome) ≡ true) (can : CanProgram s (p .line) block page bytes) where
   abbrev next : Progress
@@ -45,8 +44,7 @@ module _ (s : Setting) (p : Progress) (block page : ℕ) (bytes : List ℕ) (t :
   end-is = ap endOf line-is ∙ program-ends s (p .line) block page bytes can
 
   pub program-outcome-is : next .outcome ≡ programEnd s (p .line) block page bytes .outcome
-  unfolding endOf
-  program-outcome-is = program-on-outcome s block p (p .line) refl t page bytes ∙ ap outcomeOf (sym line-is) ∙ ap (λ (e : End). e .outcome) end-is
+  program-outcome-is = program-on-outcome s block p (p .line) refl t page bytes ∙ program-answer s (p .line) block page bytes can
 
   array-is : next .line .chip .array ≡ programEnd s (p .line) block page bytes .array
   unfolding endOf
@@ -70,11 +68,12 @@ module _ (s : Setting) (p : Progress) (block page : ℕ) (bytes : List ℕ) (t :
   sound =
       record {
         known = ap isIllegal program-outcome-is ∙ ends-known s (p .line) 2 (6 + length bytes);
+        unprotected = ap isProtected program-outcome-is ∙ ends-unprotected s (p .line) 2 (6 + length bytes);
         used-up = λ c. left-is ∙ ends-used-up s (p .line) 2 (6 + length bytes) (sym (ap isCut program-outcome-is) ∙ c);
         silent-by = λ z. ends-slow s (p .line) 2 (6 + length bytes) (sym (ap isSilent program-outcome-is) ∙ z);
         failed-by = λ z. ends-failing s (p .line) 2 (6 + length bytes) (sym (ap isFailed program-outcome-is) ∙ z);
-        legal = ap (λ (x : Line). x .chip .interface .illegal) line-is ∙ program-legal s (p .line) block page bytes can;
-        called = λ a. subst (Called s) (sym line-is) (program-next s (p .line) block page bytes can (sym (ap answered program-outcome-is) ∙ a));
+        legal = ap (λ (x : Line). x .chip .interface .illegal) line-is ∙ program-legal s (p .line) block page bytes (can .may);
+        called = λ a. subst (Called s) (sym line-is) (program-next s (p .line) block page bytes (can .may) (sym (ap answered (program-on-outcome s block p (p .line) refl t page bytes)) ∙ a));
       }
 
   pub program-started : next .started ≡ p .started ++ programStarts s (p .line) (rowOf (s .geometry) block page) bytes
@@ -93,23 +92,23 @@ module _ (s : Setting) (p : Progress) (block page : ℕ) (bytes : List ℕ) (t :
   old = pageOn s p block page
 
   old-is : rowBytesOf s (rowOf (s .geometry) block page) array ≡ old
-  old-is = sym (page-place (s .geometry) (can .called .is-valid) array block page (can .page-below))
+  old-is = sym (page-place (s .geometry) (can .may .called .is-valid) array block page (can .may .page-below))
 
   -- the page's bytes are replaced
   module _ (ys : List ℕ) (long : length ys ≡ pageSize (s .geometry)) (e : next .line .chip .array ≡ withRow s (rowOf (s .geometry) block page) ys array) where
     replaced : pageOn s next block page ≡ ys
-    replaced = ap (λ (a : List ℕ). pageIn (s .geometry) (blockIn (s .geometry) a block) page) e ∙ page-there (s .geometry) (can .called .is-valid) array (can .called .array-long) block (can .block-below) page (can .page-below) ys long
+    replaced = ap (λ (a : List ℕ). pageIn (s .geometry) (blockIn (s .geometry) a block) page) e ∙ page-there (s .geometry) (can .may .called .is-valid) array (can .may .called .array-long) block (can .may .block-below) page (can .may .page-below) ys long
 
     pages-kept : (i : ℕ) → i < s .geometry .pages → (i ≡ page → ⊥) → pageOn s next block i ≡ pageOn s p block i
     pages-kept i h x =
-        ap (λ (a : List ℕ). pageIn (s .geometry) (blockIn (s .geometry) a block) i) e ∙ page-elsewhere (s .geometry) (can .called .is-valid) array (can .called .array-long) block (can .block-below) page (can .page-below) ys long i h x
+        ap (λ (a : List ℕ). pageIn (s .geometry) (blockIn (s .geometry) a block) i) e ∙ page-elsewhere (s .geometry) (can .may .called .is-valid) array (can .may .called .array-long) block (can .may .block-below) page (can .may .page-below) ys long i h x
 
     blocks-kept : OthersSame s p next block
     blocks-kept b h x =
-        ap (λ (a : List ℕ). blockIn (s .geometry) a b) e ∙ page-other-block (s .geometry) (can .called .is-valid) array (can .called .array-long) block (can .block-below) page (can .page-below) ys long b x
+        ap (λ (a : List ℕ). blockIn (s .geometry) a b) e ∙ page-other-block (s .geometry) (can .may .called .is-valid) array (can .may .called .array-long) block (can .may .block-below) page (can .may .page-below) ys long b x
 
   made-long : (ds : List ℕ) → length (programmed old ds) ≡ pageSize (s .geometry)
-  made-long ds = length-programmed old ds ∙ page-long (s .geometry) (can .called .is-valid) array (can .called .array-long) block (can .block-below) page (can .page-below)
+  made-long ds = length-programmed old ds ∙ page-long (s .geometry) (can .may .called .is-valid) array (can .may .called .array-long) block (can .may .block-below) page (can .may .page-below)
 
   made-of : (ds a : List ℕ) → a ≡ withRow s (rowOf (s .geometry) block page) (programmed (rowBytesOf s (rowOf (s .geometry) block page) array) ds) array → a ≡ withRow s (rowOf (s .geometry) block page) (programmed old ds) array
   made-of ds a e = e ∙ ap (λ (x : List ℕ). withRow s (rowOf (s .geometry) block page) (programmed x ds) array) old-is
@@ -123,7 +122,7 @@ module _ (s : Setting) (p : Progress) (block page : ℕ) (bytes : List ℕ) (t :
 
     order-next : getD (next .line .chip .history) block 0 ≤ page + 1
     order-next =
-        let set-is = getD-set-same (p .line .chip .history) block (page + 1) 0 (omega (arith, can .block-below, can .called .history-long)) in
+        let set-is = getD-set-same (p .line .chip .history) block (page + 1) 0 (omega (arith, can .may .block-below, can .may .called .history-long)) in
         omega (arith, ap (λ (x : List ℕ). getD x block 0) (effect .1), set-is)
 
   effect-part : isPassed (next .outcome) ≡ false → (next .line .chip .array ≡ array) ⊎ (next .line .chip .array ≡ withRow s (rowOf (s .geometry) block page) (programmed old (weakened bytes (s .mask))) array)
@@ -147,6 +146,6 @@ module _ (s : Setting) (p : Progress) (block page : ℕ) (bytes : List ℕ) (t :
         partly = λ f.
             ⊎-elim (λ e. inl (ap (λ (a : List ℕ). pageIn (s .geometry) (blockIn (s .geometry) a block) page) e)) (λ e. inr (replaced (programmed old half) (made-long half) e)) (effect-part f);
         in-order = order-next;
-        spent = omega (arith, left-is, total-most s (p .line) (6 + length bytes), can .bytes-long);
+        spent = omega (arith, left-is, total-most s (p .line) (6 + length bytes), can .may .bytes-long);
         failures = failures;
       }

@@ -25,7 +25,7 @@ use Rattle.progress.specs.Progress.{Progress, progress, readOn, resetOn}
 use Rattle.scan_block.specs.Pages.{pagesRead}
 use Rattle.scan.specs.Scan.{blocksRead}
 use Rattle.progress.proofs.ReadOnLaws.{read-line, read-outcome, read-stopped}
-use Rattle.bus_polling.proofs.OutcomeLaws.{is-passed, read-passed, read-known, read-end-unfailed}
+use Rattle.bus_polling.proofs.OutcomeLaws.{is-passed, read-passed, read-known, read-end-unfailed, read-end-unprotected}
 use Rattle.request.specs.Call.{sizedFor, callLine}
 use Rattle.request.proofs.ResetLaws.{reset-called}
 use Rattle.damage.specs.Run.{failedIn, NoneFailed, Unchanged, Spent, readMost}
@@ -74,6 +74,7 @@ module _ (s : Setting) (array history : List ℕ) where
           sound = record {
             legal = ap (λ (x : Line). x .chip .interface .illegal) line-is ∙ read-legal s l row column n can;
             known = read-known (readOn s row column n p .outcome) fine;
+            unprotected = read-end-unprotected (readOn s row column n p .outcome) fine;
             used-up = λ c. ap (λ (x : Line). x .left) line-is ∙ ap (λ (e : End). e .left) ends ∙ read-used-up s l n (sym (ap isCut outcome-is) ∙ c);
             silent-by = λ z. read-slow s l n (sym (ap isSilent outcome-is) ∙ z);
             failed-by = λ z. absurd (false≢true (sym (read-end-unfailed (readOn s row column n p .outcome) fine) ∙ z));
@@ -187,6 +188,7 @@ module _ (s : Setting) (d : Device) (n : ℕ) (t : sizedFor s d ≡ true) where
         sound = record {
           legal = reset-legal s (callLine d n) refl refl;
           known = read-known (begun .outcome) fine;
+          unprotected = read-end-unprotected (begun .outcome) fine;
           used-up = λ c. ap (λ (e : End). e .left) ends ∙ reset-used-up (callLine d n) (sym (ap isCut outcome-is) ∙ c);
           silent-by = λ z. absurd (false≢true (sym (ap isSilent outcome-is ∙ reset-heard) ∙ z));
           failed-by = λ z. absurd (false≢true (sym (read-end-unfailed (begun .outcome) fine) ∙ z));

@@ -28,7 +28,7 @@ use Rattle.operations.proofs.ProgramLaws.{program-starts}
 use Rattle.operations.proofs.EraseLaws.{erase-starts}
 use Rattle.pages.specs.Over.{Over}
 use Rattle.copies.specs.Blocks.{blockIn, pageIn, mainIn}
-use Rattle.progress.specs.Progress.{Progress, readOn}
+use Rattle.progress.specs.Progress.{Progress, lineOf, readOn}
 use Rattle.progress.specs.Steps.{eraseOn, programOn}
 use Rattle.progress.proofs.StepLaws.{program-stopped}
 use Rattle.fill.specs.Fill.{Copy, Source, copyPage, mainOf, mainRead, pageFilled, pagesFilled, filled}
@@ -70,7 +70,7 @@ unfolding readOn
 read-started s row column n q t = rw t
 
 module _ (s : Setting) (p : Progress) (block : ℕ) (below : block < s .geometry .blocks) (c : Copy) (source : ℕ → Source) (pages : ℕ → List ℕ)
-    (meant : Meant s (p .line .chip .array) block c source pages) (mask-bytes : Bytes (s .mask)) (called : Called s (p .line)) where
+    (meant : Meant s (p .line .chip .array) block c source pages) (mask-bytes : Bytes (s .mask)) (high : lineOf p ≡ 0) (called : Called s (p .line)) where
   abbrev Touching : ArrayOperation → Type 0
   Touching = TouchedBy (s .geometry) (p .line .chip .array) block pages
 
@@ -80,7 +80,11 @@ module _ (s : Setting) (p : Progress) (block : ℕ) (below : block < s .geometry
     next = programOn s block n (pages n) q
 
     can : CanProgram s (q .line) block n (pages n)
-    can = record { called = r .sound .called (passed-answered (q .outcome) t); block-below = below; page-below = page-below; in-order = r .in-order t; bytes-long = meant .long n page-below }
+    can =
+        record {
+          may = record { called = r .sound .called (passed-answered (q .outcome) t); block-below = below; page-below = page-below; in-order = r .in-order t; bytes-long = meant .long n page-below };
+          high = r .same-line ∙ high;
+        }
 
     left : Programmed s q next block n (pages n)
     left = program-leaves s q block n (pages n) t can
@@ -99,9 +103,9 @@ module _ (s : Setting) (p : Progress) (block : ℕ) (below : block < s .geometry
     touch =
         record {
           block-is = refl;
-          long = can .called .array-long ∙ sym (called .array-long);
+          long = can .may .called .array-long ∙ sym (called .array-long);
           others = r .others;
-          here = inr (record { over = all-over s p block below c source pages meant mask-bytes q n (r .done t) (r .ahead t); page = n; page-below = page-below; blank = blank });
+          here = inr (record { over = all-over s p block below c source pages meant mask-bytes high q n (r .done t) (r .ahead t); page = n; page-below = page-below; blank = blank });
           program = λ e. (page-below, refl);
         }
 
@@ -125,10 +129,10 @@ module _ (s : Setting) (p : Progress) (block : ℕ) (below : block < s .geometry
 
     over-next : (i : ℕ) → i < s .geometry .pages → Over (pages i) (pageOn s next block i)
     over-next =
-        let after = program-next s p block below c source pages meant mask-bytes q n page-below k r t in
+        let after = program-next s p block below c source pages meant mask-bytes high q n page-below k r t in
         cases (isPassed (next .outcome))
-        (λ y. all-over s p block below c source pages meant mask-bytes next (suc n) (after .done y) (after .ahead y))
-        (λ f. damage-next s p block below c source pages meant mask-bytes q n page-below k r t f)
+        (λ y. all-over s p block below c source pages meant mask-bytes high next (suc n) (after .done y) (after .ahead y))
+        (λ f. damage-next s p block below c source pages meant mask-bytes high q n page-below k r t f)
 
     -- page n: its program was started, or nothing changed
     sent-here : Some (Programs block n (pages n)) ops ⊎ (pageOn s next block n ≡ replicate (pageSize (s .geometry)) 255)
@@ -196,14 +200,14 @@ module _ (s : Setting) (p : Progress) (block : ℕ) (below : block < s .geometry
           record { called = still; row-below = row-below (s .geometry) (still .is-valid) old n old-below page-below; column-below = omega (arith, still .is-valid .main-least); within = omega arith }
 
       fetch-touches : Underway s p fetch block pages
-      fetch-touches = read-touches q t x (rowOf (s .geometry) old n) 0 (s .geometry .main) can-fetch (fetch-unchanged s p block below c source pages meant mask-bytes q n page-below k r t old old-below)
+      fetch-touches = read-touches q t x (rowOf (s .geometry) old n) 0 (s .geometry .main) can-fetch (fetch-unchanged s p block below c source pages meant mask-bytes high q n page-below k r t old old-below)
 
       kept-touches : (bytes : List ℕ) → bytes ≡ pages n → Underway s p (programOn s block n bytes fetch) block pages
       kept-touches bytes e =
           cases (isPassed (fetch .outcome))
           (λ y.
           subst (λ (z : List ℕ). Underway s p (programOn s block n z fetch) block pages) (sym e)
-          (program-touches fetch n page-below (k + readMost (s .geometry .main)) (fetch-leaves s p block below c source pages meant mask-bytes q n page-below k r t old old-below) y fetch-touches))
+          (program-touches fetch n page-below (k + readMost (s .geometry .main)) (fetch-leaves s p block below c source pages meant mask-bytes high q n page-below k r t old old-below) y fetch-touches))
           (λ f. subst (λ (z : Progress). Underway s p z block pages) (sym (program-stopped s block n bytes fetch f)) fetch-touches)
 
     pub provided-touches : (from : Source) (page : List ℕ) → Provides (s .geometry) (p .line .chip .array) block c n from page → page ≡ pages n → Underway s p (pageFilled s block c n from q) block pages
@@ -220,7 +224,7 @@ module _ (s : Setting) (p : Progress) (block : ℕ) (below : block < s .geometry
   pages-touch q r x (suc n) h =
       let so-far = pagesFilled s block c source n q in
       let less = pages-touch q r x n (omega (arith, h)) in
-      let at-n = pages-leave s p block below c source pages meant mask-bytes (pageMost (s .geometry)) (λ i l. source-most (s .geometry) (source i)) q r n (omega (arith, h)) in
+      let at-n = pages-leave s p block below c source pages meant mask-bytes high (pageMost (s .geometry)) (λ i l. source-most (s .geometry) (source i)) q r n (omega (arith, h)) in
       cases (isPassed (so-far .outcome))
       (λ t. provided-touches so-far n (omega (arith, h)) (eraseMost + n * pageMost (s .geometry)) at-n t less (source n) (pages n) (meant .provides n (omega (arith, h))) refl)
       (λ f. subst (λ (z : Progress). Underway s p z block pages) (sym (page-stopped s block c n (source n) so-far f)) less)
@@ -237,7 +241,7 @@ module _ (s : Setting) (p : Progress) (block : ℕ) (below : block < s .geometry
     erasing = record { kind = 3; block = block; page = 0; bytes = []; before = p .line .chip .array; answer = eraseEnd s (p .line) block .outcome }
 
     begun-is : begun ≡ cond (leb (p .line .left) 4) [] (erasing ∷ [])
-    begun-is = erase-starts s (p .line) block (record { called = called; block-below = below })
+    begun-is = erase-starts s (p .line) block (record { may = record { called = called; block-below = below }; high = high })
 
     erase-touch : Touch (s .geometry) (p .line .chip .array) block pages erasing
     erase-touch = record { block-is = refl; long = refl; others = λ b h e. refl; here = inl refl; program = λ e. absurd (omega (arith, e)) }
@@ -252,25 +256,25 @@ module _ (s : Setting) (p : Progress) (block : ℕ) (below : block < s .geometry
     unfolding eraseEnd confirmedEnd
     begun-failed b =
         ap (failedIn b) begun-is ∙ failed-one b erasing (leb (p .line .left) 4) (cut-unfailed s (p .line) 3 4)
-        ∙ ap (λ (o : Outcome). cond (eqb block b) (isFailed o) false) (sym (erase-outcome-is s p block below t called))
+        ∙ ap (λ (o : Outcome). cond (eqb block b) (isFailed o) false) (sym (erase-outcome-is s p block below t called high))
 
     begun-unfailed : isPassed (erased .outcome) ≡ true → Each Unfailed begun
     begun-unfailed y =
         subst (Each Unfailed) (sym begun-is)
-        (each-one Unfailed (leb (p .line .left) 4) erasing (sym (ap isFailed (erase-outcome-is s p block below t called)) ∙ passed-unfailed (erased .outcome) y))
+        (each-one Unfailed (leb (p .line .left) 4) erasing (sym (ap isFailed (erase-outcome-is s p block below t called high)) ∙ passed-unfailed (erased .outcome) y))
 
     no-program : Each (λ o. o .kind ≡ 2 → ⊥) begun
     no-program = subst (Each (λ o. o .kind ≡ 2 → ⊥)) (sym begun-is) (each-one (λ o. o .kind ≡ 2 → ⊥) (leb (p .line .left) 4) erasing (λ e. omega (arith, e)))
 
     pub after-erase : isPassed (erased .outcome) ≡ true → Underway s p erased block pages
     after-erase y =
-        let r = erase-filled s p block below c source pages meant mask-bytes t called in
+        let r = erase-filled s p block below c source pages meant mask-bytes high t called in
         record {
           adds = begun;
-          started-is = erase-started s p block below t called;
+          started-is = erase-started s p block below t called high;
           each = begun-each;
           since = record {
-            over = all-over s p block below c source pages meant mask-bytes erased 0 (r .done y) (r .ahead y);
+            over = all-over s p block below c source pages meant mask-bytes high erased 0 (r .done y) (r .ahead y);
             sent = λ i h. inr (r .ahead y i (omega arith) h);
           };
           steady = begun-steady;
@@ -282,9 +286,9 @@ module _ (s : Setting) (p : Progress) (block : ℕ) (below : block < s .geometry
     erase-unpassed f =
         record {
           adds = begun;
-          started-is = erase-started s p block below t called;
+          started-is = erase-started s p block below t called high;
           each = begun-each;
-          here = inl (record { unpassed = f; block-was = erase-leaves s p block below t called .partly f; no-program = no-program });
+          here = inl (record { unpassed = f; block-was = erase-leaves s p block below t called high .partly f; no-program = no-program });
           steady = begun-steady;
           failures = begun-failed;
         }
@@ -298,7 +302,7 @@ module _ (s : Setting) (p : Progress) (block : ℕ) (below : block < s .geometry
     touches =
         cases (isPassed (erased .outcome))
         (λ y.
-        let x = pages-touch erased (erase-filled s p block below c source pages meant mask-bytes t called) (after-erase y) (s .geometry .pages) (omega arith) in
+        let x = pages-touch erased (erase-filled s p block below c source pages meant mask-bytes high t called) (after-erase y) (s .geometry .pages) (omega arith) in
         record { adds = x .adds; started-is = x .started-is; each = x .each; here = inr (x .since); steady = x .steady; failures = x .failures })
         (λ f. subst (λ (z : Progress). Touched s p z block pages) (sym (still f)) (erase-unpassed f))
       where
@@ -307,5 +311,5 @@ module _ (s : Setting) (p : Progress) (block : ℕ) (below : block < s .geometry
 
 -- the operations of a whole fill, from p
 pub fill-touches : (s : Setting) (p : Progress) (block : ℕ) → block < s .geometry .blocks → (c : Copy) (source : ℕ → Source) (pages : ℕ → List ℕ)
-    → Meant s (p .line .chip .array) block c source pages → Bytes (s .mask) → isPassed (p .outcome) ≡ true → Called s (p .line) → Touched s p (filled s block c source p) block pages
-fill-touches s p block below c source pages meant mask-bytes t called = touches s p block below c source pages meant mask-bytes called t
+    → Meant s (p .line .chip .array) block c source pages → Bytes (s .mask) → lineOf p ≡ 0 → isPassed (p .outcome) ≡ true → Called s (p .line) → Touched s p (filled s block c source p) block pages
+fill-touches s p block below c source pages meant mask-bytes high t called = touches s p block below c source pages meant mask-bytes high called t

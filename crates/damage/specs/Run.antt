@@ -12,13 +12,13 @@ use Rattle.cells.specs.Bytes.{Bytes}
 use Rattle.cells.specs.Cells.{programmed, weakened, raised}
 use Rattle.chip_interface.specs.Interface.{busyOf, failedOf}
 use Rattle.chip_array.specs.Device.{Setting}
-use Rattle.bus_polling.specs.Outcomes.{isPassed, answered, isFailed, isIllegal, isCut, isSilent, isReadEnd}
+use Rattle.bus_polling.specs.Outcomes.{isPassed, answered, isFailed, isIllegal, isCut, isSilent, isProtected, isReadEnd}
 use Rattle.operations.specs.Ends.{Called}
 use Rattle.operations.specs.Trace.{ArrayOperation}
 use Rattle.pages.specs.Layout.{numberWidth}
 use Rattle.pages.specs.Over.{Over}
 use Rattle.copies.specs.Blocks.{blockIn, pageIn, mainIn}
-use Rattle.progress.specs.Progress.{Progress}
+use Rattle.progress.specs.Progress.{Progress, lineOf}
 use Rattle.fill.specs.Fill.{Copy, Source, given, kept, copyPage}
 
 -- some fate word has 256 or more busy reads
@@ -48,11 +48,12 @@ abbrev pub FailedMore : Progress → Progress → ℕ → Type 0
 FailedMore p q block =
     (b : ℕ) → failedIn b (q .started) ≡ cond (failedIn b (p .started)) true (cond (eqb block b) (isFailed (q .outcome)) false)
 
--- no cycle was answered illegal, one that was cut used up the allowance, a fate word made it silent or fail, and after an
+-- no cycle was answered illegal, none was answered protected, one that was cut used up the allowance, a fate word made it silent or fail, and after an
 -- operation that was answered the chip takes the next one
 pub record Sound (s : Setting) (p : Progress) : Type 0 where
   pub legal : p .line .chip .interface .illegal ≡ 0
   pub known : isIllegal (p .outcome) ≡ false
+  pub unprotected : isProtected (p .outcome) ≡ false
   pub used-up : isCut (p .outcome) ≡ true → p .line .left ≡ 0
   pub silent-by : isSilent (p .outcome) ≡ true → Slow (s .fates)
   pub failed-by : isFailed (p .outcome) ≡ true → Failing (s .fates)
@@ -157,7 +158,7 @@ Damaged s p q block pages =
     (blockOn s q block ≡ blockOn s p block)
     ⊎ ((blockOn s q block ≡ raised (blockOn s p block) (s .mask)) ⊎ ((i : ℕ) → i < s .geometry .pages → Over (pages i) (pageOn s q block i)))
 
--- a fill on its way from p: the erase and the first n pages led to q, by no more than k cycles
+-- a fill on its way from p: the erase and the first n pages led to q, by no more than k cycles, the write-protect line as it was
 pub record Filled (s : Setting) (p q : Progress) (block : ℕ) (pages : ℕ → List ℕ) (n k : ℕ) : Type 0 where
   pub sound : Sound s q
   pub others : OthersSame s p q block
@@ -166,4 +167,5 @@ pub record Filled (s : Setting) (p q : Progress) (block : ℕ) (pages : ℕ → 
   pub in-order : isPassed (q .outcome) ≡ true → getD (q .line .chip .history) block 0 ≤ n
   pub damaged : isPassed (q .outcome) ≡ false → Damaged s p q block pages
   pub spent : Spent p q k
+  pub same-line : lineOf q ≡ lineOf p
   pub failures : FailedMore p q block

@@ -50,6 +50,9 @@ fn print_outcome(outcome: Outcome) {
         Outcome::Illegal => {
             io::write_all(STDOUT_FILENO, b" illegal, cycles left ");
         }
+        Outcome::Protected => {
+            io::write_all(STDOUT_FILENO, b" protected, cycles left ");
+        }
     }
 }
 

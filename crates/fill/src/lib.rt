@@ -12,7 +12,7 @@ ghost use Rattle.geometry.specs.Sizes.{pageSize, rowOf};
 ghost use Rattle.chip_array.specs.Device.{setting};
 ghost use Rattle.bus.specs.Line.{line, sendAll};
 ghost use Rattle.bus_polling.specs.Outcomes.{isPassed};
-ghost use Rattle.bus_polling.specs.Polling.{outcomeOf};
+ghost use Rattle.bus_polling.specs.Polling.{answerOf};
 ghost use Rattle.bus_sequences.specs.Cycles.{programCycles};
 ghost use Rattle.operations.specs.Ends.{Called};
 ghost use Rattle.progress.specs.Steps.{ComesTo};
@@ -56,7 +56,7 @@ pub fn program_page(
 ) -> Done
     requires { ⌜ Fillable g block place (content .kind) (content .logical) (content .number) (length (now page)) ⌝ }
     ensures { λ r. ⌜ line (r .bus) (now (array .exit)) (now (register .exit)) (now (history .exit)) ≡ sendAll (setting g (now (mask .entry)) (now (fates .entry))) (line from (now (array .entry)) (now (register .entry)) (now (history .entry))) (programCycles (setting g (now (mask .entry)) (now (fates .entry))) (line from (now (array .entry)) (now (register .entry)) (now (history .entry))) (rowOf g block place) (copyPage g (copy (content .kind) (content .logical) (content .number)) place (take (g .main) (now (page .entry))))) ⌝ }
-    ensures { λ r. ⌜ r .outcome ≡ outcomeOf (line (r .bus) (now (array .exit)) (now (register .exit)) (now (history .exit))) ⌝ }
+    ensures { λ r. ⌜ r .outcome ≡ answerOf (line (r .bus) (now (array .exit)) (now (register .exit)) (now (history .exit))) ⌝ }
 {
     pages::finish_page(
         page,

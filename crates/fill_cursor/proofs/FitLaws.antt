@@ -1,6 +1,6 @@
 -- A cursor that goes on still fits the chip, and fewer actions are left. Assumes nothing.
 use Prim.Native.Nat.{ℕ, suc, _-_, _≤_, _<_}
-use mathlib.Core.Bool.{true}
+use mathlib.Core.Bool.{true, false}
 use mathlib.Core.List.{List}
 use mathlib.Core.Path.{_≡_, refl, subst}
 use native.Mathlib.Omega.{arith}
@@ -8,10 +8,10 @@ use borrow.Table.Steps.{cases}
 use borrow.Author.Tests.{eqb-true, eqb-false, ltb-true, lt-ltb, leb-false}
 use lib.Dec.{eqb, ltb}
 use Rattle.geometry.specs.declared.Geometry.{Geometry}
-use Rattle.bus_polling.specs.Outcomes.{isPassed, isFailed, answered}
+use Rattle.bus_polling.specs.Outcomes.{isPassed, isFailed, answered, isProtected}
 use Rattle.bus_polling.specs.declared.Outcome.{Outcome}
-use Rattle.bus_polling.specs.declared.Outcome.the-variants.{Passed, Failed, Silent, Cut, Illegal}
-use Rattle.bus_polling.proofs.OutcomeLaws.{passed-answered, failed-answered}
+use Rattle.bus_polling.specs.declared.Outcome.the-variants.{Passed, Failed, Silent, Cut, Illegal, Protected}
+use Rattle.bus_polling.proofs.OutcomeLaws.{passed-answered, failed-answered, passed-unprotected, failed-unprotected}
 use Rattle.state_choose.specs.Choose.{chosen, permitted}
 use Rattle.state_choose.specs.declared.Choice.{Choice}
 use Rattle.state_choose.specs.declared.Choice.the-variants.{Block, Worn}
@@ -59,6 +59,7 @@ module _ (pages : ℕ) (c : Cursor) (st : State) (P : Running → Type 0) (ends 
   by-after Silent page table again = ends _ _
   by-after Cut page table again = ends _ _
   by-after Illegal page table again = ends _ _
+  by-after Protected page table again = ends _ _
 
 -- what is known of a request that goes on
 pub record Goes (g : Geometry) (long : ℕ) (r : Running) : Type 0 where
@@ -83,7 +84,7 @@ module _ (g : Geometry) (long : ℕ) (c : Cursor) (st : State) (pages : 0 < g .p
     abbrev To : Running → Type 0
     To r =
         r .cursor .phase < 2
-        → Goes g long r × (answered o ≡ true) × (r .cursor .step ≡ 2 → (isPassed o ≡ true) × (r .cursor .block ≡ c .block) × (r .cursor .page ≡ pageAfter c))
+        → Goes g long r × (answered o ≡ true) × (r .cursor .step ≡ 2 → (isPassed o ≡ true) × (r .cursor .block ≡ c .block) × (r .cursor .page ≡ pageAfter c)) × (isProtected o ≡ false)
 
     -- after an erase or a page was answered
     pub after-goes : To (afterDue (g .pages) (running c st) o)
@@ -96,6 +97,7 @@ module _ (g : Geometry) (long : ℕ) (c : Cursor) (st : State) (pages : 0 < g .p
           },
           passed-answered o t,
           λ z. (t, refl, refl),
+          passed-unprotected o t,
         ))
         (λ t e h. (
           record {
@@ -104,6 +106,7 @@ module _ (g : Geometry) (long : ℕ) (c : Cursor) (st : State) (pages : 0 < g .p
           },
           passed-answered o t,
           λ z. absurd (omega (arith, z)),
+          passed-unprotected o t,
         ))
         (λ t h. (
           record {
@@ -112,6 +115,7 @@ module _ (g : Geometry) (long : ℕ) (c : Cursor) (st : State) (pages : 0 < g .p
           },
           failed-answered o t,
           λ z. absurd (omega (arith, z)),
+          failed-unprotected o t,
         ))
 
 -- fewer actions are left

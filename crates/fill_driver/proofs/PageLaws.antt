@@ -8,11 +8,11 @@ use Rattle.geometry.specs.Sizes.{rowOf}
 use Rattle.chip_array.specs.Device.{Setting}
 use Rattle.bus.specs.Line.{Line, sendAll}
 use Rattle.bus_polling.specs.Outcomes.{isPassed}
-use Rattle.bus_polling.specs.Polling.{outcomeOf}
+use Rattle.bus_polling.specs.Polling.{answerOf}
 use Rattle.bus_polling.specs.declared.Outcome.{Outcome}
 use Rattle.bus_polling.proofs.OutcomeLaws.{passed-answered}
 use Rattle.bus_sequences.specs.Cycles.{programCycles}
-use Rattle.operations.specs.Ends.{CanProgram}
+use Rattle.operations.specs.Ends.{MayProgram}
 use Rattle.progress.specs.Steps.{programOn, ComesTo}
 use Rattle.progress.proofs.ComesLaws.{comes-on, comes-no-further, program-comes, program-order}
 use Rattle.progress.proofs.StepLaws.{program-stopped}
@@ -36,13 +36,13 @@ module _ (s : Setting) (block : ℕ) (c : Copy) (n : ℕ) (source : Source) (l m
 
   -- its program leaves line m' and outcome o'
   module _ (t : isPassed o ≡ true) (page : List ℕ) (f : Fillable (s .geometry) block n (c .kind) (c .logical) (c .number) (length page)) (main-is : take (s .geometry .main) page ≡ mainOf (s .geometry) (l .chip .array) n source)
-      (in-order : getD (m .chip .history) block 0 ≤ n) (m' : Line) (o' : Outcome) (e : m' ≡ sendAll s m (programCycles s m (rowOf (s .geometry) block n) (copyPage (s .geometry) c n (take (s .geometry .main) page)))) (q : o' ≡ outcomeOf m') where
+      (in-order : getD (m .chip .history) block 0 ≤ n) (m' : Line) (o' : Outcome) (e : m' ≡ sendAll s m (programCycles s m (rowOf (s .geometry) block n) (copyPage (s .geometry) c n (take (s .geometry .main) page)))) (q : o' ≡ answerOf m') where
     bytes : List ℕ
     bytes = copyPage (s .geometry) c n (mainOf (s .geometry) (l .chip .array) n source)
 
-    can-program : CanProgram s m block n bytes
+    may-program : MayProgram s m block n bytes
     unfolding bytes
-    can-program =
+    may-program =
         record {
           called = r .next-called (passed-answered o t);
           block-below = f .block-below;
@@ -57,7 +57,7 @@ module _ (s : Setting) (block : ℕ) (c : Copy) (n : ℕ) (source : Source) (l m
 
     pub page-programmed : ComesTo s (pageFilled s block c n source) l m' o'
     unfolding bytes
-    page-programmed = page-fills t m' o' (program-comes s m block n bytes can-program m' o' sent-is q)
+    page-programmed = page-fills t m' o' (program-comes s m block n bytes may-program m' o' sent-is q)
 
     pub page-order : isPassed o' ≡ true → getD (m' .chip .history) block 0 ≤ n + 1
-    page-order u = program-order s m block n bytes can-program m' o' sent-is q u
+    page-order u = program-order s m block n bytes may-program m' o' sent-is q u

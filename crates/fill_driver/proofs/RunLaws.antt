@@ -1,6 +1,6 @@
 -- A request on its way, action after action. Assumes nothing.
 use Prim.Native.Nat.{ℕ, zero, suc, _-_, _*_, _≤_, _<_}
-use mathlib.Core.Bool.{true, false, false≢true}
+use mathlib.Core.Bool.{true, false, true≢false, false≢true}
 use mathlib.Core.List.{List}
 use mathlib.Core.Path.{_≡_, refl, sym, ap, ap₂, subst, _∙_}
 use native.Mathlib.Omega.{arith}
@@ -12,9 +12,9 @@ use Rattle.geometry.specs.Limits.{Valid}
 use Rattle.chip_array.specs.Device.{Setting}
 use Rattle.chip.specs.Chip.{Cycle}
 use Rattle.bus.specs.Line.{Line}
-use Rattle.bus_polling.specs.Outcomes.{isPassed, isFailed, answered}
+use Rattle.bus_polling.specs.Outcomes.{isPassed, isFailed, answered, isProtected}
 use Rattle.bus_polling.specs.declared.Outcome.{Outcome}
-use Rattle.bus_polling.specs.declared.Outcome.the-variants.{Passed, Failed, Silent, Cut, Illegal}
+use Rattle.bus_polling.specs.declared.Outcome.the-variants.{Passed, Failed, Silent, Cut, Illegal, Protected}
 use Rattle.operations.specs.Ends.{Lent}
 use Rattle.operations.specs.Trace.{ArrayOperation}
 use Rattle.operations.proofs.UnreadyLaws.{called-lent}
@@ -27,13 +27,14 @@ use Rattle.fill_cursor.specs.declared.Running.{Running}
 use Rattle.fill_cursor.proofs.FitLaws.{prepared-goes, after-goes, prepared-less, after-less}
 use Rattle.fill_driver.specs.Driver.{performed, Due, Ran, ranTo, gone, goneOn, acted, ran, runFor, RanAs}
 
-pub gone-on : (o : Outcome) → answered o ≡ true → gone o ≡ Passed
-unfolding gone answered isFailed
-gone-on Passed t = refl
-gone-on Failed t = refl
-gone-on Silent t = absurd (false≢true t)
-gone-on Cut t = absurd (false≢true t)
-gone-on Illegal t = absurd (false≢true t)
+pub gone-on : (o : Outcome) → answered o ≡ true → isProtected o ≡ false → gone o ≡ Passed
+unfolding gone answered isFailed isProtected
+gone-on Passed t u = refl
+gone-on Failed t u = refl
+gone-on Silent t u = absurd (false≢true t)
+gone-on Cut t u = absurd (false≢true t)
+gone-on Illegal t u = absurd (false≢true t)
+gone-on Protected t u = absurd (true≢false u)
 
 -- something is due
 pub open-left : (c : Cursor) (left : ℕ) → isOpen c left ≡ true → left ≡ 0 → ⊥
@@ -216,7 +217,7 @@ module _ (s : Setting) (bytes : List ℕ) (most : ℕ) (start : Running) (l : Li
                 let called = q .next-called (x .1) in
                 record {
                   lent = called-lent called;
-                  passed = gone-on o (x .1);
+                  passed = gone-on o (x .1) (x .3);
                   due = record {
                     fits = x .0 .fits;
                     ready = λ e. called .ready;

@@ -12,7 +12,7 @@ use Rattle.geometry.specs.Limits.{Valid}
 use Rattle.chip_array.specs.Device.{Setting}
 use Rattle.bus_polling.specs.Outcomes.{isPassed, isFailed}
 use Rattle.bus_polling.specs.declared.Outcome.{Outcome}
-use Rattle.bus_polling.specs.declared.Outcome.the-variants.{Passed, Failed, Silent, Cut, Illegal}
+use Rattle.bus_polling.specs.declared.Outcome.the-variants.{Passed, Failed, Silent, Cut, Illegal, Protected}
 use Rattle.bus_polling.proofs.OutcomeLaws.{is-passed}
 use Rattle.state.specs.declared.State.{State}
 use Rattle.progress.specs.Progress.{Progress, progress}
@@ -53,6 +53,7 @@ module _ (pages : ℕ) (c : Cursor) (st : State) where
   erase-decides Silent f = refl
   erase-decides Cut f = refl
   erase-decides Illegal f = refl
+  erase-decides Protected f = refl
 
   pub page-decides : (m : ℕ) (o : Outcome) → (isPassed o ≡ true → pages ≤ m + 1) → afterDue pages (running (onPage m c) st) o ≡ afterFill c st o
   unfolding afterFill afterAction unfilled settled withdrawn isPassed isFailed pageAfter
@@ -63,6 +64,7 @@ module _ (pages : ℕ) (c : Cursor) (st : State) where
   page-decides m Silent h = refl
   page-decides m Cut h = refl
   page-decides m Illegal h = refl
+  page-decides m Protected h = refl
 
   -- the erase passed, and a page that is not the last
   pub erase-goes : 0 < pages → c .step ≡ 1 → afterDue pages (running c st) Passed ≡ running (onPage 0 c) st

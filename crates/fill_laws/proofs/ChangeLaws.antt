@@ -14,7 +14,7 @@ use Rattle.geometry.specs.Limits.{Valid}
 use Rattle.chip_array.specs.Device.{Setting}
 use Rattle.bus_polling.specs.Outcomes.{isPassed, isFailed, isSilent, isCut}
 use Rattle.bus_polling.specs.declared.Outcome.{Outcome}
-use Rattle.bus_polling.specs.declared.Outcome.the-variants.{Passed, Failed, Silent, Cut, Illegal}
+use Rattle.bus_polling.specs.declared.Outcome.the-variants.{Passed, Failed, Silent, Cut, Illegal, Protected}
 use Rattle.state_choose.specs.Choose.{chosen, countPermitted}
 use Rattle.state_choose.proofs.ChooseLaws.{by-choice, count-less}
 use Rattle.write_changes.proofs.LoopLaws.{chosen-permitted, copies-end}
@@ -74,6 +74,7 @@ module _ (s : Setting) (v : Valid (s .geometry)) (u : Update) where
     try-ends f q Silent e = rw (as-gone q Silent e refl) (reach-less s (u .bytes) (omega arith) (omega arith) (reach-still s (u .bytes) (stopped 10) q))
     try-ends f q Cut e = rw (as-gone q Cut e refl) (reach-less s (u .bytes) (omega arith) (omega arith) (reach-still s (u .bytes) (stopped 11) q))
     try-ends f q Illegal e = rw (as-gone q Illegal e refl) (reach-less s (u .bytes) (omega arith) (omega arith) (reach-still s (u .bytes) (stopped 255) q))
+    try-ends f q Protected e = rw (as-gone q Protected e refl) (reach-less s (u .bytes) (omega arith) (omega arith) (reach-still s (u .bytes) (stopped 255) q))
 
     try-block : (f : Bool) (p : Progress) → Reaches s (u .bytes) (66 * suc k) (64 * suc k) (onBlock (failing u f) st (Block b)) p (afterCopies u (copyTried s u st f p more (Block b))) (copyTried s u st f p more (Block b) .progress)
     unfolding onBlock copyTried afterTry copyOf sourceOf settled isPassed

@@ -14,7 +14,7 @@ use Rattle.geometry.specs.Limits.{Valid}
 use Rattle.chip_array.specs.Device.{Setting}
 use Rattle.bus_polling.specs.Outcomes.{isPassed, isFailed, isSilent, isCut}
 use Rattle.bus_polling.specs.declared.Outcome.{Outcome}
-use Rattle.bus_polling.specs.declared.Outcome.the-variants.{Passed, Failed, Silent, Cut, Illegal}
+use Rattle.bus_polling.specs.declared.Outcome.the-variants.{Passed, Failed, Silent, Cut, Illegal, Protected}
 use Rattle.state_choose.specs.Choose.{chosen, permitted, countPermitted}
 use Rattle.state_choose.proofs.ChooseLaws.{by-choice, count-less}
 use Rattle.write_changes.proofs.LoopLaws.{chosen-permitted}
@@ -90,6 +90,7 @@ module _ (s : Setting) (v : Valid (s .geometry)) (bytes : List ℕ) where
     try-ends q Silent e = rw (as-gone q Silent e refl) (reach-less s bytes (omega arith) (omega arith) (reach-still s bytes (stopped 10) q))
     try-ends q Cut e = rw (as-gone q Cut e refl) (reach-less s bytes (omega arith) (omega arith) (reach-still s bytes (stopped 11) q))
     try-ends q Illegal e = rw (as-gone q Illegal e refl) (reach-less s bytes (omega arith) (omega arith) (reach-still s bytes (stopped 255) q))
+    try-ends q Protected e = rw (as-gone q Protected e refl) (reach-less s bytes (omega arith) (omega arith) (reach-still s bytes (stopped 255) q))
 
     try-block : (p : Progress) → Reaches s bytes (66 * suc k) (64 * suc k) (onBlock c st (Block b)) p (endOf (after more (tryBlock s st p (Block b)))) (after more (tryBlock s st p (Block b)) .progress)
     unfolding onBlock tryBlock copyOf sourceOf

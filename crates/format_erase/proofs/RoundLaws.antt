@@ -17,11 +17,11 @@ use Rattle.chip.specs.Chip.{Cycle}
 use Rattle.bus.specs.Line.{Line, line, sendAll}
 use Rattle.bus.specs.declared.Bus.{Bus}
 use Rattle.bus_polling.specs.Outcomes.{isPassed, isFailed, answered}
-use Rattle.bus_polling.specs.Polling.{outcomeOf}
+use Rattle.bus_polling.specs.Polling.{answerOf}
 use Rattle.bus_polling.specs.declared.Outcome.{Outcome}
 use Rattle.bus_polling.specs.declared.Outcome.the-variants.{Passed, Failed}
 use Rattle.bus_sequences.specs.Cycles.{eraseCycles}
-use Rattle.operations.specs.Ends.{Called, CanErase}
+use Rattle.operations.specs.Ends.{Called, MayErase}
 use Rattle.operations.specs.Trace.{ArrayOperation}
 use Rattle.copies.specs.Blocks.{blockIn, anyTo, greatestTo}
 use Rattle.scan_summary.specs.declared.Summary.{Summary}
@@ -99,19 +99,19 @@ block-marked s marked from array register history block t called e =
     })
 
 -- a block whose erase leaves line m and outcome o
-module _ (s : Setting) (marked : List ℕ) (l : Line) (block : ℕ) (clear : bitAt marked block ≡ false) (can : CanErase s l block) (m : Line) (o : Outcome) (row : ℕ) (row-is : row ≡ rowOf (s .geometry) block 0) (reached : m ≡ sendAll s l (eraseCycles s l row)) (q : o ≡ outcomeOf m) where
+module _ (s : Setting) (marked : List ℕ) (l : Line) (block : ℕ) (clear : bitAt marked block ≡ false) (may : MayErase s l block) (m : Line) (o : Outcome) (row : ℕ) (row-is : row ≡ rowOf (s .geometry) block 0) (reached : m ≡ sendAll s l (eraseCycles s l row)) (q : o ≡ answerOf m) where
   e : m ≡ sendAll s l (eraseCycles s l (rowOf (s .geometry) block 0))
   e = reached ∙ ap (λ (x : ℕ). sendAll s l (eraseCycles s l x)) row-is
 
   pub answered-called : answered o ≡ true → Called s m
-  answered-called t = erase-called s l block can m o e q t
+  answered-called t = erase-called s l block may m o e q t
 
   erased-is : (cs : List Cycle) (os : List ArrayOperation) → progress m o (eraseOn s block (progress l Passed cs os) .cycles) (eraseOn s block (progress l Passed cs os) .started) ≡ eraseOn s block (progress l Passed cs os)
   unfolding isPassed
   erased-is cs os =
       let p = progress l Passed cs os in
       let line-on : m ≡ eraseOn s block p .line = e ∙ sym (erase-on-line s block p l refl refl) in
-      let outcome-on : o ≡ eraseOn s block p .outcome = q ∙ ap outcomeOf e ∙ sym (erase-on-outcome s block p l refl refl) in
+      let outcome-on : o ≡ eraseOn s block p .outcome = q ∙ ap answerOf e ∙ sym (erase-on-outcome s block p l refl refl) in
       λ i. progress (line-on i) (outcome-on i) (eraseOn s block p .cycles) (eraseOn s block p .started)
 
   pub block-done : {m' : Line} {o' : Outcome} {failed : ℕ} {numbers : Numbers} → AfterDone s m m' o o' block failed numbers → BlockDone s marked l m' o' block failed numbers

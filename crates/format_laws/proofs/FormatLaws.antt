@@ -33,7 +33,10 @@ use Rattle.scan_found.specs.Contents.{mapOf}
 use Rattle.scan_found.specs.Found.{bitsAt, marksTo}
 use Rattle.request.specs.Call.{sizedFor, callLine, stopAnswer}
 use Rattle.request.proofs.CallLaws.{sizes, stop-answer, stop-cut, stop-silent}
-use Rattle.progress.specs.Progress.{Progress, progress, readOn, resetOn}
+use Rattle.progress.specs.Progress.{Progress, progress, lineOf, readOn, resetOn}
+use Rattle.progress.proofs.WordLaws.{line-kept}
+use Rattle.format_marks.proofs.KeepLaws.{marks-keep}
+use Rattle.format_erase.proofs.KeepLaws.{round-keeps}
 use Rattle.fill.specs.Fill.{tableCopy, tableMain, copyPage}
 use Rattle.mount.specs.Mount.{mountedState, blockOf}
 use Rattle.mount.proofs.MountLaws.{mark-bit}
@@ -161,7 +164,7 @@ pub record Whole (s : Setting) (p : Progress) (t : Tabled) : Type 0 where
   pub failures : t .answer ≡ 0 → (b : ℕ) → b < s .geometry .blocks → failedIn b (t .progress .started) ≡ bitAt (t .state .invalid) b
   pub spent : Spent p (t .progress) (s .geometry .blocks * blockMost (s .geometry) + s .geometry .blocks * tableFillMost (s .geometry))
 
-module _ (s : Setting) (v : Valid (s .geometry)) (mask-bytes : Bytes (s .mask)) (p : Progress) (sound : Sound s p) (ends : isReadEnd (p .outcome) ≡ true) (none : (b : ℕ) → failedIn b (p .started) ≡ false) where
+module _ (s : Setting) (v : Valid (s .geometry)) (mask-bytes : Bytes (s .mask)) (p : Progress) (sound : Sound s p) (ends : isReadEnd (p .outcome) ≡ true) (none : (b : ℕ) → failedIn b (p .started) ≡ false) (high : lineOf p ≡ 0) where
   abbrev g : Geometry
   g = s .geometry
 
@@ -175,7 +178,7 @@ module _ (s : Setting) (v : Valid (s .geometry)) (mask-bytes : Bytes (s .mask)) 
   r = erasedTo s marked (g .blocks) p
 
   rounded : Rounded s marked p (g .blocks) r
-  rounded = round-leaves s v mask-bytes marked p mark-is sound ends none (g .blocks) (omega arith)
+  rounded = round-leaves s v mask-bytes marked p mark-is sound ends none high (g .blocks) (omega arith)
 
   -- the blocks left after the first round
   abbrev unfailed-round : ℕ
@@ -233,6 +236,7 @@ module _ (s : Setting) (v : Valid (s .geometry)) (mask-bytes : Bytes (s .mask)) 
         record {
           passed = y;
           sound = rounded .sound;
+          high = round-keeps s (λ x. lineOf x ≡ 0) (line-kept s 0) marked (g .blocks) p high;
           last-below = omega (arith, v .blocks-least);
           number-some = omega arith;
           invalid-bits = rounded .invalid-bits;
@@ -399,7 +403,7 @@ module _ (s : Setting) (v : Valid (s .geometry)) (mask-bytes : Bytes (s .mask)) 
       (λ z. omega (arith, z, least)) (λ y. absurd (false≢true (sym f ∙ y))) (λ z. rounded .sound .silent-by (stop-silent (r .progress .outcome) z)) (λ z. rounded .sound .used-up (stop-cut (r .progress .outcome) z))))
 
 -- the request from its reset on
-module _ (s : Setting) (d : Device) (n : ℕ) (t : sizedFor s d ≡ true) (mask-bytes : Bytes (s .mask)) where
+module _ (s : Setting) (d : Device) (n : ℕ) (t : sizedFor s d ≡ true) (mask-bytes : Bytes (s .mask)) (high : callLine d n .chip .interface .protected ≡ 0) where
   abbrev begun : Progress
   begun = resetOn s (progress (callLine d n) Passed [] [])
 
@@ -411,6 +415,11 @@ module _ (s : Setting) (d : Device) (n : ℕ) (t : sizedFor s d ≡ true) (mask-
 
   same : Unchanged s (d .array) (d .history) q
   same = marks-unchanged s (d .array) (d .history) fitted (s .geometry .blocks) (omega arith) begun (reset-unchanged s d n t)
+
+  line-high : lineOf q ≡ 0
+  line-high =
+      marks-keep s (λ x. lineOf x ≡ 0) (line-kept s 0) (s .geometry .blocks) begun
+      (line-kept s 0 .reset (progress (callLine d n) Passed [] []) high)
 
   calm : (b : ℕ) → failedIn b (q .started) ≡ false
   unfolding resetOn isPassed failedIn
@@ -490,5 +499,5 @@ module _ (s : Setting) (d : Device) (n : ℕ) (t : sizedFor s d ≡ true) (mask-
   unfolding marksRun
   format-leaves =
       cases (isPassed (q .outcome))
-      (λ y. subst (FormatLeft s d n) {x = rest} (rw y) (whole-run rest (round-whole s fitted mask-bytes q (same .sound) (same .ends) calm)))
+      (λ y. subst (FormatLeft s d n) {x = rest} (rw y) (whole-run rest (round-whole s fitted mask-bytes q (same .sound) (same .ends) calm line-high)))
       (λ f. subst (FormatLeft s d n) {x = stopped q} (rw f) (stop-run f))

@@ -21,7 +21,7 @@ use Rattle.state.specs.State.{mounted}
 use Rattle.state.specs.declared.State.{State}
 use Rattle.scan_found.specs.Found.{marksTo}
 use Rattle.request.specs.Call.{sizedFor, callLine, resultOf}
-use Rattle.request.proofs.CallLaws.{sizes, called-sized}
+use Rattle.request.proofs.CallLaws.{sizes, called-sized, call-high}
 use Rattle.progress.specs.Progress.{Progress, progress, resetOn}
 use Rattle.progress.specs.Kept.{Kept}
 use Rattle.progress.proofs.CountLaws.{allowance-kept}
@@ -68,7 +68,7 @@ module _ (s : Setting) (d : Device) (n : ℕ) (mask-bytes : Bytes (s .mask)) (t 
   counted = format-keeps s _ (allowance-kept s n) d n (omega arith)
 
   abbrev left : FormatLeft s d n (formatRun s d n)
-  left = format-leaves s d n t mask-bytes
+  left = format-leaves s d n t mask-bytes (call-high d n)
 
   acknowledged : formatRun s d n .answer ≡ 0 → Acknowledged s (endOfRun n (formatRun s d n))
   acknowledged z =

@@ -21,11 +21,13 @@ use Rattle.cells.proofs.CellLaws.{getD-raised, or-full}
 use Rattle.bitmaps.specs.Bitmap.{bitAt, withBit}
 use Rattle.bitmaps.proofs.BitLaws.{bit-set, bit-kept}
 use Rattle.chip_array.specs.Device.{Setting}
-use Rattle.bus_polling.specs.Outcomes.{isPassed, isFailed, isIllegal, isCut, isReadEnd, isSilent}
+use Rattle.bus_polling.specs.Outcomes.{isPassed, isFailed, isIllegal, isProtected, isCut, isReadEnd, isSilent}
 use Rattle.operations.specs.Ends.{Called}
 use Rattle.copies.specs.Blocks.{blockIn, markByte, isMarked, greatestTo}
 use Rattle.copies.proofs.PickLaws.{up-to}
-use Rattle.progress.specs.Progress.{Progress}
+use Rattle.progress.specs.Progress.{Progress, lineOf}
+use Rattle.progress.proofs.WordLaws.{line-kept}
+use Rattle.format_erase.proofs.KeepLaws.{round-keeps}
 use Rattle.scan_block.specs.Pages.{pagesRead}
 use Rattle.progress.specs.Steps.{eraseOn, resumed}
 use Rattle.bus_polling.proofs.OutcomeLaws.{passed-answered, failed-answered, read-end-unfailed, failed-unpassed, unfailed-end}
@@ -113,7 +115,7 @@ module _ (s : Setting) (v : Valid (s .geometry)) (mask-bytes : Bytes (s .mask)) 
     unfolding next-round blockErased failedAt joined numbersAt
     marked-is t m = rw (t, m)
 
-    module _ (below : n < s .geometry .blocks) where
+    module _ (below : n < s .geometry .blocks) (high : lineOf (r .progress) ≡ 0) where
       unlisted : {A : Type 0} → bitAt (r .invalid) n ≡ true → A
       unlisted t = absurd (false≢true (sym (x .later n below (omega arith)) ∙ t))
 
@@ -154,7 +156,7 @@ module _ (s : Setting) (v : Valid (s .geometry)) (mask-bytes : Bytes (s .mask)) 
         called = x .sound .called (passed-answered (q .outcome) t)
 
         left : Erased s q e n
-        left = erase-leaves s q n below t called
+        left = erase-leaves s q n below t called high
 
         off-marked : (b : ℕ) → bitAt marked b ≡ true → b ≡ n → ⊥
         off-marked b m same = false≢true (sym free ∙ ap (bitAt marked) (sym same) ∙ m)
@@ -178,7 +180,7 @@ module _ (s : Setting) (v : Valid (s .geometry)) (mask-bytes : Bytes (s .mask)) 
           unfailed =
               record {
                 sound = left .sound;
-                ends = unfailed-end (e .outcome) (left .sound .known) f;
+                ends = unfailed-end (e .outcome) (left .sound .known) f (left .sound .unprotected);
                 marked-kept = others-marked;
                 ahead = others-ahead;
                 invalid-bits = x .invalid-bits;
@@ -219,10 +221,10 @@ module _ (s : Setting) (v : Valid (s .geometry)) (mask-bytes : Bytes (s .mask)) 
           failed-is = rw (t, free, w)
 
           goes-on : Unchanged s (e .line .chip .array) (e .line .chip .history) (resumed e)
-          unfolding isIllegal isReadEnd isCut isSilent isFailed
+          unfolding isIllegal isProtected isReadEnd isCut isSilent isFailed
           goes-on =
               record {
-                sound = record { legal = left .sound .legal; known = refl; used-up = λ c. absurd (false≢true c); silent-by = λ c. absurd (false≢true c); failed-by = λ c. absurd (false≢true c); called = λ a. left .sound .called (failed-answered (e .outcome) w) };
+                sound = record { legal = left .sound .legal; known = refl; unprotected = refl; used-up = λ c. absurd (false≢true c); silent-by = λ c. absurd (false≢true c); failed-by = λ c. absurd (false≢true c); called = λ a. left .sound .called (failed-answered (e .outcome) w) };
                 ends = refl;
                 same-array = refl;
                 same-history = refl;
@@ -308,9 +310,9 @@ module _ (s : Setting) (v : Valid (s .geometry)) (mask-bytes : Bytes (s .mask)) 
           (λ f. subst (Rounded s marked p (suc n)) (unfailed-is t free f) (unfailed t free f))))
           (λ f. subst (Rounded s marked p (suc n)) (stopped-is f) (passed-over (inr f)))
 
-  pub round-leaves : Sound s p → isReadEnd (p .outcome) ≡ true → ((b : ℕ) → failedIn b (p .started) ≡ false) → (n : ℕ) → n ≤ s .geometry .blocks → Rounded s marked p n (erasedTo s marked n p)
+  pub round-leaves : Sound s p → isReadEnd (p .outcome) ≡ true → ((b : ℕ) → failedIn b (p .started) ≡ false) → lineOf p ≡ 0 → (n : ℕ) → n ≤ s .geometry .blocks → Rounded s marked p n (erasedTo s marked n p)
   unfolding erasedTo
-  round-leaves sound ends none zero h =
+  round-leaves sound ends none high zero h =
       record {
         sound = sound;
         ends = ends;
@@ -328,5 +330,5 @@ module _ (s : Setting) (v : Valid (s .geometry)) (mask-bytes : Bytes (s .mask)) 
         none-greatest = λ z. refl;
         greatest-by = λ z. absurd (z refl);
       }
-  round-leaves sound ends none (suc n) h =
-      subst (Rounded s marked p (suc n)) (sym (one-round n)) (round-next n (erasedTo s marked n p) (round-leaves sound ends none n (omega (arith, h))) (omega (arith, h)))
+  round-leaves sound ends none high (suc n) h =
+      subst (Rounded s marked p (suc n)) (sym (one-round n)) (round-next n (erasedTo s marked n p) (round-leaves sound ends none high n (omega (arith, h))) (omega (arith, h)) (round-keeps s (λ q. lineOf q ≡ 0) (line-kept s 0) marked n p high))

@@ -19,7 +19,7 @@ use Rattle.cells.specs.Cells.{raised}
 use Rattle.bitmaps.specs.Bitmap.{bitAt, withBit}
 use Rattle.bitmaps.proofs.BitLaws.{bit-set, bit-kept}
 use Rattle.chip_array.specs.Device.{Setting}
-use Rattle.bus_polling.specs.Outcomes.{isPassed, isFailed, isIllegal, isCut, isSilent}
+use Rattle.bus_polling.specs.Outcomes.{isPassed, isFailed, isIllegal, isProtected, isCut, isSilent}
 use Rattle.operations.specs.Ends.{Called}
 use Rattle.pages.specs.Over.{Over}
 use Rattle.copies.specs.Blocks.{pageIn, isMarked, greatestTo}
@@ -31,7 +31,7 @@ use Rattle.state_choose.specs.declared.Choice.{Choice}
 use Rattle.state_choose.specs.declared.Choice.the-variants.{Block, Worn}
 use Rattle.state_choose.proofs.ChooseLaws as choose
 use Rattle.request.specs.Call.{answerFor, stateFor}
-use Rattle.progress.specs.Progress.{Progress}
+use Rattle.progress.specs.Progress.{Progress, lineOf}
 use Rattle.fill.specs.Fill.{tableCopy, tableSource, tableMain, tableFilled, copyPage}
 use Rattle.progress.specs.Steps.{resumed}
 use Rattle.request.proofs.CallLaws.{stop-answer, stop-least, answer-silent, answer-cut, answer-passed, answer-stopped}
@@ -56,6 +56,7 @@ use Rattle.format_laws.specs.Formatting.{FormatAnswer, is-done, is-worn,
 pub record Ready (s : Setting) (p : Progress) (st : State) : Type 0 where
   pub passed : isPassed (p .outcome) ≡ true
   pub sound : Sound s p
+  pub high : lineOf p ≡ 0
   pub last-below : st .last < s .geometry .blocks
   pub number-some : 0 < nextNumber st
   pub invalid-bits : Bitmap (s .geometry .blocks) (st .invalid)
@@ -137,7 +138,7 @@ module _ (s : Setting) (mask-bytes : Bytes (s .mask)) (st : State) (p : Progress
 
     left : Filled s p q b pages (s .geometry .pages) (tableFillMost (s .geometry))
     unfolding sourceMost
-    left = fill-given s p b below (tableCopy (nextNumber st)) (tableSource (s .geometry) (st .invalid)) pages meant mask-bytes given-all (r .passed) called
+    left = fill-given s p b below (tableCopy (nextNumber st)) (tableSource (s .geometry) (st .invalid)) pages meant mask-bytes (r .high) given-all (r .passed) called
       where
         given-all : (i : ℕ) → i < s .geometry .pages → sourceMost (s .geometry) (tableSource (s .geometry) (st .invalid) i) ≤ programMost (s .geometry)
         given-all i h = omega arith
@@ -248,11 +249,12 @@ module _ (s : Setting) (mask-bytes : Bytes (s .mask)) (st : State) (p : Progress
       off-next c f e = true≢false (sym (bit-set (st .invalid) b byte-there) ∙ ap (bitAt (withBit (st .invalid) b)) (sym e) ∙ f)
 
       ready-next : Ready s (resumed q) next
-      unfolding isPassed isIllegal isCut isSilent isFailed
+      unfolding isPassed isIllegal isProtected isCut isSilent isFailed
       ready-next =
           record {
             passed = refl;
-            sound = record { legal = left .sound .legal; known = refl; used-up = λ c. absurd (false≢true c); silent-by = λ c. absurd (false≢true c); failed-by = λ c. absurd (false≢true c); called = λ a. left .sound .called (failed-answered (q .outcome) w) };
+            sound = record { legal = left .sound .legal; known = refl; unprotected = refl; used-up = λ c. absurd (false≢true c); silent-by = λ c. absurd (false≢true c); failed-by = λ c. absurd (false≢true c); called = λ a. left .sound .called (failed-answered (q .outcome) w) };
+            high = left .same-line ∙ r .high;
             last-below = r .last-below;
             number-some = omega arith;
             invalid-bits = bits-more (s .geometry .blocks) (st .invalid) b (v .blocks-most) below (r .invalid-bits);
@@ -271,10 +273,10 @@ module _ (s : Setting) (mask-bytes : Bytes (s .mask)) (st : State) (p : Progress
           }
 
 -- an answer after a fill that did not fail
-end-answers : (o : Outcome) → isIllegal o ≡ false → isFailed o ≡ false → FormatAnswer (answerFor o)
-end-answers o k f =
+end-answers : (o : Outcome) → isIllegal o ≡ false → isProtected o ≡ false → isFailed o ≡ false → FormatAnswer (answerFor o)
+end-answers o k u f =
     cases (isPassed o) (λ t. rw t is-done)
-    (λ u. rw u (⊎-elim (λ e. rw e is-silent) (λ e. rw e is-cut) (stop-answer o (unfailed-end o k f) u)))
+    (λ y. rw y (⊎-elim (λ e. rw e is-silent) (λ e. rw e is-cut) (stop-answer o (unfailed-end o k f u) y)))
 
 -- 0, or 10 and more
 end-unlike : {P : Type 0} (o : Outcome) (a : ℕ) → 0 < a → a < 10 → answerFor o ≡ a → P
@@ -433,7 +435,7 @@ module _ (s : Setting) (mask-bytes : Bytes (s .mask)) (held : List ℕ) where
       ends-so f =
           record {
             sound = block-left .sound;
-            answers = end-answers (ended .outcome) (block-left .sound .known) f;
+            answers = end-answers (ended .outcome) (block-left .sound .known) (block-left .sound .unprotected) f;
             worn-by = λ z. end-unlike (ended .outcome) 8 (omega arith) (omega arith) z;
             unworn = λ x y. record { block = b; below = below; unmarked = free .0; unfailed = unfailed-none p ended b f (block-left .failures) b ∙ r .failures b below ∙ free .1 };
             spent-by = λ z. end-unlike (ended .outcome) 9 (omega arith) (omega arith) z;

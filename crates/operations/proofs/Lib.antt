@@ -10,3 +10,4 @@ pub mod ReadyLaws
 pub mod ResetLaws
 pub mod TraceLaws
 pub mod UnreadyLaws
+pub mod UnstartedLaws

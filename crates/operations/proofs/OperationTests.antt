@@ -11,11 +11,11 @@ use Rattle.chip_array.specs.Device.{Setting, device, setting, fitting, readStar
 use Rattle.chip.specs.Chip.{isConfirm, confirmed, confirmable, commanded, dataTaken, dataGiven, dataByte, finished, statusRead, exec}
 use Rattle.chip.specs.Chip.Cycle.{command, address, status}
 use Rattle.bus.specs.Line.{Line, mayGo, cutAfter, send, sendAll, sent, goesOn, byteOut, uncutLine}
-use Rattle.bus_polling.specs.Polling.{waiting, polls, outcomeOf}
-use Rattle.bus_polling.specs.Outcomes.{isPassed}
+use Rattle.bus_polling.specs.Polling.{waiting, polls, outcomeOf, answerOf}
+use Rattle.bus_polling.specs.Outcomes.{isPassed, guarded}
 use Rattle.bus_sequences.specs.Cycles.{readCycles, readOutputs, putOut, programCycles, eraseCycles}
 use Rattle.operations.specs.Trace.{eraseSends, programSends, readSends}
-use Rattle.bus_polling.specs.declared.Outcome.the-variants.{Passed, Silent, Cut, Illegal}
+use Rattle.bus_polling.specs.declared.Outcome.the-variants.{Passed, Silent, Cut, Illegal, Protected}
 
 abbrev small : Geometry
 small = record { main = 32; spare = 16; pages = 4; blocks = 4; logical = 2 }
@@ -75,3 +75,20 @@ programmed-twice = refl
 read-back : readOutputs (call []) once 0 46 2 ≡ 0 ∷ 0 ∷ []
 unfolding sendAll send mayGo cutAfter exec commanded isConfirm plainCommand readMode begun statusMode addressed latched addressFits confirmable fitting confirmed readStarted programStarted started fateWord nextFate dataTaken dataGiven dataByte programmed weakened put statusRead finished completed polls waiting outcomeOf isPassed readOutputs putOut byteOut goesOn
 read-back = refl
+
+-- with the write-protect line low an erase and a program are answered protected, and an erase sends seven cycles
+abbrev low : ℕ → Line
+low allowed =
+    uncutLine (device (record { phase = 0; count = 0; address = 0; first = 0; column = 0; operation = 0; busy = 0; failed = 0; loaded = 0; fate = 0; illegal = 0; protected = 1 }) (replicate 768 255) (replicate 48 255) (replicate 4 0)) allowed
+
+protected-erase : answerOf (sendAll (call []) (low 100) (eraseCycles (call []) (low 100) 0)) ≡ Protected
+unfolding sendAll send mayGo cutAfter exec commanded isConfirm plainCommand begun statusMode addressed latched addressFits confirmable fitting confirmed eraseStarted statusRead polls waiting outcomeOf guarded
+protected-erase = refl
+
+protected-erase-sends : eraseSends (call []) (low 100) 4 ≡ command 96 ∷ address 4 ∷ address 0 ∷ address 0 ∷ command 208 ∷ command 112 ∷ status ∷ []
+unfolding sent sendAll send mayGo exec commanded isConfirm plainCommand begun statusMode addressed latched addressFits confirmable fitting confirmed eraseStarted statusRead polls waiting
+protected-erase-sends = refl
+
+protected-program : answerOf (sendAll (call []) (low 100) (programCycles (call []) (low 100) 0 zeros)) ≡ Protected
+unfolding sendAll send mayGo cutAfter exec commanded isConfirm plainCommand begun statusMode addressed latched addressFits confirmable fitting confirmed programStarted dataTaken statusRead polls waiting outcomeOf guarded
+protected-program = refl

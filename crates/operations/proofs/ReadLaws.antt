@@ -247,7 +247,7 @@ module _ (s : Setting) (d : Device) (left row column n : ℕ) (p : CanRead s (un
 
   starts : readStarts s line row column ≡ cond (leb left 6) [] (record { kind = 1; block = row / s .geometry .pages; page = row % s .geometry .pages; bytes = []; before = d .array; answer = endsAs s line 1 6 } ∷ [])
   unfolding line
-  starts = effect-starts s d (readAddress row column) 48 1 confirmed loaded (d .array) (d .history) effect row [] left
+  starts = effect-starts s d (readAddress row column) 48 1 confirmed loaded (d .array) (d .history) effect row [] left refl
 
 -- how a read ends
 pub read-ends : (s : Setting) (l : Line) (row column n : ℕ) → CanRead s l row column n → endOfRead s l row column n ≡ readEnd s l n

@@ -90,8 +90,8 @@ module _ (s : Setting) (d : Device) (n : ℕ) (g : d .interface .illegal ≡ 0) 
   legal-asked : Legal s d (confirmCycles 255)
   legal-asked = legal-first s d (confirmCycles 255) (status ∷ []) legal
 
-  answers : resetStatus s (uncutLine d n) ≡ cond (ltb n 3) 0 224
-  unfolding resetStatus statusOut mayGo statusShown statusByte done
+  answers : resetStatus s (uncutLine d n) ≡ cond (ltb n 3) 0 (statusByte (d .interface .protected) 1 0)
+  unfolding resetStatus statusOut mayGo statusShown done
   answers =
       cases (ltb n 2)
       (λ t.
@@ -139,10 +139,10 @@ pub reset-legal : (s : Setting) (l : Line) → l .cut ≡ 0 → l .chip .interfa
 reset-legal s l u g =
     subst (λ (x : Line). sendAll s x resetCycles .chip .interface .illegal ≡ 0) (sym (uncut-is l u)) (allowed s (l .chip) (l .left) g)
 
--- its status read shows E0h, unless the allowance does not reach it
-pub reset-shows : (s : Setting) (l : Line) → l .cut ≡ 0 → l .chip .interface .illegal ≡ 0 → resetStatus s l ≡ cond (ltb (l .left) 3) 0 224
+-- its status read shows ready and passed, E0h where the write-protect line is high, unless the allowance does not reach it
+pub reset-shows : (s : Setting) (l : Line) → l .cut ≡ 0 → l .chip .interface .illegal ≡ 0 → resetStatus s l ≡ cond (ltb (l .left) 3) 0 (statusByte (l .chip .interface .protected) 1 0)
 reset-shows s l u g =
-    subst (λ (x : Line). resetStatus s x ≡ cond (ltb (x .left) 3) 0 224) (sym (uncut-is l u)) (answers s (l .chip) (l .left) g)
+    subst (λ (x : Line). resetStatus s x ≡ cond (ltb (x .left) 3) 0 (statusByte (x .chip .interface .protected) 1 0)) (sym (uncut-is l u)) (answers s (l .chip) (l .left) g)
 
 -- another 70h in the place of the status read would leave the same line: only the byte read tells the two apart
 pub reset-unread : (s : Setting) {m k : Line} (l : Line) → m ≡ sendAll s l (confirmCycles 255) → k ≡ send s m (command 112) → k ≡ sendAll s l resetCycles

@@ -16,8 +16,10 @@ use Rattle.chip.specs.Chip.Cycle.{command}
 use Rattle.bus.specs.Line.{Line, run, sendAll, uncutLine, goesOn, Legal}
 use Rattle.bus.proofs.LineLaws.{run-uncut, run-cut, goes}
 use Rattle.bus.proofs.LegalLaws.{legal-run, legal-first, legal-start}
-use Rattle.operations.specs.Ends.{endsAs, endOf, confirmedEnd}
-use Rattle.operations.specs.Trace.{startedBy}
+use Rattle.bus_polling.specs.Polling.{outcomeOf}
+use Rattle.bus_sequences.specs.Cycles.{confirmedCycles}
+use Rattle.operations.specs.Ends.{End, endsAs, endOf, confirmedEnd}
+use Rattle.operations.specs.Trace.{startedBy, toldBy}
 use Rattle.operations.proofs.ConfirmLaws.{run-confirm}
 use Rattle.operations.proofs.EndLaws.{Effect, effect-ends}
 
@@ -41,9 +43,9 @@ module _ (s : Setting) (d : Device) (first : List Cycle) (code op : ℕ) (d₂ d
   unfolding steps
   length-steps = length-append first (command code ∷ [])
 
-  pub effect-starts : (n : ℕ) → startedBy s (uncutLine d n) first code op row bytes ≡ cond (leb n (length first)) [] (record { kind = op; block = row / s .geometry .pages; page = row % s .geometry .pages; bytes = bytes; before = d .array; answer = endsAs s (uncutLine d n) op (length first) } ∷ [])
+  pub effect-starts : (n : ℕ) → toldBy op (sendAll s (uncutLine d n) (confirmedCycles s (uncutLine d n) first code)) ≡ outcomeOf (sendAll s (uncutLine d n) (confirmedCycles s (uncutLine d n) first code)) → startedBy s (uncutLine d n) first code op row bytes ≡ cond (leb n (length first)) [] (record { kind = op; block = row / s .geometry .pages; page = row % s .geometry .pages; bytes = bytes; before = d .array; answer = endsAs s (uncutLine d n) op (length first) } ∷ [])
   unfolding startedBy steps goesOn endOf confirmedEnd
-  effect-starts n =
+  effect-starts n told =
       cases (leb n (length first))
       (λ t. rw (t, run-cut s d n steps start-legal steps-legal (rw length-steps (omega (arith, leb-true n (length first) t)))))
       (λ t.
@@ -55,6 +57,7 @@ module _ (s : Setting) (d : Device) (first : List Cycle) (code op : ℕ) (d₂ d
       ap (λ (x : Line). x .chip .array) (run-uncut s d n first start-legal (legal-first s d first (command code ∷ []) steps-legal) (omega arith))
       ∙ ap (λ (cs : List Cycle). run s d cs .array) (sym (take-all (length first) first (le-refl (length first))))
       ∙ e .quiet (length first) .array in
+      let answer-is = told ∙ ap (λ (x : End). x .outcome) (effect-ends s d first (command code) op d₂ d₄ a₂ h₂ e n) in
       rw (t, reach)
       (λ i. record {
         kind = op;
@@ -62,6 +65,6 @@ module _ (s : Setting) (d : Device) (first : List Cycle) (code op : ℕ) (d₂ d
         page = row % s .geometry .pages;
         bytes = bytes;
         before = found i;
-        answer = effect-ends s d first (command code) op d₂ d₄ a₂ h₂ e n i .outcome;
+        answer = answer-is i;
       }
       ∷ []))

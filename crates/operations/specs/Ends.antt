@@ -13,10 +13,10 @@ use Rattle.chip_interface.specs.Interface.{fateWord, nextFate, busyOf, failedFo
 use Rattle.chip_array.specs.Device.{Setting, Device, illegalCycle}
 use Rattle.chip.specs.Chip.{Cycle}
 use Rattle.bus.specs.Line.{Line, sendAll, statusOut, uncutLine, cutLine}
-use Rattle.bus_polling.specs.Polling.{outcomeOf, endedAs}
+use Rattle.bus_polling.specs.Polling.{outcomeOf, answerOf, endedAs}
 use Rattle.bus_sequences.specs.Cycles.{resetCycles, confirmCycles, whenReady, whenReadyOutcome, readCycles, readOutcome}
 use Rattle.bus_polling.specs.declared.Outcome.{Outcome}
-use Rattle.bus_polling.specs.declared.Outcome.the-variants.{Passed, Failed, Silent, Cut, Illegal}
+use Rattle.bus_polling.specs.declared.Outcome.the-variants.{Passed, Failed, Silent, Cut, Illegal, Protected}
 
 -- the chip as the store calls it: all lengths fit, no command under way, nothing refused or cut
 pub record Called (s : Setting) (l : Line) : Type 0 where
@@ -54,6 +54,28 @@ endOf l =
       array = l .chip .array;
       history = l .chip .history;
       left = l .left;
+      fate = l .chip .interface .fate;
+    }
+
+-- the same of a program or an erase, with the answer that bit 7 of its status gives
+unfoldable pub answerEnd : Line → End
+answerEnd l =
+    record {
+      outcome = answerOf l;
+      array = l .chip .array;
+      history = l .chip .history;
+      left = l .left;
+      fate = l .chip .interface .fate;
+    }
+
+-- a program or an erase with m cycles before its confirm cycle on a chip whose write-protect line is low: three more are sent, nothing changes, and no fate word is taken
+unfoldable pub protectedEnd : Line → ℕ → End
+protectedEnd l m =
+    record {
+      outcome = cond (ltb (l .left) (m + 3)) Cut Protected;
+      array = l .chip .array;
+      history = l .chip .history;
+      left = l .left - (m + 3);
       fate = l .chip .interface .fate;
     }
 
@@ -128,16 +150,25 @@ eraseEnd s l block =
     (set (l .chip .history) block 0)
 
 -- a program as the store sends it: a page of the chip above all that were programmed since the block's erase, and a whole page of data
-pub record CanProgram (s : Setting) (l : Line) (block page : ℕ) (bytes : List ℕ) : Type 0 where
+pub record MayProgram (s : Setting) (l : Line) (block page : ℕ) (bytes : List ℕ) : Type 0 where
   pub called : Called s l
   pub block-below : block < s .geometry .blocks
   pub page-below : page < s .geometry .pages
   pub in-order : getD (l .chip .history) block 0 ≤ page
   pub bytes-long : length bytes ≡ pageSize (s .geometry)
 
-pub record CanErase (s : Setting) (l : Line) (block : ℕ) : Type 0 where
+pub record MayErase (s : Setting) (l : Line) (block : ℕ) : Type 0 where
   pub called : Called s l
   pub block-below : block < s .geometry .blocks
+
+-- the same with the write-protect line high
+pub record CanProgram (s : Setting) (l : Line) (block page : ℕ) (bytes : List ℕ) : Type 0 where
+  pub may : MayProgram s l block page bytes
+  pub high : l .chip .interface .protected ≡ 0
+
+pub record CanErase (s : Setting) (l : Line) (block : ℕ) : Type 0 where
+  pub may : MayErase s l block
+  pub high : l .chip .interface .protected ≡ 0
 
 -- a read as the store sends it: n bytes of a row from a column on
 pub record CanRead (s : Setting) (l : Line) (row column n : ℕ) : Type 0 where

@@ -2,11 +2,12 @@
 use Prim.Native.Nat.{ℕ, _/_, _%_}
 use mathlib.Core.Bool.{cond}
 use mathlib.Core.List.{List, [], _∷_, _++_}
+use lib.Dec.{eqb}
 use Rattle.chip_array.specs.Device.{Setting}
 use Rattle.chip.specs.Chip.{Cycle}
 use Rattle.chip.specs.Chip.Cycle.{command}
 use Rattle.bus.specs.Line.{Line, sendAll, sent, goesOn}
-use Rattle.bus_polling.specs.Polling.{outcomeOf}
+use Rattle.bus_polling.specs.Polling.{outcomeOf, answerOf}
 use Rattle.bus_sequences.specs.Cycles.{readAddress, programData, eraseAddress, confirmedCycles, readCycles, programCycles, eraseCycles}
 use Rattle.bus_polling.specs.declared.Outcome.{Outcome}
 use Rattle.chip_interface.specs.Interface.{readConfirm, programConfirm, eraseConfirm}
@@ -20,7 +21,11 @@ pub record ArrayOperation : Type 0 where
   pub before : List ℕ
   pub answer : Outcome
 
--- the array operation is started if its confirm cycle was sent and allowed
+-- how it is answered: a read does not look at the write-protect line
+abbrev pub toldBy : ℕ → Line → Outcome
+toldBy kind l = cond (eqb kind 1) (outcomeOf l) (answerOf l)
+
+-- the array operation is started if its confirm cycle was sent and allowed; one that a protected chip takes and does not start is noted too
 unfoldable pub startedBy : Setting → Line → List Cycle → ℕ → ℕ → ℕ → List ℕ → List ArrayOperation
 startedBy s l first code kind row bytes =
     cond (goesOn (sendAll s l (first ++ (command code ∷ []))))
@@ -30,7 +35,7 @@ startedBy s l first code kind row bytes =
       page = row % s .geometry .pages;
       bytes = bytes;
       before = sendAll s l first .chip .array;
-      answer = outcomeOf (sendAll s l (confirmedCycles s l first code));
+      answer = toldBy kind (sendAll s l (confirmedCycles s l first code));
     }
     ∷ [])
     []

@@ -8,7 +8,7 @@ ghost use lib.ListN.{length};
 ghost use Rattle.cells.specs.Cells.{over};
 ghost use Rattle.chip_array.specs.Device.{setting};
 ghost use Rattle.bus.specs.Line.{line, sendAll};
-ghost use Rattle.bus_polling.specs.Polling.{outcomeOf, endedAs};
+ghost use Rattle.bus_polling.specs.Polling.{answerOf, endedAs};
 ghost use Rattle.bus_sequences.specs.Cycles.{resetCycles, readCycles, readOutcome, readOutputs, programCycles, eraseCycles};
 ghost use Rattle.operations.specs.Ends.{resetStatus};
 
@@ -44,7 +44,7 @@ pub fn reset(
     }
 }
 
-// Erase: 60h, three row bytes, D0h, 70h, status reads.
+// Erase: 60h, three row bytes, D0h, 70h, status reads; bit 7 of the last tells a protected chip.
 pub fn erase(
     from: Bus,
     g: Geometry,
@@ -56,15 +56,21 @@ pub fn erase(
     row: usize,
 ) -> Done
     ensures { λ r. ⌜ line (r .bus) (now (array .exit)) (now (register .exit)) (now (history .exit)) ≡ sendAll (setting g (now (mask .entry)) (now (fates .entry))) (line from (now (array .entry)) (now (register .entry)) (now (history .entry))) (eraseCycles (setting g (now (mask .entry)) (now (fates .entry))) (line from (now (array .entry)) (now (register .entry)) (now (history .entry))) row) ⌝ }
-    ensures { λ r. ⌜ r .outcome ≡ outcomeOf (line (r .bus) (now (array .exit)) (now (register .exit)) (now (history .exit))) ⌝ }
+    ensures { λ r. ⌜ r .outcome ≡ answerOf (line (r .bus) (now (array .exit)) (now (register .exit)) (now (history .exit))) ⌝ }
 {
     let b = bus::command(from, g, array, register, history, mask, fates, 0x60);
     let c = bus_sequences::send_row(b, g, row);
     let d = bus_sequences::confirm(c, g, array, register, history, mask, fates, 0xd0);
-    bus_polling::poll(d, g, array, register, history)
+    let p = bus_polling::poll(d, g, array, register, history);
+    let last = p.bus;
+    let outcome = p.outcome;
+    Done {
+        bus: last,
+        outcome: bus_polling::answer(outcome, p.status),
+    }
 }
 
-// Program: 80h, five address bytes, the data, 10h, 70h, status reads.
+// Program: 80h, five address bytes, the data, 10h, 70h, status reads; bit 7 of the last tells a protected chip.
 pub fn program(
     from: Bus,
     g: Geometry,
@@ -77,13 +83,19 @@ pub fn program(
     data: &[u8],
 ) -> Done
     ensures { λ r. ⌜ line (r .bus) (now (array .exit)) (now (register .exit)) (now (history .exit)) ≡ sendAll (setting g (now (mask .entry)) (now (fates .entry))) (line from (now (array .entry)) (now (register .entry)) (now (history .entry))) (programCycles (setting g (now (mask .entry)) (now (fates .entry))) (line from (now (array .entry)) (now (register .entry)) (now (history .entry))) row (now («data» .entry))) ⌝ }
-    ensures { λ r. ⌜ r .outcome ≡ outcomeOf (line (r .bus) (now (array .exit)) (now (register .exit)) (now (history .exit))) ⌝ }
+    ensures { λ r. ⌜ r .outcome ≡ answerOf (line (r .bus) (now (array .exit)) (now (register .exit)) (now (history .exit))) ⌝ }
 {
     let b = bus::command(from, g, array, register, history, mask, fates, 0x80);
     let c = bus_sequences::send_address(b, g, 0, row);
     let d = bus_sequences::send_data(c, register, data);
     let e = bus_sequences::confirm(d, g, array, register, history, mask, fates, 0x10);
-    bus_polling::poll(e, g, array, register, history)
+    let p = bus_polling::poll(e, g, array, register, history);
+    let last = p.bus;
+    let outcome = p.outcome;
+    Done {
+        bus: last,
+        outcome: bus_polling::answer(outcome, p.status),
+    }
 }
 
 // Read: 00h, five address bytes, 30h, 70h, status reads, 00h, and a data output for each byte of the buffer.

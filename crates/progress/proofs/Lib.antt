@@ -2,3 +2,4 @@ pub mod ComesLaws
 pub mod CountLaws
 pub mod ReadOnLaws
 pub mod StepLaws
+pub mod WordLaws

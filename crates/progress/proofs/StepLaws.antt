@@ -12,39 +12,42 @@ use Rattle.chip_interface.specs.Interface.{busyOf, failedFor}
 use Rattle.chip_array.specs.Device.{Setting}
 use Rattle.bus.specs.Line.{Line, sendAll}
 use Rattle.bus_polling.specs.Outcomes.{isPassed, answered}
-use Rattle.bus_polling.specs.Polling.{outcomeOf}
+use Rattle.bus_polling.specs.Polling.{answerOf}
 use Rattle.bus_polling.specs.declared.Outcome.{Outcome}
 use Rattle.bus_sequences.specs.Cycles.{eraseCycles, programCycles}
-use Rattle.operations.specs.Ends.{Called, CanErase, CanProgram, End, endOf, eraseEnd, programEnd, confirmedEnd, passes, endsAs, totalFor, wordFor}
-use Rattle.operations.proofs.EraseLaws.{erase-ends, erase-next}
-use Rattle.operations.proofs.ProgramLaws.{program-ends, program-next}
+use Rattle.operations.specs.Ends.{Called, MayErase, MayProgram, CanErase, CanProgram, endOf, eraseEnd, programEnd, confirmedEnd, passes, endsAs, totalFor, wordFor}
+use Rattle.operations.proofs.EraseLaws.{erase-ends, erase-answer, erase-next}
+use Rattle.operations.proofs.ProgramLaws.{program-ends, program-answer, program-next}
 use Rattle.progress.specs.Progress.{Progress}
 use Rattle.progress.specs.Steps.{eraseOn, programOn}
 
 -- line m and outcome o after an erase
-module _ (s : Setting) (l : Line) (block : ℕ) (can : CanErase s l block) (m : Line) (o : Outcome) (e : m ≡ sendAll s l (eraseCycles s l (rowOf (s .geometry) block 0))) (q : o ≡ outcomeOf m) where
+module _ (s : Setting) (l : Line) (block : ℕ) (can : CanErase s l block) (m : Line) (o : Outcome) (e : m ≡ sendAll s l (eraseCycles s l (rowOf (s .geometry) block 0))) (q : o ≡ answerOf m) where
   pub erase-end : endOf m ≡ eraseEnd s l block
   erase-end = ap endOf e ∙ erase-ends s l block can
 
   pub erase-outcome : o ≡ eraseEnd s l block .outcome
-  unfolding endOf
-  erase-outcome = q ∙ ap (λ (x : End). x .outcome) erase-end
+  erase-outcome = q ∙ ap answerOf e ∙ erase-answer s l block can
 
+-- whatever the write-protect line
+module _ (s : Setting) (l : Line) (block : ℕ) (may : MayErase s l block) (m : Line) (o : Outcome) (e : m ≡ sendAll s l (eraseCycles s l (rowOf (s .geometry) block 0))) (q : o ≡ answerOf m) where
   pub erase-called : answered o ≡ true → Called s m
-  erase-called t = subst (Called s) (sym e) (erase-next s l block can (sym (ap answered erase-outcome) ∙ t))
+  erase-called t = subst (Called s) (sym e) (erase-next s l block may (sym (ap answered (q ∙ ap answerOf e)) ∙ t))
 
 -- after a program
 module _ (s : Setting) (l : Line) (block page : ℕ) (bytes : List ℕ) (can : CanProgram s l block page bytes) (m : Line) (o : Outcome)
-    (e : m ≡ sendAll s l (programCycles s l (rowOf (s .geometry) block page) bytes)) (q : o ≡ outcomeOf m) where
+    (e : m ≡ sendAll s l (programCycles s l (rowOf (s .geometry) block page) bytes)) (q : o ≡ answerOf m) where
   pub program-end : endOf m ≡ programEnd s l block page bytes
   program-end = ap endOf e ∙ program-ends s l block page bytes can
 
   pub program-outcome : o ≡ programEnd s l block page bytes .outcome
-  unfolding endOf
-  program-outcome = q ∙ ap (λ (x : End). x .outcome) program-end
+  program-outcome = q ∙ ap answerOf e ∙ program-answer s l block page bytes can
 
+-- whatever the write-protect line
+module _ (s : Setting) (l : Line) (block page : ℕ) (bytes : List ℕ) (may : MayProgram s l block page bytes) (m : Line) (o : Outcome)
+    (e : m ≡ sendAll s l (programCycles s l (rowOf (s .geometry) block page) bytes)) (q : o ≡ answerOf m) where
   pub program-called : answered o ≡ true → Called s m
-  program-called t = subst (Called s) (sym e) (program-next s l block page bytes can (sym (ap answered program-outcome) ∙ t))
+  program-called t = subst (Called s) (sym e) (program-next s l block page bytes may (sym (ap answered (q ∙ ap answerOf e)) ∙ t))
 
 -- a step that is due, in a request that has reached line m
 module _ (s : Setting) (block : ℕ) (p : Progress) (m : Line) (e : p .line ≡ m) (t : isPassed (p .outcome) ≡ true) where
@@ -52,17 +55,17 @@ module _ (s : Setting) (block : ℕ) (p : Progress) (m : Line) (e : p .line ≡ 
   unfolding eraseOn
   erase-on-line = rw t (ap (λ (x : Line). sendAll s x (eraseCycles s x (rowOf (s .geometry) block 0))) e)
 
-  pub erase-on-outcome : eraseOn s block p .outcome ≡ outcomeOf (sendAll s m (eraseCycles s m (rowOf (s .geometry) block 0)))
+  pub erase-on-outcome : eraseOn s block p .outcome ≡ answerOf (sendAll s m (eraseCycles s m (rowOf (s .geometry) block 0)))
   unfolding eraseOn
-  erase-on-outcome = rw t (ap (λ (x : Line). outcomeOf (sendAll s x (eraseCycles s x (rowOf (s .geometry) block 0)))) e)
+  erase-on-outcome = rw t (ap (λ (x : Line). answerOf (sendAll s x (eraseCycles s x (rowOf (s .geometry) block 0)))) e)
 
   pub program-on-line : (page : ℕ) (bytes : List ℕ) → programOn s block page bytes p .line ≡ sendAll s m (programCycles s m (rowOf (s .geometry) block page) bytes)
   unfolding programOn
   program-on-line page bytes = rw t (ap (λ (x : Line). sendAll s x (programCycles s x (rowOf (s .geometry) block page) bytes)) e)
 
-  pub program-on-outcome : (page : ℕ) (bytes : List ℕ) → programOn s block page bytes p .outcome ≡ outcomeOf (sendAll s m (programCycles s m (rowOf (s .geometry) block page) bytes))
+  pub program-on-outcome : (page : ℕ) (bytes : List ℕ) → programOn s block page bytes p .outcome ≡ answerOf (sendAll s m (programCycles s m (rowOf (s .geometry) block page) bytes))
   unfolding programOn
-  program-on-outcome page bytes = rw t (ap (λ (x : Line). outcomeOf (sendAll s x (programCycles s x (rowOf (s .geometry) block page) bytes))) e)
+  program-on-outcome page bytes = rw t (ap (λ (x : Line). answerOf (sendAll s x (programCycles s x (rowOf (s .geometry) block page) bytes))) e)
 
 -- one that is not
 pub erase-stopped : (s : Setting) (block : ℕ) (p : Progress) → isPassed (p .outcome) ≡ false → eraseOn s block p ≡ p

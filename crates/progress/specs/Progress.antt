@@ -21,6 +21,10 @@ pub record Progress : Type 0 where
 abbrev pub progress : Line → Outcome → List Cycle → List ArrayOperation → Progress
 progress l o cs os = record { line = l; outcome = o; cycles = cs; started = os }
 
+-- the word of the write-protect line: 0 where it is high
+abbrev pub lineOf : Progress → ℕ
+lineOf p = p .line .chip .interface .protected
+
 -- n bytes of a row are read from a column on, if all before it passed
 unfoldable pub readOn : Setting → ℕ → ℕ → ℕ → Progress → Progress
 readOn s row column n p =

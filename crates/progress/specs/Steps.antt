@@ -8,7 +8,7 @@ use Rattle.chip_array.specs.Device.{Setting}
 use Rattle.chip.specs.Chip.{Cycle}
 use Rattle.bus.specs.Line.{Line, sendAll}
 use Rattle.bus_polling.specs.Outcomes.{isPassed, answered}
-use Rattle.bus_polling.specs.Polling.{outcomeOf}
+use Rattle.bus_polling.specs.Polling.{answerOf}
 use Rattle.bus_polling.specs.declared.Outcome.{Outcome}
 use Rattle.bus_polling.specs.declared.Outcome.the-variants.{Passed}
 use Rattle.bus_sequences.specs.Cycles.{eraseCycles, programCycles}
@@ -22,7 +22,7 @@ eraseOn s block p =
     cond (isPassed (p .outcome))
     (progress
     (sendAll s (p .line) (eraseCycles s (p .line) (rowOf (s .geometry) block 0)))
-    (outcomeOf (sendAll s (p .line) (eraseCycles s (p .line) (rowOf (s .geometry) block 0))))
+    (answerOf (sendAll s (p .line) (eraseCycles s (p .line) (rowOf (s .geometry) block 0))))
     (p .cycles ++ eraseSends s (p .line) (rowOf (s .geometry) block 0))
     (p .started ++ eraseStarts s (p .line) (rowOf (s .geometry) block 0)))
     p
@@ -33,7 +33,7 @@ programOn s block page bytes p =
     cond (isPassed (p .outcome))
     (progress
     (sendAll s (p .line) (programCycles s (p .line) (rowOf (s .geometry) block page) bytes))
-    (outcomeOf (sendAll s (p .line) (programCycles s (p .line) (rowOf (s .geometry) block page) bytes)))
+    (answerOf (sendAll s (p .line) (programCycles s (p .line) (rowOf (s .geometry) block page) bytes)))
     (p .cycles ++ programSends s (p .line) (rowOf (s .geometry) block page) bytes)
     (p .started ++ programStarts s (p .line) (rowOf (s .geometry) block page) bytes))
     p

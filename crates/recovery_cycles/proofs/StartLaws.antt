@@ -15,10 +15,10 @@ use Rattle.bus.specs.Line.{Line, mayGo, admits, blocked, send, sendAll, sent, r
 use Rattle.bus.proofs.LineLaws.{sendAll-append, sendAll-stopped, send-on, send-off, blocked-stops, admits-stopped, going}
 use Rattle.chip_laws.proofs.ReplayLaws.{sent-append, sent-runs}
 use Rattle.bus_polling.specs.Outcomes.{isFailed}
-use Rattle.bus_polling.specs.Polling.{polls, outcomeOf, statusReads}
+use Rattle.bus_polling.specs.Polling.{polls, statusReads}
 use Rattle.bus_sequences.specs.Cycles.{confirmCycles, confirmedCycles}
-use Rattle.operations.specs.Trace.{ArrayOperation, startedBy}
-use Rattle.recovery_cycles.specs.Starts.{takes, givesFailed, failsNext, start, Start, startsAt, startsIn, StartedAt, Traced}
+use Rattle.operations.specs.Trace.{ArrayOperation, startedBy, toldBy}
+use Rattle.recovery_cycles.specs.Starts.{takes, givesFailed, failsNext, start, Start, startsAt, startsIn, kindOf, StartedAt, Traced}
 use Rattle.recovery_cycles.proofs.AllLaws.{All, all-append, all-repeated, all-sent, all-weaker}
 use Rattle.recovery_cycles.proofs.FailLaws.{fails-append, confirm-fails, confirm-passes}
 
@@ -104,7 +104,7 @@ module _ (s : Setting) where
   none-sent l (c ∷ cs) h = rw (admits-stopped l h)
 
   -- an operation: plain cycles, its confirm cycle, 70h, the status reads, and plain cycles
-  module _ (l : Line) (before out : List Cycle) (code kind row : ℕ) (bytes : List ℕ) (confirms : isConfirm code ≡ true) (plain-before : All Plain before) (plain-end : All Plain out) where
+  module _ (l : Line) (before out : List Cycle) (code kind row : ℕ) (bytes : List ℕ) (confirms : isConfirm code ≡ true) (kind-is : kind ≡ kindOf code) (plain-before : All Plain before) (plain-end : All Plain out) where
     -- the line that its confirm cycle finds, and the one that it leaves
     abbrev reached : Line
     reached = sendAll s l before
@@ -132,7 +132,7 @@ module _ (s : Setting) where
           page = row % s .geometry .pages;
           bytes = bytes;
           before = reached .chip .array;
-          answer = outcomeOf (sendAll s l (confirmedCycles s l before code));
+          answer = toldBy kind (sendAll s l (confirmedCycles s l before code));
         }
 
     rest-idle : All Idle rest
@@ -221,8 +221,8 @@ module _ (s : Setting) where
       failed-is : isFailed (operation .answer) ≡ failed
       unfolding sendAll
       failed-is =
-          ap (λ (x : Line). isFailed (outcomeOf x)) (sendAll-append s l (before ++ confirmCycles code) reads ∙ ap₂ (sendAll s) asked-is reads-are)
-          ∙ sym (confirm-fails s (reached .chip) code confirms taken left goes-left left-chip out quiet)
+          ap (λ (x : Line). isFailed (toldBy kind x)) (sendAll-append s l (before ++ confirmCycles code) reads ∙ ap₂ (sendAll s) asked-is reads-are)
+          ∙ sym (confirm-fails s (reached .chip) code confirms taken left goes-left left-chip out quiet kind kind-is)
           ∙ ap (λ (cs : List Cycle). failsNext s (exec s (reached .chip) (command code)) (sent s left (command 112 ∷ (cs ++ out)))) (sym reads-are)
 
       read-unfailed : code ≡ 48 → failed ≡ false

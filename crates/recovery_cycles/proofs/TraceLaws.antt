@@ -80,8 +80,8 @@ module _ (s : Setting) (l : Line) where
       let plain : All Plain (eraseAddress row) = (plain-command 96 refl, all-mapped Plain address plain-address (rowBytes row)) in
       subst (λ (cs : List Cycle). Adds s l cs (eraseStarts s l row))
       (sym (sym (append-nil (eraseCycles s l row)) ∙ regroup (eraseAddress row) reads [] (command 208) (command 112))) (
-        operation-passes s l (eraseAddress row) [] 208 3 row [] refl plain tt,
-        operation-traced s l (eraseAddress row) [] 208 3 row [] refl plain tt
+        operation-passes s l (eraseAddress row) [] 208 3 row [] refl refl plain tt,
+        operation-traced s l (eraseAddress row) [] 208 3 row [] refl refl plain tt
             (λ b failed passed taken at. record {
               confirms = refl;
               kind-is = refl;
@@ -101,8 +101,8 @@ module _ (s : Setting) (l : Line) where
       (plain-command 128 refl, all-append Plain (addressCycles 0 row) (map dataIn bytes) (all-mapped Plain address plain-address (columnBytes 0 ++ rowBytes row)) (all-mapped Plain dataIn plain-in bytes)) in
       subst (λ (cs : List Cycle). Adds s l cs (programStarts s l row bytes))
       (sym (sym (append-nil (programCycles s l row bytes)) ∙ regroup (programData row bytes) reads [] (command 16) (command 112))) (
-        operation-passes s l (programData row bytes) [] 16 2 row bytes refl plain tt,
-        operation-traced s l (programData row bytes) [] 16 2 row bytes refl plain tt
+        operation-passes s l (programData row bytes) [] 16 2 row bytes refl refl plain tt,
+        operation-traced s l (programData row bytes) [] 16 2 row bytes refl refl plain tt
             (λ b failed passed taken at. record {
               confirms = refl;
               kind-is = refl;
@@ -129,8 +129,8 @@ module _ (s : Setting) (l : Line) where
       let plain : All Plain (readAddress row column) = (plain-command 0 refl, all-mapped Plain address plain-address (columnBytes column ++ rowBytes row)) in
       let plain-end : All Plain out = cases (isPassed (outcomeOf (pageLine s l row column))) (λ t. rw t (plain-command 0 refl, all-repeated Plain n dataOut plain-out)) (λ t. rw t tt) in
       subst (λ (cs : List Cycle). Adds s l cs (readStarts s l row column)) (sym (regroup (readAddress row column) reads out (command 48) (command 112))) (
-        operation-passes s l (readAddress row column) out 48 1 row [] refl plain plain-end,
-        operation-traced s l (readAddress row column) out 48 1 row [] refl plain plain-end
+        operation-passes s l (readAddress row column) out 48 1 row [] refl refl plain plain-end,
+        operation-traced s l (readAddress row column) out 48 1 row [] refl refl plain plain-end
             (λ b failed passed taken at. record {
               confirms = refl;
               kind-is = refl;

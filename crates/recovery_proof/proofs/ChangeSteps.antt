@@ -20,7 +20,7 @@ use Rattle.copies.specs.Current.{reading}
 use Rattle.state.specs.State.{mounted}
 use Rattle.state.specs.declared.State.{State}
 use Rattle.request.specs.Call.{Result, result, Performed, unsent, sizedFor, callLine, resultOf, sentIn, startedIn}
-use Rattle.request.proofs.CallLaws.{sizes}
+use Rattle.request.proofs.CallLaws.{sizes, call-high}
 use Rattle.request_refusals.specs.Refusals.{refusal, refusalOf}
 use Rattle.request_refusals.proofs.RefusalLaws.{by-refusal, accepts}
 use Rattle.fill_tables.specs.Tables.{Tabled}
@@ -113,7 +113,7 @@ module _ (g : Geometry) (y : Store) (i : Inv g y) (u : Up g y) (a : Lent) (mask-
 
   pub change-is : Changed s c (y .account .book) (y .marked) (y .failed) run
   change-is =
-      change-ends s (y .chip) (a .allowed) (y .state) c (y .account .book) (y .marked) (y .failed) mask-bytes called (i .marks) (u .agrees) proper
+      change-ends s (y .chip) (a .allowed) (y .state) c (y .account .book) (y .marked) (y .failed) mask-bytes called (call-high (y .chip) (a .allowed)) (i .marks) (u .agrees) proper
 
   still-fits : lengthsFit g (r .chip) ≡ true
   still-fits = lengths-fit g (change-lengths s (y .chip) (a .allowed) (y .state) (updateOf (y .state) c)) ∙ i .fits

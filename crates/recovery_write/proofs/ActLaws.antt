@@ -28,9 +28,11 @@ use Rattle.state.specs.State.{blank, nextNumber, numberEnd, taken, withInvalid,
 use Rattle.state.specs.declared.State.{State}
 use Rattle.request.specs.Call.{stopAnswer}
 use Rattle.request.proofs.CallLaws.{stop-least}
-use Rattle.progress.specs.Progress.{Progress, progress}
+use Rattle.progress.specs.Progress.{Progress, progress, lineOf}
 use Rattle.progress.specs.Steps.{resumed, eraseOn}
+use Rattle.progress.proofs.WordLaws.{erase-keeps, line-kept}
 use Rattle.fill.specs.Fill.{copy, copyPage, dataSource, tableCopy, tableMain, tableSource, pageFilled}
+use Rattle.fill.proofs.KeepLaws.{page-keeps}
 use Rattle.fill_tables.specs.Tables.{tabled}
 use Rattle.fill_cursor.specs.Cursor.{running, moved, firstCursor, ended, filling, onPage, replaced, inTable, choiceOf, onBlock, prepared, filledWhole, unfilled, withdrawn, settled, afterDue, programs, isOpen}
 use Rattle.fill_cursor.specs.declared.Cursor.{Cursor}
@@ -151,6 +153,7 @@ module _ (s : Setting) (mask-bytes : Bytes (s .mask)) (first : Line) (called : C
     pub page-below : page < g .pages
     pub line : Line
     pub line-called : Called s line
+    pub line-high : line .chip .interface .protected ≡ 0
     pub cycles : List Cycle
     pub started : List ArrayOperation
     pub stands : Paused g A before block (dataPages (st .number)) page (line .chip) started
@@ -189,6 +192,7 @@ module _ (s : Setting) (mask-bytes : Bytes (s .mask)) (first : Line) (called : C
       pub page-below : page < g .pages
       pub line : Line
       pub line-called : Called s line
+      pub line-high : line .chip .interface .protected ≡ 0
       pub cycles : List Cycle
       pub started : List ArrayOperation
       pub stands : Paused g A before block (tablePages (st .number) (st .invalid)) page (line .chip) started
@@ -216,8 +220,8 @@ module _ (s : Setting) (mask-bytes : Bytes (s .mask)) (first : Line) (called : C
   AtRan t = At (t .running) (t .progress)
 
   -- the start
-  pub at-first : At (running (firstCursor 0 (u .logical) (u .first) (u .count) (u .old)) st₀) (progress first Passed [] [])
-  at-first = before-data (record { st = st₀; failed = false; mid = phase.mid-first s mask-bytes first called st₀ c book marked₀ failed₀ marks₀ agrees proper; r-is = refl })
+  pub at-first : first .chip .interface .protected ≡ 0 → At (running (firstCursor 0 (u .logical) (u .first) (u .count) (u .old)) st₀) (progress first Passed [] [])
+  at-first high = before-data (record { st = st₀; failed = false; mid = phase.mid-first s mask-bytes first called st₀ c book marked₀ failed₀ marks₀ agrees proper high; r-is = refl })
 
   as-due : {r r' : Running} {p p' : Progress} → r ≡ r' → p ≡ p' → At r' p' → At r p
   as-due {r} {r'} {p} {p'} e f a = subst (λ (x : Running). At x p) (sym e) (subst (At r') (sym f) a)
@@ -299,6 +303,7 @@ module _ (s : Setting) (mask-bytes : Bytes (s .mask)) (first : Line) (called : C
         page-below = omega (arith, called .is-valid .pages-least);
         line = q .line;
         line-called = erasing.data-begins-called s mask-bytes first called st₀ c book marked₀ failed₀ marks₀ agrees proper st f p m fits b below may y;
+        line-high = erase-keeps s b p ∙ m .high;
         cycles = q .cycles;
         started = q .started;
         stands = erasing.data-begins s mask-bytes first called st₀ c book marked₀ failed₀ marks₀ agrees proper st f p m fits b below may y;
@@ -323,9 +328,9 @@ module _ (s : Setting) (mask-bytes : Bytes (s .mask)) (first : Line) (called : C
     data-ends last =
         as-due (page-decides (g .pages) dataFill (taken (w .st)) (w .page) (dataNext .outcome) (λ y. omega (arith, last y))) refl
         (data-filled (w .st) (w .block) (nextNumber (w .st)) dataNext (w .failed)
-        (pause.page-done s mask-bytes first called st₀ c book marked₀ failed₀ marks₀ agrees proper (w .line) (w .line-called) (w .st) (w .failed) (w .fits) (w .A) (w .long-A) (w .before) (w .state-is) (w .rest) (w .clean) (w .block) (w .below) (w .may) (w .page) (w .page-below) (w .started) (w .stands) (w .cycles) last)
-        (pause.page-failed s mask-bytes first called st₀ c book marked₀ failed₀ marks₀ agrees proper (w .line) (w .line-called) (w .st) (w .failed) (w .fits) (w .A) (w .long-A) (w .before) (w .state-is) (w .rest) (w .clean) (w .block) (w .below) (w .may) (w .page) (w .page-below) (w .started) (w .stands) (w .cycles) last)
-        (pause.page-stopped s mask-bytes first called st₀ c book marked₀ failed₀ marks₀ agrees proper (w .line) (w .line-called) (w .st) (w .failed) (w .fits) (w .A) (w .long-A) (w .before) (w .state-is) (w .rest) (w .clean) (w .block) (w .below) (w .may) (w .page) (w .page-below) (w .started) (w .stands) (w .cycles) last))
+        (pause.page-done s mask-bytes first called st₀ c book marked₀ failed₀ marks₀ agrees proper (w .line) (w .line-called) (w .line-high) (w .st) (w .failed) (w .fits) (w .A) (w .long-A) (w .before) (w .state-is) (w .rest) (w .clean) (w .block) (w .below) (w .may) (w .page) (w .page-below) (w .started) (w .stands) (w .cycles) last)
+        (pause.page-failed s mask-bytes first called st₀ c book marked₀ failed₀ marks₀ agrees proper (w .line) (w .line-called) (w .line-high) (w .st) (w .failed) (w .fits) (w .A) (w .long-A) (w .before) (w .state-is) (w .rest) (w .clean) (w .block) (w .below) (w .may) (w .page) (w .page-below) (w .started) (w .stands) (w .cycles) last)
+        (pause.page-stopped s mask-bytes first called st₀ c book marked₀ failed₀ marks₀ agrees proper (w .line) (w .line-called) (w .line-high) (w .st) (w .failed) (w .fits) (w .A) (w .long-A) (w .before) (w .state-is) (w .rest) (w .clean) (w .block) (w .below) (w .may) (w .page) (w .page-below) (w .started) (w .stands) (w .cycles) last))
 
     data-goes : isPassed (dataNext .outcome) ≡ true → suc (w .page) < g .pages → At (afterDue (g .pages) (running (onPage (w .page) dataFill) (taken (w .st))) (dataNext .outcome)) (goneOn dataNext)
     data-goes y h =
@@ -346,10 +351,11 @@ module _ (s : Setting) (mask-bytes : Bytes (s .mask)) (first : Line) (called : C
           page = suc (w .page);
           page-below = h;
           line = dataNext .line;
-          line-called = pause.page-called s mask-bytes first called st₀ c book marked₀ failed₀ marks₀ agrees proper (w .line) (w .line-called) (w .st) (w .failed) (w .fits) (w .A) (w .long-A) (w .before) (w .state-is) (w .rest) (w .clean) (w .block) (w .below) (w .may) (w .page) (w .page-below) (w .started) (w .stands) (w .cycles) y;
+          line-called = pause.page-called s mask-bytes first called st₀ c book marked₀ failed₀ marks₀ agrees proper (w .line) (w .line-called) (w .line-high) (w .st) (w .failed) (w .fits) (w .A) (w .long-A) (w .before) (w .state-is) (w .rest) (w .clean) (w .block) (w .below) (w .may) (w .page) (w .page-below) (w .started) (w .stands) (w .cycles) y;
+          line-high = page-keeps s (λ x. lineOf x ≡ 0) (line-kept s 0) (w .block) _ (w .page) _ (progress (w .line) Passed (w .cycles) (w .started)) (w .line-high);
           cycles = dataNext .cycles;
           started = dataNext .started;
-          stands = pause.pauses s mask-bytes first called st₀ c book marked₀ failed₀ marks₀ agrees proper (w .line) (w .line-called) (w .st) (w .failed) (w .fits) (w .A) (w .long-A) (w .before) (w .state-is) (w .rest) (w .clean) (w .block) (w .below) (w .may) (w .page) (w .page-below) (w .started) (w .stands) (w .cycles) y;
+          stands = pause.pauses s mask-bytes first called st₀ c book marked₀ failed₀ marks₀ agrees proper (w .line) (w .line-called) (w .line-high) (w .st) (w .failed) (w .fits) (w .A) (w .long-A) (w .before) (w .state-is) (w .rest) (w .clean) (w .block) (w .below) (w .may) (w .page) (w .page-below) (w .started) (w .stands) (w .cycles) y;
           r-is = refl;
           p-is = as-passed dataNext y;
         }))
@@ -443,6 +449,7 @@ module _ (s : Setting) (mask-bytes : Bytes (s .mask)) (first : Line) (called : C
           page-below = omega (arith, called .is-valid .pages-least);
           line = q .line;
           line-called = erasing.table-begins-called s mask-bytes first called st₀ c book marked₀ failed₀ marks₀ agrees proper st₁ true p₁ d st p m fits b below may y;
+          line-high = erase-keeps s b p ∙ m .high;
           cycles = q .cycles;
           started = q .started;
           stands = erasing.table-begins s mask-bytes first called st₀ c book marked₀ failed₀ marks₀ agrees proper st₁ true p₁ d st p m fits b below may y;
@@ -466,9 +473,9 @@ module _ (s : Setting) (mask-bytes : Bytes (s .mask)) (first : Line) (called : C
       table-ends last =
           as-due (page-decides (g .pages) tableFill (taken (w .st)) (w .page) (tableNext .outcome) (λ y. omega (arith, last y))) refl
           (table-filled (w .st) (w .block) (nextNumber (w .st)) tableNext
-          (table-pause.page-done s mask-bytes first called st₀ c book marked₀ failed₀ marks₀ agrees proper (w .line) (w .line-called) st₁ true p₁ d (w .st) (w .fits) (w .A) (w .long-A) (w .before) (w .state-is) (w .table) (w .rest) (w .block) (w .below) (w .may) (w .page) (w .page-below) (w .started) (w .stands) (w .cycles) last)
-          (table-pause.page-failed s mask-bytes first called st₀ c book marked₀ failed₀ marks₀ agrees proper (w .line) (w .line-called) st₁ true p₁ d (w .st) (w .fits) (w .A) (w .long-A) (w .before) (w .state-is) (w .table) (w .rest) (w .block) (w .below) (w .may) (w .page) (w .page-below) (w .started) (w .stands) (w .cycles) last)
-          (table-pause.page-stopped s mask-bytes first called st₀ c book marked₀ failed₀ marks₀ agrees proper (w .line) (w .line-called) st₁ true p₁ d (w .st) (w .fits) (w .A) (w .long-A) (w .before) (w .state-is) (w .table) (w .rest) (w .block) (w .below) (w .may) (w .page) (w .page-below) (w .started) (w .stands) (w .cycles) last))
+          (table-pause.page-done s mask-bytes first called st₀ c book marked₀ failed₀ marks₀ agrees proper (w .line) (w .line-called) (w .line-high) st₁ true p₁ d (w .st) (w .fits) (w .A) (w .long-A) (w .before) (w .state-is) (w .table) (w .rest) (w .block) (w .below) (w .may) (w .page) (w .page-below) (w .started) (w .stands) (w .cycles) last)
+          (table-pause.page-failed s mask-bytes first called st₀ c book marked₀ failed₀ marks₀ agrees proper (w .line) (w .line-called) (w .line-high) st₁ true p₁ d (w .st) (w .fits) (w .A) (w .long-A) (w .before) (w .state-is) (w .table) (w .rest) (w .block) (w .below) (w .may) (w .page) (w .page-below) (w .started) (w .stands) (w .cycles) last)
+          (table-pause.page-stopped s mask-bytes first called st₀ c book marked₀ failed₀ marks₀ agrees proper (w .line) (w .line-called) (w .line-high) st₁ true p₁ d (w .st) (w .fits) (w .A) (w .long-A) (w .before) (w .state-is) (w .table) (w .rest) (w .block) (w .below) (w .may) (w .page) (w .page-below) (w .started) (w .stands) (w .cycles) last))
 
       table-goes : isPassed (tableNext .outcome) ≡ true → suc (w .page) < g .pages → At (afterDue (g .pages) (running (onPage (w .page) tableFill) (taken (w .st))) (tableNext .outcome)) (goneOn tableNext)
       table-goes y h =
@@ -488,10 +495,11 @@ module _ (s : Setting) (mask-bytes : Bytes (s .mask)) (first : Line) (called : C
             page = suc (w .page);
             page-below = h;
             line = tableNext .line;
-            line-called = table-pause.page-called s mask-bytes first called st₀ c book marked₀ failed₀ marks₀ agrees proper (w .line) (w .line-called) st₁ true p₁ d (w .st) (w .fits) (w .A) (w .long-A) (w .before) (w .state-is) (w .table) (w .rest) (w .block) (w .below) (w .may) (w .page) (w .page-below) (w .started) (w .stands) (w .cycles) y;
+            line-called = table-pause.page-called s mask-bytes first called st₀ c book marked₀ failed₀ marks₀ agrees proper (w .line) (w .line-called) (w .line-high) st₁ true p₁ d (w .st) (w .fits) (w .A) (w .long-A) (w .before) (w .state-is) (w .table) (w .rest) (w .block) (w .below) (w .may) (w .page) (w .page-below) (w .started) (w .stands) (w .cycles) y;
+            line-high = page-keeps s (λ x. lineOf x ≡ 0) (line-kept s 0) (w .block) _ (w .page) _ (progress (w .line) Passed (w .cycles) (w .started)) (w .line-high);
             cycles = tableNext .cycles;
             started = tableNext .started;
-            stands = table-pause.pauses s mask-bytes first called st₀ c book marked₀ failed₀ marks₀ agrees proper (w .line) (w .line-called) st₁ true p₁ d (w .st) (w .fits) (w .A) (w .long-A) (w .before) (w .state-is) (w .table) (w .rest) (w .block) (w .below) (w .may) (w .page) (w .page-below) (w .started) (w .stands) (w .cycles) y;
+            stands = table-pause.pauses s mask-bytes first called st₀ c book marked₀ failed₀ marks₀ agrees proper (w .line) (w .line-called) (w .line-high) st₁ true p₁ d (w .st) (w .fits) (w .A) (w .long-A) (w .before) (w .state-is) (w .table) (w .rest) (w .block) (w .below) (w .may) (w .page) (w .page-below) (w .started) (w .stands) (w .cycles) y;
             r-is = refl;
             p-is = as-passed tableNext y;
           }))

@@ -38,9 +38,9 @@ module _ (s : Setting) (mask-bytes : Bytes (s .mask)) (first : Line) (called : C
       let not-zero = eqb-false (d .answer) 0 z in
       rw (z, e .stopped not-zero) (halted-changed s c book marked failed (d .answer) (d .progress) (omega (arith, not-zero)) (e .halted not-zero)))
 
-  run-ends : Changed s c book marked failed (changeRun s st (updateOf st c) (progress first Passed [] []))
-  run-ends = then-ends _ (phase.data-ends s mask-bytes first called st c book marked failed marks agrees proper)
+  run-ends : first .chip .interface .protected ≡ 0 → Changed s c book marked failed (changeRun s st (updateOf st c) (progress first Passed [] []))
+  run-ends high = then-ends _ (phase.data-ends s mask-bytes first called st c book marked failed marks agrees proper high)
 
-pub change-ends : (s : Setting) (d : Device) (n : ℕ) (st : State) (c : Change) (book : Book) (marked failed : ℕ → Bool) → Bytes (s .mask) → Called s (callLine d n)
+pub change-ends : (s : Setting) (d : Device) (n : ℕ) (st : State) (c : Change) (book : Book) (marked failed : ℕ → Bool) → Bytes (s .mask) → Called s (callLine d n) → callLine d n .chip .interface .protected ≡ 0
     → MarkedBy (s .geometry) (d .array) marked → Agrees (s .geometry) (d .array) st book failed → Proper (s .geometry) c → Changed s c book marked failed (changeCall s d n st (updateOf st c))
-change-ends s d n st c book marked failed mask-bytes called marks agrees proper = run-ends s mask-bytes (callLine d n) called st c book marked failed marks agrees proper
+change-ends s d n st c book marked failed mask-bytes called high marks agrees proper = run-ends s mask-bytes (callLine d n) called st c book marked failed marks agrees proper high

@@ -8,7 +8,7 @@ use native.Mathlib.Omega.{arith}
 use borrow.Table.Steps.{cases}
 use borrow.Author.Tests.{eqb-true, eqb-false, ne-eqb}
 use lib.Dec.{eqb}
-use lib.ListN.{length, getD}
+use lib.ListN.{getD}
 use Rattle.geometry.specs.declared.Geometry.{Geometry}
 use Rattle.geometry.specs.Limits.{Valid}
 use Rattle.geometry.specs.Sizes.{chipSize}
@@ -18,7 +18,7 @@ use Rattle.bitmaps.specs.Bitmap.{bitAt, withBit}
 use Rattle.bitmaps.proofs.BitmapLaws.{Bitmap, bits-more}
 use Rattle.chip_array.specs.Device.{Setting}
 use Rattle.bus.specs.Line.{Line}
-use Rattle.bus_polling.specs.Outcomes.{isPassed, isFailed, isSilent, isCut, isIllegal}
+use Rattle.bus_polling.specs.Outcomes.{isPassed, isFailed, isSilent, isCut, isIllegal, isProtected}
 use Rattle.bus_polling.specs.declared.Outcome.the-variants.{Passed}
 use Rattle.bus_polling.proofs.OutcomeLaws.{passed-answered, failed-answered, passed-unfailed, unfailed-end}
 use Rattle.operations.specs.Ends.{Called}
@@ -36,7 +36,7 @@ use Rattle.state.specs.declared.State.{State}
 use Rattle.state.proofs.HeldLaws.{held-table, held-entry}
 use Rattle.request.specs.Call.{stopAnswer}
 use Rattle.request.proofs.CallLaws.{stop-answer, stop-silent, stop-cut}
-use Rattle.progress.specs.Progress.{Progress, progress}
+use Rattle.progress.specs.Progress.{Progress, progress, lineOf}
 use Rattle.progress.specs.Steps.{resumed}
 use Rattle.fill.specs.Fill.{copy, copyPage, dataSource}
 use Rattle.fill.proofs.KeepLaws.{filled-keeps}
@@ -162,6 +162,7 @@ module _ (s : Setting) (mask-bytes : Bytes (s .mask)) (first : Line) (called : C
     pub passed : isPassed (p .outcome) ≡ true
     pub sound : Sound s p
     pub long : Long (chipSize g) p
+    pub high : lineOf p ≡ 0
     pub rest : Rest (st .number) (st .invalid) (p .line .chip .array) (p .started)
     pub clean : failed ≡ false → st .invalid ≡ st₀ .invalid
 
@@ -173,6 +174,7 @@ module _ (s : Setting) (mask-bytes : Bytes (s .mask)) (first : Line) (called : C
     pub passed : isPassed (p .outcome) ≡ true
     pub sound : Sound s p
     pub long : Long (chipSize g) p
+    pub high : lineOf p ≡ 0
     pub stored : Stored g (p .line .chip .array)
     pub table-is : currentTable g (p .line .chip .array) ≡ at t
     pub table-same : blockIn g (p .line .chip .array) t ≡ blockIn g array₀ t
@@ -223,14 +225,15 @@ module _ (s : Setting) (mask-bytes : Bytes (s .mask)) (first : Line) (called : C
       none-more : (b : ℕ) → failedAfter failed₀ [] b ≡ true → failed₀ b ≡ true
       none-more b e = cases (failed₀ b) (λ y. y) (λ f. clash e (rw f))
 
-  pub mid-first : Mid st₀ false (progress first Passed [] [])
-  unfolding isPassed isIllegal isCut isSilent isFailed
-  mid-first =
+  pub mid-first : first .chip .interface .protected ≡ 0 → Mid st₀ false (progress first Passed [] [])
+  unfolding isPassed isIllegal isCut isSilent isFailed isProtected
+  mid-first high =
       record {
         state-is = refl;
         passed = refl;
-        sound = record { legal = called .legal; known = refl; used-up = λ e. clash e refl; silent-by = λ e. clash e refl; failed-by = λ e. clash e refl; called = λ e. called };
+        sound = record { legal = called .legal; known = refl; unprotected = refl; used-up = λ e. clash e refl; silent-by = λ e. clash e refl; failed-by = λ e. clash e refl; called = λ e. called };
         long = called .array-long;
+        high = high;
         rest = rest-first;
         clean = λ e. refl;
       }
@@ -299,7 +302,7 @@ module _ (s : Setting) (mask-bytes : Bytes (s .mask)) (first : Line) (called : C
 
     -- the whole fill in one call
     plain-try : tries.Tried s p (copyFilled s u st b p) t b pages
-    plain-try = tries.tried s mask-bytes p (m .passed) p-called t b (r .stored) (r .table-is) free (copy dataKind logical n) fits main (x .long) (x .bytes) _ meant
+    plain-try = tries.tried s mask-bytes p (m .passed) p-called (m .high) t b (r .stored) (r .table-is) free (copy dataKind logical n) fits main (x .long) (x .bytes) _ meant
 
     plain-long : Long (chipSize g) (copyFilled s u st b p)
     plain-long = filled-keeps s (Long (chipSize g)) (long-kept s (chipSize g)) b _ _ p (m .long)
@@ -427,6 +430,9 @@ module _ (s : Setting) (mask-bytes : Bytes (s .mask)) (first : Line) (called : C
       came : ((isPassed (q .outcome) ≡ false) × tries.Quiet g before after t b adds) ⊎ tries.Made g before after b pages adds
       came = try .comes long
 
+      high-next : lineOf q ≡ 0
+      high-next = try .leaves .same-line ∙ m .high
+
       rest-next : Rest (n + 1) more-invalid after (q .started)
       rest-next = subst (Rest (n + 1) more-invalid after) (sym (try .touched .started-is)) (⊎-elim (λ k. rest-quiet (k .1)) rest-made came)
 
@@ -451,6 +457,7 @@ module _ (s : Setting) (mask-bytes : Bytes (s .mask)) (first : Line) (called : C
               passed = y;
               sound = try .leaves .sound;
               long = long;
+              high = high-next;
               stored = rest-next .stored;
               table-is = rest-next .table-is;
               table-same = rest-next .kept t table-below table-held;
@@ -473,13 +480,14 @@ module _ (s : Setting) (mask-bytes : Bytes (s .mask)) (first : Line) (called : C
 
       -- it failed: the block is invalid, and another is tried
       pub data-failed : isFailed (q .outcome) ≡ true → Mid (withInvalid b (taken st)) true (resumed q)
-      unfolding isPassed isIllegal isCut isSilent isFailed
+      unfolding isPassed isIllegal isCut isSilent isFailed isProtected
       data-failed w =
           record {
             state-is = ap (λ (z : State). withInvalid b (taken z)) (m .state-is);
             passed = refl;
-            sound = record { legal = try .leaves .sound .legal; known = refl; used-up = λ e. clash e refl; silent-by = λ e. clash e refl; failed-by = λ e. clash e refl; called = λ e. try .leaves .sound .called (failed-answered (q .outcome) w) };
+            sound = record { legal = try .leaves .sound .legal; known = refl; unprotected = refl; used-up = λ e. clash e refl; silent-by = λ e. clash e refl; failed-by = λ e. clash e refl; called = λ e. try .leaves .sound .called (failed-answered (q .outcome) w) };
             long = long;
+            high = high-next;
             rest = rest-next;
             clean = λ e. clash refl e;
           }
@@ -487,7 +495,7 @@ module _ (s : Setting) (mask-bytes : Bytes (s .mask)) (first : Line) (called : C
       -- it was silent or cut
       pub data-stopped : isPassed (q .outcome) ≡ false → isFailed (q .outcome) ≡ false → Ends (stoppedAt q)
       data-stopped n f =
-          let which = stop-answer (q .outcome) (unfailed-end (q .outcome) (try .leaves .sound .known) f) n in
+          let which = stop-answer (q .outcome) (unfailed-end (q .outcome) (try .leaves .sound .known) f (try .leaves .sound .unprotected)) n in
           record {
             done = λ z. absurd (⊎-elim (λ e. omega (arith, e, z)) (λ e. omega (arith, e, z)) which);
             halted = λ z.
@@ -541,5 +549,5 @@ module _ (s : Setting) (mask-bytes : Bytes (s .mask)) (first : Line) (called : C
         stopped = λ st f p m h b l may n w. data-stopped st f p m h b l may (copyFilled s u st b p) (plain-try st f p m h b l may) (plain-long st f p m h b l may) n w;
       }
 
-  pub data-ends : Ends (copiesFilled s held u (numbersLeft st₀) false st₀ (progress first Passed [] []))
-  data-ends = copies-end s held u Mid Ends copying (numbersLeft st₀) st₀ false (progress first Passed [] []) mid-first refl
+  pub data-ends : first .chip .interface .protected ≡ 0 → Ends (copiesFilled s held u (numbersLeft st₀) false st₀ (progress first Passed [] []))
+  data-ends high = copies-end s held u Mid Ends copying (numbersLeft st₀) st₀ false (progress first Passed [] []) (mid-first high) refl

@@ -7,7 +7,7 @@ use lib.ListN.{length}
 use Rattle.geometry.specs.Sizes.{chipSize}
 use Rattle.chip_array.specs.Device.{Setting}
 use Rattle.bus.specs.Line.{Line, uncutLine}
-use Rattle.bus_polling.specs.Outcomes.{isFailed, isIllegal, isCut, isSilent}
+use Rattle.bus_polling.specs.Outcomes.{isFailed, isIllegal, isCut, isSilent, isProtected}
 use Rattle.bus_polling.specs.declared.Outcome.the-variants.{Passed}
 use Rattle.operations.specs.Ends.{Called}
 use Rattle.operations.specs.Trace.{ArrayOperation}
@@ -28,6 +28,6 @@ holding-called s l called array e =
     record { is-valid = called .is-valid; array-long = e; register-long = called .register-long; history-long = called .history-long; mask-long = called .mask-long; ready = called .ready; legal = called .legal; uncut = refl }
 
 pub standing-sound : (s : Setting) (l : Line) → Called s l → (array : List ℕ) → length array ≡ chipSize (s .geometry) → (before : List ArrayOperation) → Sound s (standing l array before)
-unfolding isIllegal isCut isSilent isFailed
+unfolding isIllegal isCut isSilent isFailed isProtected
 standing-sound s l called array e before =
-    record { legal = called .legal; known = refl; used-up = λ e. clash e refl; silent-by = λ e. clash e refl; failed-by = λ e. clash e refl; called = λ y. holding-called s l called array e }
+    record { legal = called .legal; known = refl; unprotected = refl; used-up = λ e. clash e refl; silent-by = λ e. clash e refl; failed-by = λ e. clash e refl; called = λ y. holding-called s l called array e }

@@ -10,7 +10,7 @@ use Rattle.cells.specs.Bytes.{Bytes}
 use Rattle.chip_array.specs.Device.{Setting, setting}
 use Rattle.chip.specs.Chip.{Cycle}
 use Rattle.bus.specs.Line.{Line}
-use Rattle.bus_polling.specs.Outcomes.{isPassed, isFailed, isIllegal, isCut, isSilent}
+use Rattle.bus_polling.specs.Outcomes.{isPassed, isFailed, isIllegal, isCut, isSilent, isProtected}
 use Rattle.bus_polling.specs.declared.Outcome.the-variants.{Passed}
 use Rattle.operations.specs.Ends.{Called}
 use Rattle.operations.specs.Trace.{ArrayOperation}
@@ -31,7 +31,7 @@ use Rattle.recovery_write.proofs.ActLaws.At.{before-data, erase-data, i
 
 module _ (g : Geometry) (mask fates : List ℕ) (mask-bytes : Bytes mask) (first : Line) (called : Called (setting g mask fates) first) (st₀ : State) (c : Change) (book : Book) (marked₀ failed₀ : ℕ → Bool)
     (marks₀ : MarkedBy g (first .chip .array) marked₀) (agrees : Agrees g (first .chip .array) st₀ book failed₀) (proper : Proper g c)
-    (mask' fates' : List ℕ) (mask-bytes' : Bytes mask') (l' : Line) (called' : Called (setting g mask' fates') l') (first-called' : Called (setting g mask' fates') (holding l' (first .chip .array))) where
+    (mask' fates' : List ℕ) (mask-bytes' : Bytes mask') (l' : Line) (called' : Called (setting g mask' fates') l') (high' : l' .chip .interface .protected ≡ 0) (first-called' : Called (setting g mask' fates') (holding l' (first .chip .array))) where
   -- the call before, and this one
   abbrev s : Setting
   s = setting g mask fates
@@ -70,6 +70,7 @@ module _ (g : Geometry) (mask fates : List ℕ) (mask-bytes : Bytes mask) (first
         passed = refl;
         sound = standing-sound s' l' called' (p .line .chip .array) (d .long) (p .started);
         long = d .long;
+        high = high';
         stored = d .stored;
         table-is = d .table-is;
         table-same = d .table-same;
@@ -119,8 +120,8 @@ module _ (g : Geometry) (mask fates : List ℕ) (mask-bytes : Bytes mask) (first
     here = progress l' Passed cs (p .started)
 
     here-sound : Sound s' here
-    unfolding isIllegal isCut isSilent isFailed
-    here-sound = record { legal = called' .legal; known = refl; used-up = λ e. clash e refl; silent-by = λ e. clash e refl; failed-by = λ e. clash e refl; called = λ y. called' }
+    unfolding isIllegal isCut isSilent isFailed isProtected
+    here-sound = record { legal = called' .legal; known = refl; unprotected = refl; used-up = λ e. clash e refl; silent-by = λ e. clash e refl; failed-by = λ e. clash e refl; called = λ y. called' }
 
     mid-any : (st : State) (f : Bool) → phase.Mid s mask-bytes first called st₀ c book marked₀ failed₀ marks₀ agrees proper st f p → phase.Mid s' mask-bytes' (holding l' (first .chip .array)) first-called' st₀ c book marked₀ failed₀ marks₀ agrees proper st f here
     unfolding isPassed
@@ -130,6 +131,7 @@ module _ (g : Geometry) (mask fates : List ℕ) (mask-bytes : Bytes mask) (first
           passed = refl;
           sound = here-sound;
           long = called' .array-long;
+          high = high';
           rest = subst (λ (a : List ℕ). phase.Rest s' mask-bytes' (holding l' (first .chip .array)) first-called' st₀ c book marked₀ failed₀ marks₀ agrees proper (st .number) (st .invalid) a (p .started)) (sym same) (rest-any (st .number) (st .invalid) (p .line .chip .array) (p .started) (m .rest));
           clean = m .clean;
         }
@@ -143,6 +145,7 @@ module _ (g : Geometry) (mask fates : List ℕ) (mask-bytes : Bytes mask) (first
           passed = refl;
           sound = here-sound;
           long = called' .array-long;
+          high = high';
           table = m .table;
           rest = subst (λ (a : List ℕ). tables.Rest s' mask-bytes' (holding l' (first .chip .array)) first-called' st₀ c book marked₀ failed₀ marks₀ agrees proper st₁ f₁ (standing l' (p₁ .line .chip .array) (p₁ .started)) (done-any st₁ f₁ p₁ d) (st .number) (st .invalid) (m .table) a (p .started)) (sym same)
               (table-rest-any st₁ f₁ p₁ d (st .number) (st .invalid) (m .table) (p .line .chip .array) (p .started) (m .rest));
@@ -171,6 +174,7 @@ module _ (g : Geometry) (mask fates : List ℕ) (mask-bytes : Bytes mask) (first
           page-below = w .page-below;
           line = l';
           line-called = called';
+          line-high = high';
           cycles = cs;
           started = p .started;
           stands = subst (Paused g (w .A) (w .before) (w .block) (act.dataPages s' mask-bytes' (holding l' (first .chip .array)) first-called' st₀ c book marked₀ failed₀ marks₀ agrees proper (w .st .number)) (w .page) (l' .chip)) (sym (ap (λ (z : Progress). z .started) (w .p-is)))
@@ -201,6 +205,7 @@ module _ (g : Geometry) (mask fates : List ℕ) (mask-bytes : Bytes mask) (first
           page-below = w .page-below;
           line = l';
           line-called = called';
+          line-high = high';
           cycles = cs;
           started = p .started;
           stands = subst (Paused g (w .A) (w .before) (w .block) (act.tablePages s' mask-bytes' (holding l' (first .chip .array)) first-called' st₀ c book marked₀ failed₀ marks₀ agrees proper (w .st .number) (w .st .invalid)) (w .page) (l' .chip)) (sym (ap (λ (z : Progress). z .started) (w .p-is)))

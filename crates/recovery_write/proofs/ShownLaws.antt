@@ -76,11 +76,11 @@ module _ (s : Setting) (mask-bytes : Bytes (s .mask)) (first : Line) (called : C
   at-shown (in-data w) h =
       subst Shows (sym (w .p-is))
       (halted-shown s c book marked₀ failed₀ 11 _
-      (pause.paused-halted s mask-bytes first called st₀ c book marked₀ failed₀ marks₀ agrees proper (spentLine (w .line)) (spent-called s (w .line) (w .line-called)) (w .st) (w .failed) (w .fits) (w .A) (w .long-A) (w .before) (w .state-is) (w .rest) (w .clean) (w .block) (w .below) (w .may) (w .page) (w .started) (w .stands) (w .cycles) refl))
+      (pause.paused-halted s mask-bytes first called st₀ c book marked₀ failed₀ marks₀ agrees proper (spentLine (w .line)) (spent-called s (w .line) (w .line-called)) (w .line-high) (w .st) (w .failed) (w .fits) (w .A) (w .long-A) (w .before) (w .state-is) (w .rest) (w .clean) (w .block) (w .below) (w .may) (w .page) (w .started) (w .stands) (w .cycles) refl))
   at-shown {r} {p} (before-table st₁ p₁ d w) h = table-shown st₁ p₁ d (w .st) p (w .mid)
   at-shown {r} {p} (erase-table st₁ p₁ d w) h = table-shown st₁ p₁ d (w .st) p (w .mid)
   at-shown (in-table st₁ p₁ d w) h =
       subst Shows (sym (w .p-is))
       (halted-shown s c book marked₀ failed₀ 11 _
-      (table-pause.paused-halted s mask-bytes first called st₀ c book marked₀ failed₀ marks₀ agrees proper (spentLine (w .line)) (spent-called s (w .line) (w .line-called)) st₁ true p₁ d (w .st) (w .fits) (w .A) (w .long-A) (w .before) (w .state-is) (w .table) (w .rest) (w .block) (w .below) (w .may) (w .page) (w .started) (w .stands) (w .cycles) refl))
+      (table-pause.paused-halted s mask-bytes first called st₀ c book marked₀ failed₀ marks₀ agrees proper (spentLine (w .line)) (spent-called s (w .line) (w .line-called)) (w .line-high) st₁ true p₁ d (w .st) (w .fits) (w .A) (w .long-A) (w .before) (w .state-is) (w .table) (w .rest) (w .block) (w .below) (w .may) (w .page) (w .started) (w .stands) (w .cycles) refl))
   at-shown (has-ended w) h = absurd (omega (arith, h, ap (λ (x : Running). x .cursor .phase) (w .r-is)))

@@ -70,7 +70,7 @@ module _ (g : Geometry) (array₀ : List ℕ) (long₀ : length array₀ ≡ chi
       (at-shown (setting g (w .mask') (w .fates')) (w .mask-bytes') (holding (w .l') array₀) (holding-called (setting g (w .mask') (w .fates')) (w .l') (w .called') array₀ long₀) st₀ c book marked₀ failed₀ marks₀ agrees proper (w .is-at) (w .unended)))
 
   -- a call
-  module _ (mask' fates' : List ℕ) (mask-bytes' : Bytes mask') (l' : Line) (called' : Called (setting g mask' fates') l') (cs : List Cycle) where
+  module _ (mask' fates' : List ℕ) (mask-bytes' : Bytes mask') (l' : Line) (called' : Called (setting g mask' fates') l') (high' : l' .chip .interface .protected ≡ 0) (cs : List Cycle) where
     abbrev s' : Setting
     s' = setting g mask' fates'
 
@@ -87,7 +87,7 @@ module _ (g : Geometry) (array₀ : List ℕ) (long₀ : length array₀ ≡ chi
           l' = l';
           called' = called';
           p = progress (holding l' array₀) Passed [] [];
-          is-at = act.at-first (setting g mask' fates') mask-bytes' (holding l' array₀) (holding-called (setting g mask' fates') l' called' array₀ long₀) st₀ c book marked₀ failed₀ marks₀ agrees proper;
+          is-at = act.at-first (setting g mask' fates') mask-bytes' (holding l' array₀) (holding-called (setting g mask' fates') l' called' array₀ long₀) st₀ c book marked₀ failed₀ marks₀ agrees proper high';
           unended = omega arith;
           array-is = sym e;
           history-is = refl;
@@ -100,7 +100,7 @@ module _ (g : Geometry) (array₀ : List ℕ) (long₀ : length array₀ ≡ chi
       stands-at =
           subst (λ (x : List ArrayOperation). At' r (progress l' Passed cs x)) (w .started-is)
           (at-any g (w .mask') (w .fates') (w .mask-bytes') (holding (w .l') array₀) (holding-called (setting g (w .mask') (w .fates')) (w .l') (w .called') array₀ long₀) st₀ c book marked₀ failed₀ marks₀ agrees proper
-          mask' fates' mask-bytes' l' called' (holding-called s' l' called' array₀ long₀) (w .p) (sym (w .array-is)) (sym (w .history-is)) cs (w .is-at) (w .unended))
+          mask' fates' mask-bytes' l' called' high' (holding-called s' l' called' array₀ long₀) (w .p) (sym (w .array-is)) (sym (w .history-is)) cs (w .is-at) (w .unended))
 
       module _ (n left : ℕ) where
         abbrev came : Ran

@@ -21,7 +21,7 @@ use Rattle.bitmaps.specs.Bitmap.{bitAt, withBit}
 use Rattle.bitmaps.proofs.BitmapLaws.{Bitmap, bits-more}
 use Rattle.chip_array.specs.Device.{Setting}
 use Rattle.bus.specs.Line.{Line}
-use Rattle.bus_polling.specs.Outcomes.{isPassed, isFailed, isSilent, isCut, isIllegal}
+use Rattle.bus_polling.specs.Outcomes.{isPassed, isFailed, isSilent, isCut, isIllegal, isProtected}
 use Rattle.bus_polling.proofs.OutcomeLaws.{passed-answered, failed-answered, passed-unfailed, unfailed-end}
 use Rattle.operations.specs.Ends.{Called}
 use Rattle.operations.specs.Trace.{ArrayOperation}
@@ -38,7 +38,7 @@ use Rattle.state.specs.declared.State.{State}
 use Rattle.state.proofs.HeldLaws.{held-table, held-entry}
 use Rattle.request.specs.Call.{stopAnswer}
 use Rattle.request.proofs.CallLaws.{stop-answer, stop-least, stop-silent, stop-cut}
-use Rattle.progress.specs.Progress.{Progress}
+use Rattle.progress.specs.Progress.{Progress, lineOf}
 use Rattle.progress.specs.Steps.{resumed}
 use Rattle.fill.specs.Fill.{copyPage, tableCopy, tableMain, tableSource, tableFilled}
 use Rattle.fill.proofs.KeepLaws.{filled-keeps}
@@ -197,6 +197,7 @@ module _ (s : Setting) (mask-bytes : Bytes (s .mask)) (first : Line) (called : C
     pub passed : isPassed (p .outcome) ≡ true
     pub sound : Sound s p
     pub long : Long (chipSize g) p
+    pub high : lineOf p ≡ 0
     pub table : ℕ
     pub rest : Rest (st .number) (st .invalid) table (p .line .chip .array) (p .started)
 
@@ -207,6 +208,7 @@ module _ (s : Setting) (mask-bytes : Bytes (s .mask)) (first : Line) (called : C
         passed = d .passed;
         sound = d .sound;
         long = d .long;
+        high = d .high;
         table = t;
         rest = record {
           stored = d .stored;
@@ -304,7 +306,7 @@ module _ (s : Setting) (mask-bytes : Bytes (s .mask)) (first : Line) (called : C
 
     -- the whole fill in one call
     plain-try : tries.Tried s p (tableFilled s b (nextNumber st) invalid p) table b pages
-    plain-try = tries.tried s mask-bytes p (m .passed) p-called table b (r .stored) (r .table-is) free (tableCopy n) fits (tableMain g invalid) main-long main-bytes _ meant
+    plain-try = tries.tried s mask-bytes p (m .passed) p-called (m .high) table b (r .stored) (r .table-is) free (tableCopy n) fits (tableMain g invalid) main-long main-bytes _ meant
 
     plain-long : Long (chipSize g) (tableFilled s b (nextNumber st) invalid p)
     plain-long = filled-keeps s (Long (chipSize g)) (long-kept s (chipSize g)) b _ _ p (m .long)
@@ -414,13 +416,14 @@ module _ (s : Setting) (mask-bytes : Bytes (s .mask)) (first : Line) (called : C
           (λ k. record { now = b; rest = subst (Rest (n + 1) more-invalid b after) (sym (try .touched .started-is)) (rest-made k) }) came
 
       pub table-failed : isFailed (q .outcome) ≡ true → Mid (withInvalid b (taken st)) (resumed q)
-      unfolding isPassed isIllegal isCut isSilent isFailed
+      unfolding isPassed isIllegal isCut isSilent isFailed isProtected
       table-failed w =
           record {
             state-is = ap (λ (z : State). withInvalid b (taken z)) (m .state-is);
             passed = refl;
-            sound = record { legal = try .leaves .sound .legal; known = refl; used-up = λ e. clash e refl; silent-by = λ e. clash e refl; failed-by = λ e. clash e refl; called = λ e. try .leaves .sound .called (failed-answered (q .outcome) w) };
+            sound = record { legal = try .leaves .sound .legal; known = refl; unprotected = refl; used-up = λ e. clash e refl; silent-by = λ e. clash e refl; failed-by = λ e. clash e refl; called = λ e. try .leaves .sound .called (failed-answered (q .outcome) w) };
             long = long;
+            high = try .leaves .same-line ∙ m .high;
             table = next .now;
             rest = next .rest;
           }
@@ -428,7 +431,7 @@ module _ (s : Setting) (mask-bytes : Bytes (s .mask)) (first : Line) (called : C
       -- it was silent or cut
       pub table-stopped : isPassed (q .outcome) ≡ false → isFailed (q .outcome) ≡ false → Halted s c book marked₀ failed₀ (stopAnswer (q .outcome)) q
       table-stopped y f =
-          let which = stop-answer (q .outcome) (unfailed-end (q .outcome) (try .leaves .sound .known) f) y in
+          let which = stop-answer (q .outcome) (unfailed-end (q .outcome) (try .leaves .sound .known) f (try .leaves .sound .unprotected)) y in
           record {
             answers = ⊎-elim (λ e. subst ChangeAnswer (sym e) is-silent) (λ e. subst ChangeAnswer (sym e) is-cut) which;
             legal = try .leaves .sound .legal;

@@ -39,7 +39,7 @@ use Rattle.recovery_write.proofs.TableLaws as tables
 
 module _ (s : Setting) (mask-bytes : Bytes (s .mask)) (first : Line) (first-called : Called s first) (st₀ : State) (c : Change) (book : Book) (marked₀ failed₀ : ℕ → Bool)
     (marks₀ : MarkedBy (s .geometry) (first .chip .array) marked₀) (agrees : Agrees (s .geometry) (first .chip .array) st₀ book failed₀) (proper : Proper (s .geometry) c)
-    (l : Line) (called : Called s l) where
+    (l : Line) (called : Called s l) (high : l .chip .interface .protected ≡ 0) where
   abbrev g : Geometry
   g = s .geometry
 
@@ -54,7 +54,7 @@ module _ (s : Setting) (mask-bytes : Bytes (s .mask)) (first : Line) (first-call
 
     mid : tables.Mid s mask-bytes first first-called st₀ c book marked₀ failed₀ marks₀ agrees proper st₁ f₁ p₁ d st from
     unfolding isPassed
-    mid = record { state-is = state-is; passed = refl; sound = standing-sound s l called A long-A before; long = long-A; table = table; rest = rest }
+    mid = record { state-is = state-is; passed = refl; sound = standing-sound s l called A long-A before; long = long-A; high = high; table = table; rest = rest }
 
     abbrev pages : ℕ → List ℕ
     pages i = copyPage g (tableCopy (st .number)) i (tableMain g (st .invalid) i)
@@ -68,8 +68,8 @@ module _ (s : Setting) (mask-bytes : Bytes (s .mask)) (first : Line) (first-call
     paused-halted n started w cs out =
         tables.table-stopped s mask-bytes first first-called st₀ c book marked₀ failed₀ marks₀ agrees proper st₁ f₁ p₁ d st from mid number-fits b below may (progress l Cut cs started)
         (tables.tried-so s mask-bytes first first-called st₀ c book marked₀ failed₀ marks₀ agrees proper st₁ f₁ p₁ d st from mid number-fits b below may (progress l Cut cs started)
-        (paused.cut-leaves s l called A before b below pages n started w (tableCopy (st .number)) (tableSource g (st .invalid)) meant mask-bytes cs out)
-        (paused.cut-touches s l called A before b below pages n started w (tableCopy (st .number)) (tableSource g (st .invalid)) meant mask-bytes cs out))
+        (paused.cut-leaves s l called high A before b below pages n started w (tableCopy (st .number)) (tableSource g (st .invalid)) meant mask-bytes cs out)
+        (paused.cut-touches s l called high A before b below pages n started w (tableCopy (st .number)) (tableSource g (st .invalid)) meant mask-bytes cs out))
         (called .array-long) refl refl
 
     -- it stands at page n, and that page is filled
@@ -82,17 +82,17 @@ module _ (s : Setting) (mask-bytes : Bytes (s .mask)) (first : Line) (first-call
 
       -- it passed, and another page is due: paused again, for a call with any other setting
       pub pauses : isPassed (next .outcome) ≡ true → Paused g A before b pages (suc n) (next .line .chip) (next .started)
-      pauses = paused.paused-next s l called A before b below pages n started w (tableCopy (st .number)) (tableSource g (st .invalid)) meant mask-bytes cs page-below
+      pauses = paused.paused-next s l called high A before b below pages n started w (tableCopy (st .number)) (tableSource g (st .invalid)) meant mask-bytes cs page-below
 
       -- and the chip takes the next command
       pub page-called : isPassed (next .outcome) ≡ true → Called s (next .line)
-      page-called y = paused.leaves-next s l called A before b below pages n started w (tableCopy (st .number)) (tableSource g (st .invalid)) meant mask-bytes cs page-below .sound .called (passed-answered (next .outcome) y)
+      page-called y = paused.leaves-next s l called high A before b below pages n started w (tableCopy (st .number)) (tableSource g (st .invalid)) meant mask-bytes cs page-below .sound .called (passed-answered (next .outcome) y)
 
       module _ (last : isPassed (next .outcome) ≡ true → suc n ≡ g .pages) where
         try : tries.Tried s from next (mid .table) b pages
         try = tables.tried-so s mask-bytes first first-called st₀ c book marked₀ failed₀ marks₀ agrees proper st₁ f₁ p₁ d st from mid number-fits b below may next
-            (paused.ended-leaves s l called A before b below pages n started w (tableCopy (st .number)) (tableSource g (st .invalid)) meant mask-bytes cs page-below last)
-            (paused.ended-touches s l called A before b below pages n started w (tableCopy (st .number)) (tableSource g (st .invalid)) meant mask-bytes cs page-below)
+            (paused.ended-leaves s l called high A before b below pages n started w (tableCopy (st .number)) (tableSource g (st .invalid)) meant mask-bytes cs page-below last)
+            (paused.ended-touches s l called high A before b below pages n started w (tableCopy (st .number)) (tableSource g (st .invalid)) meant mask-bytes cs page-below)
 
         -- it was the last and passed: acknowledged
         pub page-done : isPassed (next .outcome) ≡ true → Changed s c book marked₀ failed₀ (tabled next 0 (withTable b (taken st)))

@@ -1,9 +1,9 @@
 -- What one fill leaves of the array and of the trace, by whether its block comes to hold the new copy. Assumes nothing.
-use Prim.Native.Nat.{ℕ, _+_, _≤_, _<_}
-use mathlib.Core.Bool.{Bool, true, false, cond}
-use mathlib.Core.List.{List, _++_}
+use Prim.Native.Nat.{ℕ, _<_}
+use mathlib.Core.Bool.{Bool, true, false}
+use mathlib.Core.List.{List}
 use mathlib.Core.Logic.{_⊎_, inl, inr, ⊎-elim}
-use mathlib.Core.Path.{_≡_, refl, sym, ap, ap₂, subst, _∙_}
+use mathlib.Core.Path.{_≡_, refl, sym, ap, ap₂, _∙_}
 use native.Mathlib.Omega.{arith}
 use borrow.Table.Steps.{cases}
 use lib.ListN.{length, replicate}
@@ -20,12 +20,12 @@ use Rattle.operations.specs.Trace.{ArrayOperation}
 use Rattle.pages.specs.Layout.{whole}
 use Rattle.pages.specs.Over.{Over}
 use Rattle.pages.proofs.LayoutLaws.{erased-not-whole}
-use Rattle.copies.specs.Blocks.{blockIn, pageIn, isMarked, isComplete}
+use Rattle.copies.specs.Blocks.{blockIn, pageIn, isComplete}
 use Rattle.copies.specs.Pick.{at}
 use Rattle.copies.specs.Table.{lists}
 use Rattle.copies.specs.Current.{currentTable}
 use Rattle.copies.proofs.CompleteLaws.{complete-pages}
-use Rattle.progress.specs.Progress.{Progress}
+use Rattle.progress.specs.Progress.{Progress, lineOf}
 use Rattle.fill.specs.Fill.{Copy, Source, copyPage, filled}
 use Rattle.damage.specs.Run.{Labelled, Meant, Filled, fillMost}
 use Rattle.damage.specs.Touched.{Each, Some, Programs, Unfinished, Touch, TouchedBy, Before, Since, Touched}
@@ -176,10 +176,10 @@ module _ (s : Setting) (mask-bytes : Bytes (s .mask)) (p : Progress)
   tried-from =
       record { leaves = try-leaves; touched = try-touches; spares = try-spares; elsewhere = try-elsewhere; comes = try-comes }
 
-pub tried : (s : Setting) → Bytes (s .mask) → (p : Progress) → isPassed (p .outcome) ≡ true → Called s (p .line)
+pub tried : (s : Setting) → Bytes (s .mask) → (p : Progress) → isPassed (p .outcome) ≡ true → Called s (p .line) → lineOf p ≡ 0
     → (t b : ℕ) → Stored (s .geometry) (p .line .chip .array) → currentTable (s .geometry) (p .line .chip .array) ≡ at t → Free (s .geometry) (p .line .chip .array) t b
     → (c : Copy) → Labelled c → (main : ℕ → List ℕ) → ((i : ℕ) → i < s .geometry .pages → length (main i) ≡ s .geometry .main) → ((i : ℕ) → i < s .geometry .pages → Bytes (main i))
     → (source : ℕ → Source) → Meant s (p .line .chip .array) b c source (λ i. copyPage (s .geometry) c i (main i)) → Tried s p (filled s b c source p) t b (λ i. copyPage (s .geometry) c i (main i))
-tried s mask-bytes p passed called t b stored table-is free c labelled main main-long main-bytes source meant =
+tried s mask-bytes p passed called high t b stored table-is free c labelled main main-long main-bytes source meant =
     tried-from s mask-bytes p t b stored table-is free c labelled main main-long main-bytes (filled s b c source p)
-    (fill-leaves s p b (free .below) c source _ meant mask-bytes passed called) (fill-touches s p b (free .below) c source _ meant mask-bytes passed called)
+    (fill-leaves s p b (free .below) c source _ meant mask-bytes high passed called) (fill-touches s p b (free .below) c source _ meant mask-bytes high passed called)

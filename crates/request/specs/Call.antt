@@ -57,10 +57,10 @@ sized g a r h m = cond (fitting g a r h) (eqb m (blockSize g)) false
 abbrev pub sizedFor : Setting → Device → Bool
 sizedFor s d = sized (s .geometry) (length (d .array)) (length (d .register)) (length (d .history)) (length (s .mask))
 
--- each call has fate words of its own
+-- each call has fate words of its own; the write-protect line is taken as high
 abbrev pub freshInterface : Interface → Interface
 freshInterface i =
-    record { phase = i .phase; count = i .count; address = i .address; first = i .first; column = i .column; operation = i .operation; busy = i .busy; failed = i .failed; loaded = i .loaded; fate = 0; illegal = 0 }
+    record { phase = i .phase; count = i .count; address = i .address; first = i .first; column = i .column; operation = i .operation; busy = i .busy; failed = i .failed; loaded = i .loaded; fate = 0; illegal = 0; protected = 0 }
 
 -- the line on which a call begins that may send n cycles
 abbrev pub callLine : Device → ℕ → Line

@@ -32,12 +32,14 @@ pub fn is_sized(g: Geometry, array: usize, register: usize, history: usize, mask
     false
 }
 
-// The bus where a call begins: its fate words start anew, and no cycle was answered illegal.
+// The bus where a call begins: its fate words start anew, no cycle was answered illegal, and the
+// write-protect line is taken as high.
 pub fn begin(mut interface: Interface, allowed: u32) -> Bus
     ensures { λ r. ⌜ r ≡ newBus (freshInterface interface) allowed ⌝ }
 {
     interface.fate = 0;
     interface.illegal = 0;
+    interface.protected = 0;
     Bus::new(interface, allowed)
 }
 
@@ -51,6 +53,7 @@ pub fn stop_answer(outcome: Outcome) -> usize
         Outcome::Silent => 10,
         Outcome::Cut => 11,
         Outcome::Illegal => 255,
+        Outcome::Protected => 255,
     }
 }
 

@@ -14,7 +14,7 @@ use Rattle.geometry.specs.Sizes.{rowOf}
 use Rattle.geometry.proofs.SizeLaws.{row-below}
 use Rattle.chip_interface.specs.Interface.{fateWord, busyOf}
 use Rattle.chip_array.specs.Device.{Device, Setting}
-use Rattle.bus_polling.specs.Outcomes.{isPassed, isFailed, isReadEnd, isIllegal, isCut, isSilent}
+use Rattle.bus_polling.specs.Outcomes.{isPassed, isFailed, isReadEnd, isIllegal, isProtected, isCut, isSilent}
 use Rattle.bus_polling.specs.declared.Outcome.the-variants.{Passed}
 use Rattle.operations.specs.Ends.{Called, readEnd, readTotal, wordFor}
 use Rattle.copies.specs.Blocks.{blockIn, isCopyOf}
@@ -98,10 +98,10 @@ module _ (s : Setting) (d : Device) (n : ℕ) (state : State) (logical page : �
 
   -- cut: all cycles were sent
   start-unchanged : Unchanged s (d .array) (d .history) (progress (callLine d n) Passed [] [])
-  unfolding isIllegal isCut isSilent isFailed isReadEnd
+  unfolding isIllegal isProtected isCut isSilent isFailed isReadEnd
   start-unchanged =
       record {
-        sound = record { legal = refl; known = refl; used-up = λ c. absurd (false≢true c); silent-by = λ c. absurd (false≢true c); failed-by = λ c. absurd (false≢true c); called = λ x. called };
+        sound = record { legal = refl; known = refl; unprotected = refl; used-up = λ c. absurd (false≢true c); silent-by = λ c. absurd (false≢true c); failed-by = λ c. absurd (false≢true c); called = λ x. called };
         ends = refl;
         same-array = refl;
         same-history = refl;

@@ -22,7 +22,7 @@ use Rattle.bitmaps.specs.Bitmap.{bitAt}
 use Rattle.bitmaps.proofs.BitmapLaws.{Bitmap}
 use Rattle.chip_array.specs.Device.{Device, Setting}
 use Rattle.chip_laws.proofs.ByteLaws.{run-bytes}
-use Rattle.bus_polling.specs.Outcomes.{isPassed, isFailed, isSilent, isCut, isIllegal}
+use Rattle.bus_polling.specs.Outcomes.{isPassed, isFailed, isSilent, isCut, isIllegal, isProtected}
 use Rattle.bus_polling.proofs.OutcomeLaws.{passed-answered, passed-unfailed}
 use Rattle.operations.specs.Ends.{Called}
 use Rattle.pages.specs.Layout.{dataKind}
@@ -33,7 +33,7 @@ use Rattle.state.specs.declared.State.{State}
 use Rattle.state.proofs.MountedLaws.{mounted-facts, mounted-holds}
 use Rattle.state.proofs.HeldLaws.{held-entry}
 use Rattle.request.specs.Call.{Result, sizedFor, callLine, resultOf}
-use Rattle.request.proofs.CallLaws.{sizes, stop-least}
+use Rattle.request.proofs.CallLaws.{sizes, stop-least, call-high}
 use Rattle.progress.specs.Progress.{Progress}
 use Rattle.progress.specs.Steps.{resumed}
 use Rattle.progress.proofs.CountLaws.{allowance-kept}
@@ -60,7 +60,7 @@ pub sized-valid : (s : Setting) (d : Device) → sizedFor s d ≡ true → Valid
 sized-valid s d t = sizes (s .geometry) (length (d .array)) (length (d .register)) (length (d .history)) (length (s .mask)) t .chip-fits .is-valid
 
 module _ (s : Setting) (d : Device) (n : ℕ) (st₀ : State) (u : Update) (ranged : InRange s d st₀) (is-ready : d .interface .phase ≤ 2) (sized : sizedFor s d ≡ true)
-    (is-mounted : mounted st₀ (s .geometry .blocks) (s .geometry .logical) ≡ true) (proper : meant.Proper (s .geometry) (heldBits st₀ (s .geometry .logical)) u) where
+    (is-mounted : mounted st₀ (s .geometry .blocks) (s .geometry .logical) ≡ true) (proper : meant.Proper (s .geometry) (heldBits st₀ (s .geometry .logical)) u) (high : callLine d n .chip .interface .protected ≡ 0) where
   abbrev g : Geometry
   g = s .geometry
 
@@ -116,11 +116,12 @@ module _ (s : Setting) (d : Device) (n : ℕ) (st₀ : State) (u : Update) (rang
     any-failed : c .answer ≡ 0 → c .failed ≡ flag (c .progress)
 
   mid-first : Mid st₀ first
-  unfolding isPassed isIllegal isCut isSilent isFailed failedIn
+  unfolding isPassed isIllegal isProtected isCut isSilent isFailed failedIn
   mid-first =
       record {
         passed = refl;
-        sound = record { legal = refl; known = refl; used-up = λ e. clash e refl; silent-by = λ e. clash e refl; failed-by = λ e. clash e refl; called = λ e. called };
+        sound = record { legal = refl; known = refl; unprotected = refl; used-up = λ e. clash e refl; silent-by = λ e. clash e refl; failed-by = λ e. clash e refl; called = λ e. called };
+        high = high;
         facts = facts;
         held-is = refl;
         map-long = ranged .map-long;
@@ -158,7 +159,7 @@ module _ (s : Setting) (d : Device) (n : ℕ) (st₀ : State) (u : Update) (rang
     left : Filled s p q b pages (g .pages) (fillMost g)
     left =
         fill-leaves s p b below (copy dataKind (u .logical) (nextNumber st)) (dataSource g (u .old) (u .first) (u .count) (u .bytes)) pages
-        (meant.data-meant s v held u proper (p .line .chip .array) (p-called .array-long) old-bytes (nextNumber st) fits b unheld) (ranged .mask-bytes) (x .passed) p-called
+        (meant.data-meant s v held u proper (p .line .chip .array) (p-called .array-long) old-bytes (nextNumber st) fits b unheld) (ranged .mask-bytes) (x .high) (x .passed) p-called
 
     -- it passed
     module _ (y : isPassed (q .outcome) ≡ true) where
@@ -243,6 +244,7 @@ module _ (s : Setting) (d : Device) (n : ℕ) (st₀ : State) (u : Update) (rang
         record {
           passed = done .passed;
           sound = sound₁;
+          high = done .high;
           facts = done .facts;
           held-is = refl;
           map-long = done .map-long;
@@ -260,7 +262,7 @@ module _ (s : Setting) (d : Device) (n : ℕ) (st₀ : State) (u : Update) (rang
         → Filled s p (tableFilled s b (nextNumber st) (st .invalid) p) b (meant.tablePages s v (st .invalid) x (nextNumber st) fits) (g .pages) (tableFillMost g)
     table-left st p x fits b below bits =
         fill-given s p b below (tableCopy (nextNumber st)) (tableSource g (st .invalid)) (meant.tablePages s v (st .invalid) bits (nextNumber st) fits)
-        (meant.table-meant s v (st .invalid) bits (nextNumber st) fits (p .line .chip .array) b) (ranged .mask-bytes)
+        (meant.table-meant s v (st .invalid) bits (nextNumber st) fits (p .line .chip .array) b) (ranged .mask-bytes) (x .high)
         (meant.table-given s v (st .invalid) bits (nextNumber st) fits) (x .passed) (x .sound .called (passed-answered (p .outcome) (x .passed)))
 
     table-facts : (st : State) (p : Progress) → TableMid st p → (b : ℕ) → b < g .blocks → permitted (st .marked) (st .invalid) held₁ b ≡ true → Mounted (withTable b (taken st)) (g .blocks) (g .logical)
@@ -526,7 +528,7 @@ module _ (s : Setting) (d : Device) (n : ℕ) (st : State) (ranged : InRange s d
       let a = accepts (s .geometry) (sizedFor s d) st logical page (length bytes) z in
       rw (eq-eqb (refusalOf s d st logical page bytes) 0 z)
       (change-ends s d n st (writeUpdate st logical page bytes) ranged is-ready (a .sizes-fit) (a .is-mounted)
-      (meant.write-proper (s .geometry) (sized-valid s d (a .sizes-fit)) st logical (a .logical-below) page bytes (a .buffer-long) are-bytes))
+      (meant.write-proper (s .geometry) (sized-valid s d (a .sizes-fit)) st logical (a .logical-below) page bytes (a .buffer-long) are-bytes) (call-high d n))
 
   pub erase-ends : eraseRefusal s d st logical ≡ 0 → Changing s d n st (eraseUpdate logical) (erasingLogical s d n st logical)
   unfolding resultOf eraseRequest
@@ -534,4 +536,4 @@ module _ (s : Setting) (d : Device) (n : ℕ) (st : State) (ranged : InRange s d
       let a = accepts (s .geometry) (sizedFor s d) st logical 0 (s .geometry .main) z in
       rw (eq-eqb (eraseRefusal s d st logical) 0 z)
       (change-ends s d n st (eraseUpdate logical) ranged is-ready (a .sizes-fit) (a .is-mounted)
-      (meant.erase-proper (s .geometry) (sized-valid s d (a .sizes-fit)) st logical (a .logical-below)))
+      (meant.erase-proper (s .geometry) (sized-valid s d (a .sizes-fit)) st logical (a .logical-below)) (call-high d n))

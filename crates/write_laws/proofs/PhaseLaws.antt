@@ -16,7 +16,7 @@ use Rattle.bools.proofs.BoolLaws.{clash, unless, or-none}
 use Rattle.bitmaps.specs.Bitmap.{bitAt, withBit}
 use Rattle.bitmaps.proofs.BitmapLaws.{Bitmap, bits-more, bit-more}
 use Rattle.chip_array.specs.Device.{Setting}
-use Rattle.bus_polling.specs.Outcomes.{isPassed, isFailed, isSilent, isCut, isIllegal}
+use Rattle.bus_polling.specs.Outcomes.{isPassed, isFailed, isSilent, isCut, isIllegal, isProtected}
 use Rattle.bus_polling.proofs.OutcomeLaws.{passed-answered, failed-answered, passed-unfailed, unfailed-end}
 use Rattle.operations.specs.Ends.{Called}
 use Rattle.state_choose.specs.Choose.{permitted, countPermitted}
@@ -25,7 +25,7 @@ use Rattle.state.specs.State.{blank, nextNumber, numberEnd, heldBits, taken, wi
 use Rattle.state.specs.declared.State.{State}
 use Rattle.request.specs.Call.{stopAnswer}
 use Rattle.request.proofs.CallLaws.{stop-answer, stop-least, stop-silent, stop-cut}
-use Rattle.progress.specs.Progress.{Progress}
+use Rattle.progress.specs.Progress.{Progress, lineOf}
 use Rattle.progress.specs.Steps.{resumed}
 use Rattle.damage.specs.Run.{Sound, Slow, Filled, failedIn, failedCount, blockOn}
 use Rattle.damage.proofs.TraceLaws.{or-assoc, unfailed-none}
@@ -56,6 +56,7 @@ module _ (s : Setting) (v : Valid (s .geometry)) (st₀ : State) (held : List �
   pub record Mid (st : State) (p : Progress) : Type 0 where
     pub passed : isPassed (p .outcome) ≡ true
     pub sound : Sound s p
+    pub high : lineOf p ≡ 0
     pub facts : Mounted st (g .blocks) (g .logical)
     pub held-is : heldBits st (g .logical) ≡ held
     pub map-long : length (st .map) ≡ 4096
@@ -72,6 +73,7 @@ module _ (s : Setting) (v : Valid (s .geometry)) (st₀ : State) (held : List �
   pub record Next (next : State) (q : Progress) : Type 0 where
     pub passed : isPassed (q .outcome) ≡ true
     pub called : Called s (q .line)
+    pub high : lineOf q ≡ 0
     pub facts : Mounted next (g .blocks) (g .logical)
     pub made : Made next q
     pub map-long : length (next .map) ≡ 4096
@@ -183,6 +185,7 @@ module _ (s : Setting) (v : Valid (s .geometry)) (st₀ : State) (held : List �
                   record {
                     passed = y;
                     called = left .sound .called (passed-answered (q .outcome) y);
+                    high = left .same-line ∙ m .high;
                     facts = next-facts;
                     made = next-made;
                     map-long = long;
@@ -202,7 +205,7 @@ module _ (s : Setting) (v : Valid (s .geometry)) (st₀ : State) (held : List �
 
       pub ended-stopped : isPassed (q .outcome) ≡ false → isFailed (q .outcome) ≡ false → Ended (stopAnswer (q .outcome)) (blank 2) q
       ended-stopped f w =
-          let which = stop-answer (q .outcome) (unfailed-end (q .outcome) (left .sound .known) w) f in
+          let which = stop-answer (q .outcome) (unfailed-end (q .outcome) (left .sound .known) w (left .sound .unprotected)) f in
           let least = stop-least (q .outcome) in
           record {
             answers = ⊎-elim (λ e. subst ChangeAnswer (sym e) is-silent) (λ e. subst ChangeAnswer (sym e) is-cut) which;
@@ -233,18 +236,20 @@ module _ (s : Setting) (v : Valid (s .geometry)) (st₀ : State) (held : List �
         numbers-next = omega (arith, m .numbers, failed-more (p .started) (q .started) b (was .1) failed-now (g .blocks) below)
 
         pub mid-failed : Mid (withInvalid b (taken st)) (resumed q)
-        unfolding isPassed isIllegal isCut isSilent isFailed
+        unfolding isPassed isIllegal isProtected isCut isSilent isFailed
         mid-failed =
             record {
               passed = refl;
               sound = record {
                 legal = left .sound .legal;
                 known = refl;
+                unprotected = refl;
                 used-up = λ e. clash e refl;
                 silent-by = λ e. clash e refl;
                 failed-by = λ e. clash e refl;
                 called = λ e. left .sound .called (failed-answered (q .outcome) w);
               };
+              high = left .same-line ∙ m .high;
               facts = next-invalid st (g .blocks) (g .logical) (v .blocks-most) (m .facts) b below (subst (λ (x : List ℕ). permitted (st .marked) (st .invalid) x b ≡ true) (sym (m .held-is)) may);
               held-is = m .held-is;
               map-long = m .map-long;

@@ -17,12 +17,14 @@ use Rattle.chip_interface.specs.Interface.{eraseCode}
 use Rattle.chip_array.specs.Device.{Device, Setting}
 use Rattle.chip.specs.Chip.{Cycle}
 use Rattle.chip.specs.Chip.Cycle.{command}
-use Rattle.bus.specs.Line.{Line}
+use Rattle.bus.specs.Line.{Line, sendAll}
 use Rattle.bus_polling.specs.Outcomes.{isPassed, isFailed, isSilent, isCut, answered}
-use Rattle.bus_polling.specs.Polling.{outcomeOf}
-use Rattle.bus_polling.proofs.OutcomeLaws.{passed-answered, failed-answered}
+use Rattle.bus_polling.specs.Polling.{outcomeOf, answerOf}
+use Rattle.bus_polling.proofs.PollLaws.{answer-answered}
+use Rattle.bus_sequences.specs.Cycles.{eraseCycles}
+use Rattle.bus_polling.proofs.OutcomeLaws.{passed-answered, failed-answered, guarded-same}
 use Rattle.operations.specs.Ends.{End, Lent, endOf, unreadyLine, unreadyEnd}
-use Rattle.operations.proofs.UnreadyLaws.{unready-ends, unready-register, erase-unready-line, erase-unanswered, erase-unready-sends, erase-unready-starts}
+use Rattle.operations.proofs.UnreadyLaws.{unready-ends, unready-register, unready-unanswered, erase-unready-line, erase-unanswered, erase-unready-sends, erase-unready-starts}
 use Rattle.state_choose.specs.Choose.{chosen}
 use Rattle.state_choose.specs.declared.Choice.{Choice}
 use Rattle.state_choose.specs.declared.Choice.the-variants.{Block, Worn}
@@ -31,7 +33,7 @@ use Rattle.state.specs.State.{blank, nextNumber, numberEnd, numbersLeft, heldBi
 use Rattle.state.specs.declared.State.{State}
 use Rattle.state.proofs.MountedLaws.{mounted-facts}
 use Rattle.request.specs.Call.{Result, result, sizedFor, callLine, stopAnswer, resultOf}
-use Rattle.request.proofs.CallLaws.{sizes, stop-least}
+use Rattle.request.proofs.CallLaws.{sizes, stop-least, call-high}
 use Rattle.progress.specs.Progress.{Progress, progress}
 use Rattle.progress.specs.Steps.{eraseOn}
 use Rattle.fill.specs.Fill.{copy, dataSource, filled, pagesFilled}
@@ -48,6 +50,11 @@ use Rattle.write_laws.specs.Unready.{StoppedChange, mayFill, UnreadyChan
 use Rattle.write_laws.proofs.MeantLaws as meant
 use Rattle.write_laws.proofs.ChangingLaws.{sized-valid, change-ends, change-fits}
 use Rattle.write_laws.proofs.RefusalLaws.{write-refuses-geometry, write-refuses-unmounted, write-refuses-logical, write-refuses-page, write-refuses-length, erase-refuses-geometry, erase-refuses-unmounted, erase-refuses-logical}
+
+-- what was not answered is told by the outcome alone
+answer-same : (l : Line) → answered (outcomeOf l) ≡ false → answerOf l ≡ outcomeOf l
+answer-same l f =
+    cases (eqb (l .chip .interface .protected) 0) (λ t. rw t) (λ t. rw t (guarded-same (outcomeOf l) f))
 
 stop-is : (l : Line) → stopAnswer (outcomeOf (unreadyLine l)) ≡ cond (eqb (l .left) 0) 11 255
 unfolding endOf unreadyEnd stopAnswer isSilent isCut
@@ -148,11 +155,12 @@ module _ (s : Setting) (d : Device) (n : ℕ) (st : State) (u : Update) (sized :
 
       x-outcome : x .outcome ≡ outcomeOf (unreadyLine l)
       unfolding eraseOn isPassed
-      x-outcome = ap outcomeOf (erase-unready-line s l lent unready row)
+      x-outcome = ap answerOf (erase-unready-line s l lent unready row) ∙ answer-same (unreadyLine l) (unready-unanswered l)
 
       x-unanswered : answered (x .outcome) ≡ false
       unfolding eraseOn isPassed
-      x-unanswered = erase-unanswered s l lent unready row
+      x-unanswered =
+          answer-answered (sendAll s l (eraseCycles s l row)) ∙ erase-unanswered s l lent unready row
 
       x-sends : x .cycles ≡ cond (eqb n 0) [] (command eraseCode ∷ [])
       unfolding eraseOn isPassed
@@ -241,7 +249,7 @@ module _ (s : Setting) (d : Device) (n : ℕ) (st : State) (u : Update) (ranged 
   by-change : (P : ℕ → Type 0) → (Changing s d n st u r → P (r .answer)) → P 9 → P 8 → (n ≡ 0 → P 11) → (RefusedChange s d n st → P 255) → P (r .answer)
   by-change P ready spent worn cut refused =
       cases (leb (d .interface .phase) 2)
-      (λ t. ready (change-ends s d n st u ranged (leb-true (d .interface .phase) 2 t) sized is-mounted proper))
+      (λ t. ready (change-ends s d n st u ranged (leb-true (d .interface .phase) 2 t) sized is-mounted proper (call-high d n)))
       (λ f.
       let unready : Unready d = leb-false (d .interface .phase) 2 f in
       let x = change-unready s d n st u sized below-last unready in

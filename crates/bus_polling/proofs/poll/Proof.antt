@@ -1,7 +1,8 @@
 -- `bus_polling::poll` meets its contract: as many reads as are left, from the present line, leave what 256 leave from the first, and the chip is busy after the first of them. Assumes nothing.
 use Prim.Native.Nat.{ℕ, _-_, _≤_, _<_}
+use mathlib.Core.Bool.{false≢true}
 use mathlib.Core.List.{List}
-use mathlib.Core.Path.{_≡_, refl, sym, _∙_}
+use mathlib.Core.Path.{_≡_, refl, sym, ap, _∙_}
 use native.Mathlib.Omega.{arith}
 use borrow.Author.Needs.{needs}
 use borrow.Author.Tests.{not-true, not-false}
@@ -9,8 +10,9 @@ use lib.ListN.{length}
 use Rattle.chip_array.specs.Device.{setting}
 use Rattle.bus.specs.Line.{line}
 use Rattle.bus_polling.specs.Polling.{polled, outcomeOf}
+use Rattle.bus_polling.specs.Outcomes.{answered}
 use Rattle.bus_polling.specs.declared.Outcome.the-variants.{Silent}
-use Rattle.bus_polling.proofs.PollLaws.{poll-stops, poll-ready, poll-goes, poll-done, ended-stopped}
+use Rattle.bus_polling.proofs.PollLaws.{poll-stops, poll-ready, poll-goes, poll-done, ended-stopped, stopped-unanswered}
 use Rattle.bus_polling.proofs.poll.Statement.{statement}
 use Rattle.bus_polling.proofs.poll.Tie as tie
 
@@ -47,7 +49,7 @@ returns c =
     let turn = at-status .before .before .before .before in
     let stopped = sym (c .before .before .goes-on .ensures _ _ _) ∙ not-true _ (c .before .if1 .taken) in (
       λ m f. poll-stops _ _ 256 (turn .loop .reads) (omega arith) (at-status .status .ensures .0 m f) stopped ∙ turn .loop .inv .3 m f,
-      c .ended .ensures _ _ _ ∙ ended-stopped _ stopped,
+      (c .ended .ensures _ _ _ ∙ ended-stopped _ stopped, λ t. absurd (false≢true (sym (ap answered (c .ended .ensures _ _ _) ∙ stopped-unanswered _ stopped) ∙ t))),
     )
 
 is-ready-requires : tie.Need-is-ready-requires Inv-loop μ-loop
@@ -68,7 +70,7 @@ returns-2 c =
     let at-status = at-goes-on .before .before .before .before .before .before in
     let turn = at-status .before .before .before .before in
     let r = poll-ready _ _ 256 (turn .loop .reads) (omega arith) (at-status .status .ensures .0) (at-status .status .ensures .1 _ _ _) (sym (at-goes-on .goes-on .ensures _ _ _) ∙ not-false _ (c .before .before .before .if1 .left)) (sym (c .before .before .is-ready .ensures) ∙ c .before .if2 .taken) in
-    (λ m f. r .0 m f ∙ turn .loop .inv .3 m f, c .judge .ensures ∙ r .1)
+    (λ m f. r .0 m f ∙ turn .loop .inv .3 m f, (c .judge .ensures ∙ r .1, λ t. r .2))
 
 add-reads : tie.Need-add-reads Inv-loop μ-loop
 add-reads c = search needs
@@ -90,8 +92,9 @@ same-length-6 : tie.Need-same-length-6 Inv-loop μ-loop
 same-length-6 c = search needs
 
 returns-3 : tie.Need-returns-3 Inv-loop μ-loop
+unfolding answered
 returns-3 c =
-    (λ m f. poll-done _ _ 256 (c .before .loop .reads) (omega arith) ∙ c .before .loop .inv .3 m f, sym (c .before .loop .inv .4 (omega arith)))
+    (λ m f. poll-done _ _ 256 (c .before .loop .reads) (omega arith) ∙ c .before .loop .inv .3 m f, (sym (c .before .loop .inv .4 (omega arith)), λ t. absurd (false≢true t)))
 
 pub poll-spec : {M : Type 1} → statement M
 poll-spec =

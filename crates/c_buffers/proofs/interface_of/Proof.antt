@@ -38,6 +38,9 @@ shared-slice-read-t21 c = search needs
 shared-slice-read-t23 : tie.Need-shared-slice-read-t23
 shared-slice-read-t23 c = search needs
 
+shared-slice-read-t25 : tie.Need-shared-slice-read-t25
+shared-slice-read-t25 c = search needs
+
 returns : tie.Need-returns
 unfolding interfaceOf
 returns c = refl
@@ -57,4 +60,5 @@ interface-of-spec =
     shared-slice-read-t19
     shared-slice-read-t21
     shared-slice-read-t23
+    shared-slice-read-t25
     returns)

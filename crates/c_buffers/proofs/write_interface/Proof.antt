@@ -39,6 +39,9 @@ slice-write-interface-10 c = simp length-set (omega (arith, c .pre))
 slice-write-interface-11 : tie.Need-slice-write-interface-11
 slice-write-interface-11 c = simp length-set (omega (arith, c .pre))
 
+slice-write-interface-12 : tie.Need-slice-write-interface-12
+slice-write-interface-12 c = simp length-set (omega (arith, c .pre))
+
 same-length : tie.Need-same-length
 same-length c = search needs
 
@@ -60,5 +63,6 @@ write-interface-spec =
     slice-write-interface-9
     slice-write-interface-10
     slice-write-interface-11
+    slice-write-interface-12
     same-length
     returns)

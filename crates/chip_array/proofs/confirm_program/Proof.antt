@@ -5,7 +5,7 @@ use borrow.Author.Needs.{needs}
 use borrow.Author.Tests.{eq-eqb, ne-eqb, lt-leb}
 use Rattle.geometry.proofs.SizeLaws.{row-page-below}
 use Rattle.chip_array.specs.Device.{device, setting, programStarted}
-use Rattle.chip_array.proofs.DeviceLaws.{block-below, program-confirmed}
+use Rattle.chip_array.proofs.DeviceLaws.{block-below, program-confirmed, program-unstarted}
 use Rattle.chip_array.proofs.confirm_program.Statement.{statement}
 use Rattle.chip_array.proofs.confirm_program.Tie as tie
 
@@ -58,16 +58,35 @@ returns-4 : tie.Need-returns-4
 unfolding programStarted
 returns-4 c = rw (c .refuse4 .ensures, ← c .before .before .before .before .before .before .row-of-address .ensures, ← c .before .before .before .before .before .block-of-row .ensures, ← c .before .before .before .before .page-of-row .ensures, ← c .before .before .wide .ensures, ← c .before .before .before .before .before .before .before .before .page-size .ensures) (search (eq-eqb, lt-leb))
 
+stay-requires : tie.Need-stay-requires
+stay-requires c κs = search needs
+
+returns-5 : tie.Need-returns-5
+returns-5 c =
+    let at-if5 = c .before in
+    let at-if4 = at-if5 .before in
+    let at-wide = at-if4 .before in
+    let at-page-of-row = at-wide .before .before in
+    let at-block-of-row = at-page-of-row .before in
+    let at-row-of-address = at-block-of-row .before in
+    let at-if3 = at-row-of-address .before in
+    let at-page-size = at-if3 .before in
+    let at-if2 = at-page-size .before in
+    let at-if1 = at-if2 .before in
+    let entry = at-if1 .before .before .before .before .before .before in
+    let start = entry .args in
+    program-unstarted (setting (start .g) (start .mask .now) (start .fates .now)) (device (start .i) (start .array .now) (start .register .now) (start .history .now)) (at-row-of-address .row-of-address .ensures) (at-block-of-row .block-of-row .result) (at-page-of-row .page-of-row .result) (at-block-of-row .block-of-row .ensures) (at-page-of-row .page-of-row .ensures) (at-if1 .if1 .left) (at-if2 .if2 .left) (at-page-size .page-size .ensures) (at-if3 .if3 .left) (at-wide .wide .ensures) (at-if4 .if4 .left) (at-if5 .if5 .taken) (c .stay .ensures)
+
 program-part-requires : tie.Need-program-part-requires
 program-part-requires c κs =
-    let at-row-of-address = c .before .before .before .before .before .before in
+    let at-row-of-address = c .before .before .before .before .before .before .before in
     let way = at-row-of-address .before .before .before .before .before .before .before .before .before in
     let start = way .before in
     (start .pre .0 .is-valid, (start .pre .0 .array-long, (start .pre .0 .register-long, (start .pre .1 .0, rw (at-row-of-address .row-of-address .ensures) (start .pre .1 .1)))))
 
 add-history : tie.Need-add-history
 add-history c =
-    let at-page-of-row = c .before .before .before .before .before .before .before in
+    let at-page-of-row = c .before .before .before .before .before .before .before .before in
     let at-row-of-address = at-page-of-row .before .before in
     let way = at-row-of-address .before .before .before .before .before .before .before .before .before in
     let start = way .before in
@@ -75,7 +94,7 @@ add-history c =
 
 cast-history : tie.Need-cast-history
 cast-history c =
-    let at-page-of-row = c .before .before .before .before .before .before .before in
+    let at-page-of-row = c .before .before .before .before .before .before .before .before in
     let at-row-of-address = at-page-of-row .before .before in
     let way = at-row-of-address .before .before .before .before .before .before .before .before .before in
     let start = way .before in
@@ -83,7 +102,7 @@ cast-history c =
 
 slice-write-history : tie.Need-slice-write-history
 slice-write-history c =
-    let at-block-of-row = c .before .before .before .before .before .before .before .before in
+    let at-block-of-row = c .before .before .before .before .before .before .before .before .before in
     let at-row-of-address = at-block-of-row .before in
     let way = at-row-of-address .before .before .before .before .before .before .before .before .before in
     let start = way .before in
@@ -98,9 +117,10 @@ same-length c = search needs
 same-length-2 : tie.Need-same-length-2
 same-length-2 c = search needs
 
-returns-5 : tie.Need-returns-5
-returns-5 c =
-    let at-if4 = c .before .before .before .before .before in
+returns-6 : tie.Need-returns-6
+returns-6 c =
+    let at-if5 = c .before .before .before .before .before in
+    let at-if4 = at-if5 .before in
     let at-wide = at-if4 .before in
     let at-page-of-row = at-wide .before .before in
     let at-block-of-row = at-page-of-row .before in
@@ -111,7 +131,7 @@ returns-5 c =
     let at-if1 = at-if2 .before in
     let entry = at-if1 .before .before .before .before .before .before in
     let start = entry .args in
-    program-confirmed (setting (start .g) (start .mask .now) (start .fates .now)) (device (start .i) (start .array .now) (start .register .now) (start .history .now)) (at-row-of-address .row-of-address .ensures) (at-block-of-row .block-of-row .result) (at-page-of-row .page-of-row .result) (at-block-of-row .block-of-row .ensures) (at-page-of-row .page-of-row .ensures) (at-if1 .if1 .left) (at-if2 .if2 .left) (at-page-size .page-size .ensures) (at-if3 .if3 .left) (at-wide .wide .ensures) (at-if4 .if4 .left) (c .start .ensures) (c .before .before .before .program-part .ensures)
+    program-confirmed (setting (start .g) (start .mask .now) (start .fates .now)) (device (start .i) (start .array .now) (start .register .now) (start .history .now)) (at-row-of-address .row-of-address .ensures) (at-block-of-row .block-of-row .result) (at-page-of-row .page-of-row .result) (at-block-of-row .block-of-row .ensures) (at-page-of-row .page-of-row .ensures) (at-if1 .if1 .left) (at-if2 .if2 .left) (at-page-size .page-size .ensures) (at-if3 .if3 .left) (at-wide .wide .ensures) (at-if4 .if4 .left) (at-if5 .if5 .left) (c .start .ensures) (c .before .before .before .program-part .ensures)
 
 pub confirm-program-spec : {M : Type 1} → statement M
 confirm-program-spec =
@@ -131,6 +151,8 @@ confirm-program-spec =
     wide-requires
     refuse-requires-4
     returns-4
+    stay-requires
+    returns-5
     program-part-requires
     add-history
     cast-history
@@ -138,4 +160,4 @@ confirm-program-spec =
     start-requires
     same-length
     same-length-2
-    returns-5)
+    returns-6)

@@ -61,8 +61,8 @@ returns c =
     let at-command = at-send-address .before .before .before .before .before .before .before in
     let way-2 = at-command .before .before .before .before .before .before .before .before .before in
     let entry = way-2 .before in
-    let r = read-stops _ _ (entry .args .row) (entry .args .column) (length (entry .args .buffer .now)) (confirmed-all _ _ (readAddress (entry .args .row) (entry .args .column)) 48 (onward _ _ _ _ (at-command .command .ensures) (at-send-address .send-address .ensures (entry .args .mask .now) (entry .args .fates .now) _ _ _)) (at-confirm .confirm .ensures) (at-poll .poll .ensures .0 (entry .args .mask .now) (entry .args .fates .now))) (ap isPassed (sym (at-poll .poll .ensures .1)) ∙ other-by-tag _ (c .match .keys2)) in
-    (r .0, (at-poll .poll .ensures .1 ∙ r .1, r .2 _))
+    let r = read-stops _ _ (entry .args .row) (entry .args .column) (length (entry .args .buffer .now)) (confirmed-all _ _ (readAddress (entry .args .row) (entry .args .column)) 48 (onward _ _ _ _ (at-command .command .ensures) (at-send-address .send-address .ensures (entry .args .mask .now) (entry .args .fates .now) _ _ _)) (at-confirm .confirm .ensures) (at-poll .poll .ensures .0 (entry .args .mask .now) (entry .args .fates .now))) (ap isPassed (sym (at-poll .poll .ensures .1 .0)) ∙ other-by-tag _ (c .match .keys2)) in
+    (r .0, (at-poll .poll .ensures .1 .0 ∙ r .1, r .2 _))
 
 command-requires-2 : tie.Need-command-requires-2
 command-requires-2 c κs = search needs
@@ -120,7 +120,7 @@ returns-2 c =
     let at-command = at-send-address .before .before .before .before .before .before .before in
     let way-3 = at-command .before .before .before .before .before .before .before .before .before in
     let entry = way-3 .before in
-    let r = read-goes _ _ (entry .args .row) (entry .args .column) (length (entry .args .buffer .now)) (confirmed-all _ _ (readAddress (entry .args .row) (entry .args .column)) 48 (onward _ _ _ _ (at-command .command .ensures) (at-send-address .send-address .ensures (entry .args .mask .now) (entry .args .fates .now) _ _ _)) (at-confirm .confirm .ensures) (at-poll .poll .ensures .0 (entry .args .mask .now) (entry .args .fates .now))) (ap isPassed (sym (at-poll .poll .ensures .1)) ∙ passed-by-tag _ (at-match .match .keys1)) (at-command2 .command2 .ensures) (c .before .before .before .take-data .ensures .0 _ _ _) in
+    let r = read-goes _ _ (entry .args .row) (entry .args .column) (length (entry .args .buffer .now)) (confirmed-all _ _ (readAddress (entry .args .row) (entry .args .column)) 48 (onward _ _ _ _ (at-command .command .ensures) (at-send-address .send-address .ensures (entry .args .mask .now) (entry .args .fates .now) _ _ _)) (at-confirm .confirm .ensures) (at-poll .poll .ensures .0 (entry .args .mask .now) (entry .args .fates .now))) (ap isPassed (sym (at-poll .poll .ensures .1 .0)) ∙ passed-by-tag _ (at-match .match .keys1)) (at-command2 .command2 .ensures) (c .before .before .before .take-data .ensures .0 _ _ _) in
     (r .0, (c .ended .ensures _ _ _ ∙ r .1, c .before .before .before .take-data .ensures .1 _ _ _ ∙ ap (λ (ys : List ℕ). over ys (entry .args .buffer .now)) (r .2)))
 
 pub read-spec : {M : Type 1} → statement M

@@ -67,8 +67,8 @@ returns c =
     let entry = way-2 .before .before in
     let set = setting (entry .args .g) (entry .args .mask .now) (entry .args .fates .now) in
     let ready = started-all set (line (entry .args .from) (entry .args .array .now) (entry .args .register .now) (entry .args .history .now)) (command 236 ∷ []) (parameterAddress 0) (onward set _ _ _ (at-command .command .ensures) (onward set _ _ _ (at-parameter-address .parameter-address .ensures (entry .args .g) (entry .args .mask .now) _ _ _) (lone set _ _ (at-command2 .command2 .ensures)))) (at-poll .poll .ensures .0 (entry .args .mask .now) (entry .args .fates .now)) in
-    let r = parameters-stop set _ (entry .args .page .now) (length (entry .args .buffer .now)) ready (ap isPassed (sym (at-poll .poll .ensures .1)) ∙ other-by-tag _ (c .match .keys2)) in
-    (r .0, (at-poll .poll .ensures .1 ∙ r .1, r .2 _))
+    let r = parameters-stop set _ (entry .args .page .now) (length (entry .args .buffer .now)) ready (ap isPassed (sym (at-poll .poll .ensures .1 .0)) ∙ other-by-tag _ (c .match .keys2)) in
+    (r .0, (at-poll .poll .ensures .1 .0 ∙ r .1, r .2 _))
 
 command-requires-3 : tie.Need-command-requires-3
 command-requires-3 c κs = search needs
@@ -128,7 +128,7 @@ returns-2 c =
     let entry = way-2 .before .before in
     let set = setting (entry .args .g) (entry .args .mask .now) (entry .args .fates .now) in
     let ready = started-all set (line (entry .args .from) (entry .args .array .now) (entry .args .register .now) (entry .args .history .now)) (command 236 ∷ []) (parameterAddress 0) (onward set _ _ _ (at-command .command .ensures) (onward set _ _ _ (at-parameter-address .parameter-address .ensures (entry .args .g) (entry .args .mask .now) _ _ _) (lone set _ _ (at-command2 .command2 .ensures)))) (at-poll .poll .ensures .0 (entry .args .mask .now) (entry .args .fates .now)) in
-    let r = parameters-go set _ (entry .args .page .now) (length (entry .args .buffer .now)) ready (ap isPassed (sym (at-poll .poll .ensures .1)) ∙ passed-by-tag _ (at-match .match .keys1)) (at-command3 .command3 .ensures) (at-take .take-parameters .ensures .0 _ _ _ _) in
+    let r = parameters-go set _ (entry .args .page .now) (length (entry .args .buffer .now)) ready (ap isPassed (sym (at-poll .poll .ensures .1 .0)) ∙ passed-by-tag _ (at-match .match .keys1)) (at-command3 .command3 .ensures) (at-take .take-parameters .ensures .0 _ _ _ _) in
     (r .0, (c .ended .ensures _ _ _ ∙ r .1, at-take .take-parameters .ensures .1 _ _ _ _ ∙ ap (λ (ys : List ℕ). over ys (entry .args .buffer .now)) (r .2)))
 
 pub read-parameters-spec : {M : Type 1} → statement M

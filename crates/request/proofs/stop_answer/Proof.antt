@@ -20,6 +20,9 @@ enum-told-4 c = search needs
 enum-told-5 : tie.Need-enum-told-5
 enum-told-5 c = search needs
 
+enum-told-6 : tie.Need-enum-told-6
+enum-told-6 c = search needs
+
 returns : tie.Need-returns
 returns c = ap answerByTag (sym (c .before .match .keys1)) ∙ by-tag (c .before .before .args .outcome)
 
@@ -35,6 +38,9 @@ returns-4 c = ap answerByTag (sym (c .before .match .keys4)) ∙ by-tag (c .befo
 returns-5 : tie.Need-returns-5
 returns-5 c = ap answerByTag (sym (c .before .match .keys5)) ∙ by-tag (c .before .before .args .outcome)
 
+returns-6 : tie.Need-returns-6
+returns-6 c = ap answerByTag (sym (c .before .match .keys6)) ∙ by-tag (c .before .before .args .outcome)
+
 pub stop-answer-spec : {M : Type 1} → statement M
 stop-answer-spec =
     tie.close
@@ -44,8 +50,10 @@ stop-answer-spec =
     enum-told-3
     enum-told-4
     enum-told-5
+    enum-told-6
     returns
     returns-2
     returns-3
     returns-4
-    returns-5)
+    returns-5
+    returns-6)
