@@ -28,8 +28,8 @@ static struct flash_store store = {
     .history_len = sizeof history,
 };
 
-/* No fate words: every operation passes. */
-static struct flash_store_call uncut = {.mask = mask, .mask_len = sizeof mask, .allowed = FLASH_STORE_UNCUT};
+/* As a product calls: no mask, no fate words, no cut. */
+static struct flash_store_call uncut = {.allowed = FLASH_STORE_UNCUT};
 static struct flash_store_call cut = {.mask = mask, .mask_len = sizeof mask, .allowed = 100};
 
 static int differs;
@@ -100,12 +100,19 @@ static void begin(void) {
     show("erase block 2", flash_store_do_erase(&store, &uncut, 2), FLASH_STORE_ADDRESS, &uncut, 0);
 }
 
+/* Power returns: the chip is as the cut left it, its interface is new, and the state is gone. */
+static void power_on(void) {
+    memset(store.interface, 0, sizeof store.interface);
+    memset(store.state, 0, sizeof store.state);
+}
+
 /* A write that is cut after so many cycles, where the operation under way takes these bits of each byte; what a mount finds. */
 static void pull_plug(const char *name, uint8_t written, uint32_t allowed, uint8_t taken, uint8_t found) {
     memset(mask, taken, sizeof mask);
     cut.allowed = allowed;
     show(name, write_page(&cut, written), FLASH_STORE_CUT, &cut, allowed);
     show("read after the cut", read_page(0, MAIN), FLASH_STORE_MOUNT_FIRST, &uncut, 0);
+    power_on();
     show("mount", flash_store_do_mount(&store, &uncut), FLASH_STORE_DONE, &uncut, MOUNT);
     show_page("read block 0 page 0", found, READ);
 }
@@ -120,6 +127,8 @@ int main(void) {
     pull_plug("write 33, first program halved", 0x33, 7 + 57 - 2, 0x0f, 0x22);
     pull_plug("write 44, last program halved", 0x44, COPY_OVER - 2, 0x0f, 0x22);
     pull_plug("write 55, last program whole", 0x55, COPY_OVER - 2, 0xff, 0x55);
+    cut.mask = NULL;
+    pull_plug("write 66, no mask", 0x66, COPY_OVER - 2, 0xff, 0x55);
     show("erase block 0", flash_store_do_erase(&store, &uncut, 0), FLASH_STORE_DONE, &uncut, COPY);
     show_page("read block 0 page 0", 0xff, READ);
     return differs;

@@ -6,7 +6,11 @@
  * buffers in memory. No call touches hardware. Array, page register, history, interface and state are all handed to
  * the next call as the last call left them.
  *
- * Start with struct flash_store, struct flash_store_call and the functions flash_store_do_..., at the end of this file.
+ * Start with struct flash_store, struct flash_store_call and the functions flash_store_do_..., at the end of this file:
+ *   a new chip       array all FFh but for factory marks, history all 0, interface and state all 0; then format
+ *   power returns    interface and state all 0; array, page_register and history as they were left; then mount
+ *   a call           a product passes no mask, no fate words and FLASH_STORE_UNCUT; mask, fates and allowance are for tests,
+ *                    which make the model fail, fall silent or lose power by them
  *
  * Stack that a call takes, measured as docs/BENCHMARKS.md says: format under 90,000 bytes, mount under 130,000, read under
  * 65,000, write under 95,000, erase under 85,000, identify under 25,000. No call takes memory from a heap, and the library
@@ -24,6 +28,9 @@ static_assert(sizeof(size_t) == 8, "the library is built for a size_t of 8 bytes
 #else
 _Static_assert(sizeof(size_t) == 8, "the library is built for a size_t of 8 bytes");
 #endif
+
+/* The version of this header and its archive: docs/CHANGES.md. */
+#define FLASH_STORE_VERSION "4.5"
 
 /* The answers, in the order in which they are tested; SILENT and CUT come as they happen, CUT first. */
 enum flash_store_answer {
@@ -46,6 +53,22 @@ enum flash_store_answer {
                                      (docs/DECISIONS.md) */
 };
 
+/*
+ * What to do then. After 8 to 11 and 255 the state is stopped: a mount or a formatting comes next. A chip once formatted with
+ * answer 0 and used by this store alone gives a mount with the same geometry 0, 10 or 11, and never 4 to 6.
+ *   1, 2, 3, 100       put the numbers and lengths of the call right
+ *   7 MOUNT_FIRST      mount
+ *   4 NO_TABLE         the chip was not formatted with this geometry and answer 0: take the right one, or format
+ *   5 WRONG_TABLE      the same, or another number of logical blocks
+ *   6 CLASH            the chip holds what this store does not leave: format, which gives it all up
+ *   9 SPENT            mount, read what is to be kept, format
+ *   8 WORN             write, erase: mount, read what is to be kept, take another chip. Format: fewer logical blocks, or another chip
+ *   12 NO_SIZES        ask again; else take the sizes from the data sheet
+ *   10 SILENT          mount; silent again, the chip has no power or is broken. Format: format again
+ *   11 CUT             when power returns mount, and read whether the write or erase was stored. Format: format again
+ *   255 ILLEGAL        the interface was not what the last call left: mount
+ */
+
 enum {
     FLASH_STORE_STATE_BYTES = 9248,   /* the mounted state, laid out as docs/FORMAT.md says */
     FLASH_STORE_INTERFACE_WORDS = 12, /* the chip's command interface, laid out as docs/FORMAT.md says; all 0 at power on */
@@ -67,9 +90,11 @@ enum {
  *   blocks              blocks of the chip: 4 to 4,096, at most 8 x (main - 8)
  *   logical             logical blocks, N: 1 to blocks - 2
  *   state               FLASH_STORE_STATE_BYTES; any bytes before the first mount or formatting, then as the last call left them
- *   interface           FLASH_STORE_INTERFACE_WORDS; as the last call left them
- *   array               (main + spare) x pages x blocks bytes: the cells of the chip; as the last call left them
- *   page_register       main + spare bytes: the chip's page register; as the last call left it
+ *   interface           FLASH_STORE_INTERFACE_WORDS; all 0 at power on, then as the last call left them
+ *   array               (main + spare) x pages x blocks bytes: the cells of the chip; FFh for a new chip but for factory marks,
+ *                       then as the last call left them
+ *   page_register       main + spare bytes: the chip's page register; any bytes before the first call, then as the last call
+ *                       left it
  *   history             one byte a block: the lowest page that may be programmed, 255 after an erase that did not pass; 0 for a
  *                       new chip, then as the last call left it
  *   mask                (main + spare) x pages bytes: which bits an operation takes that does not pass
@@ -144,7 +169,7 @@ struct flash_store {
     size_t main, spare, pages, blocks, logical; /* the geometry */
     uint8_t state[FLASH_STORE_STATE_BYTES];
     size_t interface[FLASH_STORE_INTERFACE_WORDS]; /* all 0 at power on */
-    uint8_t *array;                                /* (main + spare) x pages x blocks */
+    uint8_t *array; /* (main + spare) x pages x blocks; all FFh for a new chip, but for factory marks */
     size_t array_len;
     uint8_t *page_register; /* main + spare */
     size_t page_register_len;
@@ -154,12 +179,12 @@ struct flash_store {
 
 /* What a call brings, and the cycles that it took away. */
 struct flash_store_call {
-    const uint8_t *mask; /* (main + spare) x pages */
-    size_t mask_len;
+    const uint8_t *mask;   /* (main + spare) x pages; may be NULL: zeros, an operation that does not pass takes no effect */
+    size_t mask_len;       /* of a mask that is not NULL */
     const uint32_t *fates; /* may be NULL: no fate words, every operation passes */
-    size_t fates_len;
-    uint32_t allowed; /* FLASH_STORE_UNCUT: no cut */
-    size_t sent;      /* set by the call */
+    size_t fates_len;      /* of fates that are not NULL */
+    uint32_t allowed;      /* FLASH_STORE_UNCUT: no cut */
+    size_t sent;           /* set by the call */
 };
 
 /* The fate words of a call as the plain calls take them: never NULL. */
@@ -172,12 +197,36 @@ static inline size_t flash_store_fates_len(const struct flash_store_call *call) 
     return call->fates ? call->fates_len : 0;
 }
 
+/* The greatest page and block. */
+enum { FLASH_STORE_MOST_MAIN = 4096, FLASH_STORE_MOST_SPARE = 256, FLASH_STORE_MOST_PAGES = 64 };
+
+/*
+ * The mask of a call as the plain calls take it: never NULL. Each file that uses these functions has zeros of its own, 278,528
+ * bytes; nothing writes them, and they are not const so that they take no room in the executable.
+ */
+static inline const uint8_t *flash_store_mask(const struct flash_store_call *call) {
+    static uint8_t zeros[(FLASH_STORE_MOST_MAIN + FLASH_STORE_MOST_SPARE) * FLASH_STORE_MOST_PAGES];
+    return call->mask ? call->mask : zeros;
+}
+
+/* Zeros are as long as a block; 0 for sizes beyond the limits, which get GEOMETRY. */
+static inline size_t flash_store_mask_len(const struct flash_store *store, const struct flash_store_call *call) {
+    if (call->mask) {
+        return call->mask_len;
+    }
+    if (store->main > FLASH_STORE_MOST_MAIN || store->spare > FLASH_STORE_MOST_SPARE ||
+        store->pages > FLASH_STORE_MOST_PAGES) {
+        return 0;
+    }
+    return (store->main + store->spare) * store->pages;
+}
+
 /* The two structs as the plain calls take them, without and with the geometry. */
 #define FLASH_STORE_MEMORY(store, call)                                                                             \
     (store)->state, FLASH_STORE_STATE_BYTES, (store)->interface, FLASH_STORE_INTERFACE_WORDS, (store)->array,       \
         (store)->array_len, (store)->page_register, (store)->page_register_len, (store)->history,                   \
-        (store)->history_len, (call)->mask, (call)->mask_len, flash_store_fates(call), flash_store_fates_len(call), \
-        (call)->allowed, &(call)->sent, 1
+        (store)->history_len, flash_store_mask(call), flash_store_mask_len(store, call), flash_store_fates(call),   \
+        flash_store_fates_len(call), (call)->allowed, &(call)->sent, 1
 #define FLASH_STORE_LENT(store, call)                                                                                 \
     (store)->main, (store)->spare, (store)->pages, (store)->blocks, (store)->logical, FLASH_STORE_MEMORY(store, call)
 
@@ -217,8 +266,8 @@ struct flash_store_sizes {
 };
 
 /*
- * Lets the chip tell its size. Of the geometry only logical need be filled in; array, page_register, history and mask are not
- * NULL, and may have any length.
+ * Lets the chip tell its size. Of the geometry only logical need be filled in; array, page_register and history are not NULL,
+ * and may have any length, as the mask may.
  */
 static inline enum flash_store_answer flash_store_do_identify(struct flash_store *store, struct flash_store_call *call,
                                                               const uint8_t *parameters, size_t parameters_len,

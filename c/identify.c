@@ -16,7 +16,7 @@ enum { COPY = 256, CRC_AT = 254 };
 /* Cycles: a reset is 3, ECh with its address, 70h, a status read and 00h are 5, then all bytes come out. */
 enum { ASKED = 3 + 5 + FLASH_STORE_PARAMETER_BYTES };
 
-static uint8_t array[BLOCK * BLOCKS], page_register[PAGE], history[BLOCKS], mask[BLOCK], parameters[3 * COPY];
+static uint8_t array[BLOCK * BLOCKS], page_register[PAGE], history[BLOCKS], parameters[3 * COPY];
 
 /* The geometry is not known yet. */
 static struct flash_store store = {
@@ -29,9 +29,9 @@ static struct flash_store store = {
     .history_len = sizeof history,
 };
 
-/* No fate words: every operation passes. */
-static struct flash_store_call uncut = {.mask = mask, .mask_len = sizeof mask, .allowed = FLASH_STORE_UNCUT};
-static struct flash_store_call cut = {.mask = mask, .mask_len = sizeof mask, .allowed = ASKED - 1};
+/* No mask, no fate words: every operation passes. */
+static struct flash_store_call uncut = {.allowed = FLASH_STORE_UNCUT};
+static struct flash_store_call cut = {.allowed = ASKED - 1};
 
 static const struct flash_store_sizes none = {0}, told = {MAIN, SPARE, PAGES, BLOCKS};
 
@@ -105,7 +105,6 @@ static int take_over(const struct flash_store_sizes *s) {
     store.page_register_len = s->main + s->spare;
     store.array_len = store.page_register_len * s->pages * s->blocks;
     store.history_len = s->blocks;
-    uncut.mask_len = store.page_register_len * s->pages;
     return store.array_len == sizeof array;
 }
 
