@@ -54,8 +54,8 @@ enum flash_store_answer {
 };
 
 /*
- * What to do then. After 8 to 11 and 255 the state is stopped: a mount or a formatting comes next. A chip once formatted with
- * answer 0 and used by this store alone gives a mount with the same geometry 0, 10 or 11, and never 4 to 6.
+ * What to do then. After 8 to 11 and 255 the state is stopped: a mount or a formatting comes next. A chip whose last
+ * formatting was answered 0, and that nothing but this store changed since, never gives a mount with the same geometry 4 to 6.
  *   1, 2, 3, 100       put the numbers and lengths of the call right
  *   7 MOUNT_FIRST      mount
  *   4 NO_TABLE         the chip was not formatted with this geometry and answer 0: take the right one, or format
