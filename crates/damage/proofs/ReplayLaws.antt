@@ -57,7 +57,7 @@ module _ (s : Setting) (d : Device) where
 
   pub leads-kept : Kept s (Leads s d)
   leads-kept =
-      record { reset = reset-leads; read = read-leads; erase = erase-leads; program = program-leads; resume = λ p e. e }
+      record { reset = reset-leads; read = read-leads; erase = erase-leads; program = program-leads; resume = λ p f e. e }
 
   -- all of it, where no cycle was answered illegal
   pub replayed : (p : Progress) → Leads s d p → p .line .chip .interface .illegal ≡ 0 → Replayed s d (p .line .chip) (p .cycles)

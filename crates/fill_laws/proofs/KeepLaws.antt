@@ -28,7 +28,7 @@ module _ (s : Setting) (P : Progress → Type 0) (k : Kept s P) where
 
   gone-keeps : (q : Progress) → P q → P (goneOn q)
   unfolding gone
-  gone-keeps q h = cases (isFailed (q .outcome)) (λ t. rw t (k .resume q h)) (λ t. rw t h)
+  gone-keeps q h = cases (isFailed (q .outcome)) (λ t. rw t (k .resume q t h)) (λ t. rw t h)
 
   acted-keeps : (bytes : List ℕ) (r : Running) (p : Progress) → P p → P (acted s bytes r p .progress)
   unfolding acted

@@ -35,6 +35,6 @@ module _ (s : Setting) (P : Progress → Type 0) (k : Kept s P) where
       cases (eqb (t .worn) 0)
       (λ w.
       cases (isFailed (t .progress .outcome))
-      (λ f. rw (w, f) (tables-keep held n (t .state) _ (k .resume (t .progress) here)))
+      (λ f. rw (w, f) (tables-keep held n (t .state) _ (k .resume (t .progress) f here)))
       (λ f. rw (w, f) here))
       (λ w. rw w here)

@@ -15,7 +15,7 @@ module _ (s : Setting) (P : Progress → Type 0) (k : Kept s P) where
   after-keeps : (b : ℕ) (q : Progress) → P q → P (afterErase s b q)
   unfolding afterErase
   after-keeps b q h =
-      cases (isFailed (q .outcome)) (λ f. rw f (pages-keep s P k b (s .geometry .pages) (resumed q) (k .resume q h))) (λ f. rw f h)
+      cases (isFailed (q .outcome)) (λ f. rw f (pages-keep s P k b (s .geometry .pages) (resumed q) (k .resume q f h))) (λ f. rw f h)
 
   block-keeps : (marked : List ℕ) (b : ℕ) (p : Progress) → P p → P (blockErased s marked b p)
   unfolding blockErased

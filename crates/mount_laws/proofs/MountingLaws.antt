@@ -41,7 +41,7 @@ use Rattle.mount_laws.proofs.StateLaws.{mounted-state}
 use Rattle.mount_laws.specs.Mounting.{mountMost, MountAnswer, is-done, is-missing, is-wrong, is-clash, is-silent, is-cut, Mounting}
 
 -- 0, 4, 5 or 6
-abbrev Judged : ℕ → Type 0
+abbrev pub Judged : ℕ → Type 0
 Judged a = MountAnswer a × (a ≤ 6)
 
 three-tests : (a b c : Bool) → Judged (cond a (cond b 5 (cond c 6 0)) 5)
@@ -56,7 +56,7 @@ judged g array nothing = (is-missing, omega arith)
 judged g array (at t) =
     three-tests (rightTable g (λ b. isMarked g (blockIn g array b)) (blockIn g array t)) (lists g (blockIn g array t) t) (clashes g array t (g .blocks))
 
-answer-judged : (g : Geometry) (array : List ℕ) → Judged (mountAnswer g array)
+pub answer-judged : (g : Geometry) (array : List ℕ) → Judged (mountAnswer g array)
 unfolding mountAnswer
 answer-judged g array = judged g array (currentTable g array)
 

@@ -61,5 +61,5 @@ module _ (s : Setting) where
         read = λ row column n p e. read-counts row column n p ∙ e;
         erase = λ block p e. erase-counts block p ∙ e;
         program = λ block page bytes p e. program-counts block page bytes p ∙ e;
-        resume = λ p e. e;
+        resume = λ p f e. e;
       }

@@ -42,5 +42,5 @@ module _ (s : Setting) where
         read = λ row column n p e. read-keeps row column n p ∙ e;
         erase = λ block p e. erase-keeps block p ∙ e;
         program = λ block page bytes p e. program-keeps block page bytes p ∙ e;
-        resume = λ p e. e;
+        resume = λ p f e. e;
       }

@@ -6,4 +6,8 @@ pub mod TraceLaws
 pub mod ReadOnlyLaws
 pub mod CycleLaws
 pub mod FormatLaws
+pub mod WaitLaws
+pub mod SilentLaws
+pub mod AnswerLaws
 pub mod StartTests
+pub mod MeaningLaws

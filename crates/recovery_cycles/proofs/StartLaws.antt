@@ -192,6 +192,12 @@ module _ (s : Setting) where
     unfolding sent startsIn
     starts-unsent h = rw h
 
+    pub operation-starts : startsIn s (l .chip) (sent s l (before ++ (command code ∷ rest))) ≡ cond (goesOn left) (start code (reached .chip) failed ∷ []) []
+    operation-starts =
+        cases (admits reached)
+        (λ t. from-confirm ∙ starts-sent t ∙ ap (λ (b : Bool). cond b (start code (reached .chip) failed ∷ []) []) (sym (left-goes t)))
+        (λ t. from-confirm ∙ starts-unsent t ∙ ap (λ (b : Bool). cond b (start code (reached .chip) failed ∷ []) []) (sym (ap goesOn (send-off s reached (command code) t) ∙ blocked-stops reached)))
+
     started-unsent : admits reached ≡ false → startedBy s l before code kind row bytes ≡ []
     unfolding startedBy
     started-unsent h = rw (goes-is, send-off s reached (command code) h, blocked-stops reached)

@@ -1,6 +1,6 @@
 -- The trace of every request has the operations that its confirm cycles start, one by one. Assumes nothing.
 use Prim.Native.Nat.{ℕ, _/_, _%_}
-use mathlib.Core.Bool.{false, cond}
+use mathlib.Core.Bool.{Bool, true, false, cond}
 use mathlib.Core.List.{List, [], _∷_, _++_, map, append-nil, append-assoc}
 use mathlib.Core.Path.{_≡_, refl, sym, ap, subst, _∙_}
 use native.Mathlib.Omega.{arith}
@@ -46,16 +46,35 @@ traced-append g (t ∷ ts) us [] ps a b = absurd a
 traced-append g (t ∷ ts) us (o ∷ os) ps a b = (a .0, traced-append g ts us os ps (a .1) b)
 
 -- the cycles of an operation around its confirm cycle
-regroup : (xs zs out : List Cycle) (c k : Cycle) → ((xs ++ (c ∷ k ∷ [])) ++ zs) ++ out ≡ xs ++ (c ∷ (k ∷ (zs ++ out)))
+pub regroup : (xs zs out : List Cycle) (c k : Cycle) → ((xs ++ (c ∷ k ∷ [])) ++ zs) ++ out ≡ xs ++ (c ∷ (k ∷ (zs ++ out)))
 regroup xs zs out c k = append-assoc (xs ++ (c ∷ k ∷ [])) zs out ∙ append-assoc xs (c ∷ k ∷ []) (zs ++ out)
 
 -- what cycles sent from a line add to a trace: operations for their confirm cycles, and no E1h before the first of them
-abbrev Adds : Setting → Line → List Cycle → List ArrayOperation → Type 0
+abbrev pub Adds : Setting → Line → List Cycle → List ArrayOperation → Type 0
 Adds s l cs os =
     (failsNext s (l .chip) (sent s l cs) ≡ false) × Traced (s .geometry) (startsIn s (l .chip) (sent s l cs)) os
 
+pub erase-plain : (row : ℕ) → All Plain (eraseAddress row)
+unfolding isConfirm
+erase-plain row = (plain-command 96 refl, all-mapped Plain address plain-address (rowBytes row))
+
+pub program-plain : (row : ℕ) (bytes : List ℕ) → All Plain (programData row bytes)
+unfolding isConfirm
+program-plain row bytes =
+    (plain-command 128 refl, all-append Plain (addressCycles 0 row) (map dataIn bytes) (all-mapped Plain address plain-address (columnBytes 0 ++ rowBytes row)) (all-mapped Plain dataIn plain-in bytes))
+
+pub read-plain : (row column : ℕ) → All Plain (readAddress row column)
+unfolding isConfirm
+read-plain row column = (plain-command 0 refl, all-mapped Plain address plain-address (columnBytes column ++ rowBytes row))
+
+-- 00h and data output, where ready is reported
+pub output-plain : (b : Bool) (n : ℕ) → All Plain (cond b (command 0 ∷ replicate n dataOut) [])
+unfolding isConfirm
+output-plain true n = (plain-command 0 refl, all-repeated Plain n dataOut plain-out)
+output-plain false n = tt
+
 module _ (s : Setting) (l : Line) where
-  reset-adds : Adds s l resetCycles []
+  pub reset-adds : Adds s l resetCycles []
   unfolding isConfirm sent failsNext Traced
   reset-adds =
       let d = l .chip in
@@ -77,7 +96,7 @@ module _ (s : Setting) (l : Line) where
   unfolding isConfirm kindOf
   erase-adds row =
       let reads = statusReads s (sendAll s l (eraseAddress row ++ confirmCycles 208) .chip) in
-      let plain : All Plain (eraseAddress row) = (plain-command 96 refl, all-mapped Plain address plain-address (rowBytes row)) in
+      let plain = erase-plain row in
       subst (λ (cs : List Cycle). Adds s l cs (eraseStarts s l row))
       (sym (sym (append-nil (eraseCycles s l row)) ∙ regroup (eraseAddress row) reads [] (command 208) (command 112))) (
         operation-passes s l (eraseAddress row) [] 208 3 row [] refl refl plain tt,
@@ -97,8 +116,7 @@ module _ (s : Setting) (l : Line) where
   unfolding isConfirm kindOf
   program-adds row bytes =
       let reads = statusReads s (sendAll s l (programData row bytes ++ confirmCycles 16) .chip) in
-      let plain : All Plain (programData row bytes) =
-      (plain-command 128 refl, all-append Plain (addressCycles 0 row) (map dataIn bytes) (all-mapped Plain address plain-address (columnBytes 0 ++ rowBytes row)) (all-mapped Plain dataIn plain-in bytes)) in
+      let plain = program-plain row bytes in
       subst (λ (cs : List Cycle). Adds s l cs (programStarts s l row bytes))
       (sym (sym (append-nil (programCycles s l row bytes)) ∙ regroup (programData row bytes) reads [] (command 16) (command 112))) (
         operation-passes s l (programData row bytes) [] 16 2 row bytes refl refl plain tt,
@@ -126,8 +144,8 @@ module _ (s : Setting) (l : Line) where
   read-adds row column n =
       let reads = statusReads s (sendAll s l (readAddress row column ++ confirmCycles 48) .chip) in
       let out = cond (isPassed (outcomeOf (pageLine s l row column))) (command 0 ∷ replicate n dataOut) [] in
-      let plain : All Plain (readAddress row column) = (plain-command 0 refl, all-mapped Plain address plain-address (columnBytes column ++ rowBytes row)) in
-      let plain-end : All Plain out = cases (isPassed (outcomeOf (pageLine s l row column))) (λ t. rw t (plain-command 0 refl, all-repeated Plain n dataOut plain-out)) (λ t. rw t tt) in
+      let plain = read-plain row column in
+      let plain-end = output-plain (isPassed (outcomeOf (pageLine s l row column))) n in
       subst (λ (cs : List Cycle). Adds s l cs (readStarts s l row column)) (sym (regroup (readAddress row column) reads out (command 48) (command 112))) (
         operation-passes s l (readAddress row column) out 48 1 row [] refl refl plain plain-end,
         operation-traced s l (readAddress row column) out 48 1 row [] refl refl plain plain-end
@@ -193,7 +211,7 @@ module _ (s : Setting) (d : Device) where
         read = λ row column n p b. (k .read row column n p (b .0), read-keeps row column n p b);
         erase = λ block p b. (k .erase block p (b .0), erase-keeps block p b);
         program = λ block page bytes p b. (k .program block page bytes p (b .0), program-keeps block page bytes p b);
-        resume = λ p b. b;
+        resume = λ p f b. b;
       }
 
 -- so every request has it, on any chip, however it ends

@@ -1,2 +1,4 @@
 pub mod Starts
 pub mod Spared
+pub mod Silent
+pub mod Meaning

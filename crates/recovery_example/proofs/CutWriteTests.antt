@@ -134,7 +134,7 @@ write-steps : (g : Geometry) (a : Lent) (l p : ℕ) (bytes : List ℕ) (y : Stor
     → let t = changeCall (settingOf g a) (y .chip) (a .allowed) (y .state) (writeUpdate (y .state) l p bytes) in
     step g (toWrite a l p bytes) y ≡ afterCut g y (write l p bytes) (endAt (a .allowed) (t .answer) (t .state) (t .progress .line)) (t .progress .started)
 unfolding resultOf startedIn step writeRequest failedNext
-write-steps g a l p bytes y z = rw (eq-eqb (refusalOf (settingOf g a) (y .chip) (y .state) l p bytes) 0 z)
+write-steps g a l p bytes y z = rw (eq-eqb (refusalOf (settingOf g a) (y .chip) (y .state) l p bytes) 0 z, calls.answerOf)
 
 format-done : formatOn small (lent 10000) erased (blank 0) .answer ≡ 0
 format-done = ap (λ (r : Result). r .answer) format-is

@@ -2,6 +2,7 @@
 use Prim.Native.Nat.{ℕ, zero, suc}
 use mathlib.Core.Bool.{Bool, true, false, cond}
 use mathlib.Core.List.{List}
+use mathlib.Core.Path.{_≡_, refl}
 use lib.Dec.{eqb}
 use Rattle.chip_array.specs.Device.{Setting}
 use Rattle.bus_polling.specs.Outcomes.{isPassed, isFailed}
@@ -21,8 +22,8 @@ use Rattle.write_changes.specs.Changes.{Update, copyFilled, Copied, afte
 
 module _ (s : Setting) (P : Progress → Type 0) (k : Kept s P) where
   -- both arms of a test
-  copied-arms : (b : Bool) (x y : Copied) → P (x .progress) → P (y .progress) → P (cond b x y .progress)
-  copied-arms true x y h i = h
+  copied-arms : (b : Bool) (x y : Copied) → (b ≡ true → P (x .progress)) → P (y .progress) → P (cond b x y .progress)
+  copied-arms true x y h i = h refl
   copied-arms false x y h i = i
 
   tabled-arms : (b : Bool) (x y : Tabled) → P (x .progress) → P (y .progress) → P (cond b x y .progress)
@@ -36,7 +37,7 @@ module _ (s : Setting) (P : Progress → Type 0) (k : Kept s P) where
   try-keeps u st failed p more (Block b) h m =
       let q = copyFilled s u st b p in
       let here = filled-keeps s P k b (copy dataKind (u .logical) (nextNumber st)) (dataSource (s .geometry) (u .old) (u .first) (u .count) (u .bytes)) p h in
-      copied-arms (isPassed (q .outcome)) _ _ here (copied-arms (isFailed (q .outcome)) _ _ (m _ _ (k .resume q here)) here)
+      copied-arms (isPassed (q .outcome)) _ _ (λ t. here) (copied-arms (isFailed (q .outcome)) _ _ (λ f. m _ _ (k .resume q f here)) here)
 
   copies-keep : (held : List ℕ) (u : Update) (n : ℕ) (failed : Bool) (st : State) (p : Progress) → P p → P (copiesFilled s held u n failed st p .progress)
   unfolding copiesFilled

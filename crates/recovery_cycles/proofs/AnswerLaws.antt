@@ -1,0 +1,217 @@
+-- A request is answered 10 exactly where its last array operation has a slow fate word and it is not cut. Assumes nothing.
+use Prim.Native.Nat.{ℕ, zero, suc}
+use mathlib.Core.Bool.{Bool, true, false, cond}
+use mathlib.Core.List.{List}
+use mathlib.Core.Logic.{_⊎_, inl, inr, ⊎-elim}
+use mathlib.Core.Path.{_≡_, refl, ap, _∙_}
+use native.Mathlib.Omega.{arith}
+use borrow.Author.Tests.{eqb-true}
+use borrow.Table.Steps.{cases}
+use lib.Dec.{eqb}
+use lib.ListN.{getD, replicate}
+use Rattle.bools.proofs.BoolLaws.{clash}
+use Rattle.geometry.specs.declared.Geometry.{Geometry}
+use Rattle.chip_array.specs.Device.{Device, Setting}
+use Rattle.bus_polling.specs.Outcomes.{isPassed, isFailed, isSilent, isCut}
+use Rattle.bus_polling.specs.declared.Outcome.{Outcome}
+use Rattle.state_choose.specs.Choose.{chosen}
+use Rattle.state_choose.specs.declared.Choice.{Choice}
+use Rattle.state_choose.specs.declared.Choice.the-variants.{Block, Worn}
+use Rattle.state.specs.State.{none, numbersLeft, heldBits}
+use Rattle.state.specs.declared.State.{State}
+use Rattle.progress.specs.Progress.{Progress}
+use Rattle.progress.specs.Steps.{resumed}
+use Rattle.request.specs.Call.{Result, result, resultOf, sentIn, startedIn, unsent, performed, sizedFor, callLine, stopAnswer, answerFor}
+use Rattle.request.proofs.CallLaws.{stop-silent, stop-least}
+use Rattle.request_refusals.specs.Refusals.{refusal, refusalOf}
+use Rattle.request_refusals.proofs.RefusalLaws.{by-refusal}
+use Rattle.scan_found.specs.Found.{marksTo}
+use Rattle.fill_tables.specs.Tables.{tryBlock, tryTable, tablesFilled}
+use Rattle.write_changes.specs.Changes.{Update, writeUpdate, eraseUpdate, copyFilled, Copied, afterTry, copyTried, copiesFilled, thenTable, changeRun, changeCall, changeRequest, writeRequest, eraseRequest}
+use Rattle.format_marks.specs.Marks.{marksRead}
+use Rattle.format_erase.specs.Round.{erasedTo}
+use Rattle.format.specs.Format.{firstState, tooFew, tablesRun, roundRun, marksRun, formatRun, formatRequest}
+use Rattle.mount.specs.Mount.{mountRun, mountEnd, mountRequest}
+use Rattle.mount_laws.proofs.MountingLaws.{answer-judged}
+use Rattle.read_page.specs.Fetching.{pageProgress, readingBlock}
+use Rattle.read.specs.Reading.{copyRequest, readRequest}
+use Rattle.recovery.specs.Calls.{Lent, toMount, toRead, toWrite, toErase, toIdentify, Store, settingOf, runOf}
+use Rattle.recovery_cycles.specs.Starts.{startsIn}
+use Rattle.recovery_cycles.specs.Silent.{SlowLast, SilentExactly, SilentCalls}
+use Rattle.recovery_cycles.proofs.WaitLaws.{Stopped, stopped-unpassed}
+use Rattle.recovery_cycles.proofs.SilentLaws.{HeardFrom, change-heard, format-heard, mount-heard, page-heard}
+
+-- an answer by how the last operation ended
+record Told (answer : ℕ) (o : Outcome) : Type 0 where
+  by : answer ≡ 10 → isSilent o ≡ true
+  so : Stopped o → (answer ≡ 10) ⊎ (answer ≡ 11)
+
+told-stop : (o : Outcome) → Told (stopAnswer o) o
+unfolding stopAnswer isSilent isCut
+told-stop o =
+    record { by = stop-silent o; so = λ h. ⊎-elim (λ e. inl (ap stopAnswer e)) (λ e. inr (ap stopAnswer e)) h }
+
+told-passed : (answer : ℕ) (o : Outcome) → isPassed o ≡ true → (answer ≡ 10 → ⊥) → Told answer o
+told-passed answer o t x = record { by = λ e. absurd (x e); so = λ h. clash t (stopped-unpassed o h) }
+
+told-for : (o : Outcome) → Told (answerFor o) o
+told-for o = cases (isPassed o) (λ t. rw t (told-passed 0 o t (λ e. omega (arith, e)))) (λ t. rw t (told-stop o))
+
+-- table fills
+worn-same : (s : Setting) (st : State) (p : Progress) (c : Choice) → eqb (tryBlock s st p c .worn) 0 ≡ false → tryBlock s st p c .progress ≡ p
+unfolding tryBlock
+worn-same s st p Worn h = refl
+worn-same s st p (Block b) h = clash refl h
+
+module _ (s : Setting) where
+  tables-told : (held : List ℕ) (n : ℕ) (st : State) (p : Progress) → isPassed (p .outcome) ≡ true → Told (tablesFilled s held n st p .answer) (tablesFilled s held n st p .progress .outcome)
+  unfolding tablesFilled tryTable isPassed
+  tables-told held zero st p t = told-passed 9 (p .outcome) t (λ e. omega (arith, e))
+  tables-told held (suc n) st p t =
+      let r = tryTable s held st p in
+      cases (eqb (r .worn) 0)
+      (λ w. cases (isFailed (r .progress .outcome))
+      (λ f. rw (w, f) (tables-told held n (r .state) (resumed (r .progress)) refl))
+      (λ f. rw (w, f) (told-for (r .progress .outcome))))
+      (λ w.
+      let same = worn-same s st p (chosen (st .marked) (st .invalid) held (s .geometry .blocks) (st .last)) w in
+      rw w (told-passed 8 (r .progress .outcome) (ap (λ (q : Progress). isPassed (q .outcome)) same ∙ t) (λ e. omega (arith, e))))
+
+  -- data fills, answered 0 where the last of them passed
+  abbrev CopiedTold : Copied → Type 0
+  CopiedTold c = Told (c .answer) (c .progress .outcome) × (c .answer ≡ 0 → isPassed (c .progress .outcome) ≡ true)
+
+  try-told : (u : Update) (st : State) (failed : Bool) (p : Progress) (more : State → Progress → Copied) (c : Choice) → isPassed (p .outcome) ≡ true → ((next : State) (q : Progress) → isPassed (q .outcome) ≡ true → CopiedTold (more next q))
+      → CopiedTold (copyTried s u st failed p more c)
+  unfolding copyTried afterTry isPassed
+  try-told u st failed p more Worn t m = (told-passed 8 (p .outcome) t (λ e. omega (arith, e)), λ e. absurd (omega (arith, e)))
+  try-told u st failed p more (Block b) t m =
+      let q = copyFilled s u st b p in
+      cases (isPassed (q .outcome))
+      (λ y. rw y (told-passed 0 (q .outcome) y (λ e. omega (arith, e)), λ e. y))
+      (λ y. cases (isFailed (q .outcome))
+      (λ f. rw (y, f) (m _ (resumed q) refl))
+      (λ f. rw (y, f) (told-stop (q .outcome), λ e. absurd (omega (arith, e, stop-least (q .outcome))))))
+
+  copies-told : (held : List ℕ) (u : Update) (n : ℕ) (failed : Bool) (st : State) (p : Progress) → isPassed (p .outcome) ≡ true → CopiedTold (copiesFilled s held u n failed st p)
+  unfolding copiesFilled
+  copies-told held u zero failed st p t = (told-passed 9 (p .outcome) t (λ e. omega (arith, e)), λ e. absurd (omega (arith, e)))
+  copies-told held u (suc n) failed st p t =
+      try-told u st failed p (copiesFilled s held u n true) (chosen (st .marked) (st .invalid) held (s .geometry .blocks) (st .last)) t
+      (λ next q y. copies-told held u n true next q y)
+
+  change-told : (st : State) (u : Update) (p : Progress) → isPassed (p .outcome) ≡ true → Told (changeRun s st u p .answer) (changeRun s st u p .progress .outcome)
+  unfolding thenTable
+  change-told st u p t =
+      let c = copiesFilled s (heldBits st (s .geometry .logical)) u (numbersLeft st) false st p in
+      let here = copies-told (heldBits st (s .geometry .logical)) u (numbersLeft st) false st p t in
+      cases (eqb (c .answer) 0)
+      (λ z.
+      let passed = here .1 (eqb-true (c .answer) 0 z) in
+      cases (c .failed)
+      (λ f. rw (z, f) (tables-told (heldBits (c .state) (s .geometry .logical)) (numbersLeft (c .state)) (c .state) (c .progress) passed))
+      (λ f. rw (z, f) (told-passed 0 (c .progress .outcome) passed (λ e. omega (arith, e)))))
+      (λ z. rw z (here .0))
+
+  -- a formatting
+  tables-run-told : (marked invalid : List ℕ) (greatest : ℕ) (p : Progress) → isPassed (p .outcome) ≡ true → Told (tablesRun s marked invalid greatest p .answer) (tablesRun s marked invalid greatest p .progress .outcome)
+  unfolding tablesRun
+  tables-run-told marked invalid greatest p t =
+      let st = firstState (s .geometry) marked invalid greatest in
+      cases (tooFew (s .geometry) marked invalid)
+      (λ f. rw f (told-passed 8 (p .outcome) t (λ e. omega (arith, e))))
+      (λ f. rw f (tables-told (replicate 512 0) (numbersLeft st) st p t))
+
+  round-run-told : (marked : List ℕ) (p : Progress) → Told (roundRun s marked p .answer) (roundRun s marked p .progress .outcome)
+  unfolding roundRun
+  round-run-told marked p =
+      let r = erasedTo s marked (s .geometry .blocks) p in
+      cases (isPassed (r .progress .outcome))
+      (λ t. rw t (tables-run-told marked (r .invalid) (r .numbers .greatest) (r .progress) t))
+      (λ t. rw t (told-stop (r .progress .outcome)))
+
+  marks-run-told : (p : Progress) → Told (marksRun s p .answer) (marksRun s p .progress .outcome)
+  unfolding marksRun
+  marks-run-told p =
+      let q = marksRead s (s .geometry .blocks) p in
+      cases (isPassed (q .outcome))
+      (λ t. rw t (round-run-told (marksTo (s .geometry) (q .line .chip .array) (s .geometry .blocks)) q))
+      (λ t. rw t (told-stop (q .outcome)))
+
+  -- a mount
+  mount-told : (n : ℕ) (p : Progress) → Told (mountEnd s n p .answer) (p .outcome)
+  unfolding mountEnd
+  mount-told n p =
+      cases (isPassed (p .outcome))
+      (λ t. rw t (told-passed _ (p .outcome) t (λ e. omega (arith, e, answer-judged (s .geometry) (p .line .chip .array) .1))))
+      (λ t. rw t (told-stop (p .outcome)))
+
+-- a request that has come to p, and one that starts nothing
+module _ (s : Setting) (d : Device) where
+  exactly : (r : Result) (p : Progress) → HeardFrom s d p → Told (r .answer) (p .outcome) → SilentExactly s d (performed r p)
+  unfolding resultOf sentIn
+  exactly r p h t =
+      (λ z. (h .by (t .by z), λ e. omega (arith, e, z)), λ x. ⊎-elim (λ e. e) (λ e. absurd (x .1 e)) (t .so (h .so (x .0))))
+
+  unstarted-exactly : (r : Result) → (r .answer ≡ 10 → ⊥) → SilentExactly s d (unsent r)
+  unfolding resultOf sentIn startsIn SlowLast
+  unstarted-exactly r x = (λ z. absurd (x z), λ h. absurd (h .0))
+
+-- no refusal is 10
+refusal-other : (g : Geometry) (fits : Bool) (st : State) (logical page long : ℕ) → refusal g fits st logical page long ≡ 10 → ⊥
+refusal-other g fits st logical page long =
+    by-refusal g fits st logical page long (λ (k : ℕ). k ≡ 10 → ⊥) (λ a z. omega (arith, z)) (λ a b z. omega (arith, z)) (λ a b c z. omega (arith, z))
+    (λ a b c d z. omega (arith, z))
+    (λ a b c d e z. omega (arith, z))
+    (λ a z. omega (arith, z))
+
+-- every call of any store
+module _ (g : Geometry) (y : Store) (a : Lent) where
+  abbrev s : Setting
+  s = settingOf g a
+
+  abbrev from : Device
+  from = callLine (y .chip) (a .allowed) .chip
+
+  mount-exactly : SilentExactly s from (runOf g (toMount a) y)
+  unfolding mountRequest
+  mount-exactly =
+      let p = mountRun s (callLine (y .chip) (a .allowed)) in
+      cases (sizedFor s (y .chip))
+      (λ t. rw t (exactly s from (mountEnd s (a .allowed) p) p (mount-heard s (y .chip) (a .allowed)) (mount-told s (a .allowed) p)))
+      (λ f. rw f (unstarted-exactly s from _ (λ e. omega (arith, e))))
+
+  read-exactly : (logical page : ℕ) (buffer : List ℕ) → SilentExactly s from (runOf g (toRead a logical page buffer) y)
+  unfolding readRequest copyRequest readingBlock resultOf sentIn startedIn
+  read-exactly logical page buffer =
+      let block = getD (y .state .map) logical 0 in
+      let refused = refusalOf s (y .chip) (y .state) logical page buffer in
+      cases (eqb refused 0)
+      (λ t. cases (eqb block none) (λ u. rw (t, u) (unstarted-exactly s from (result 0 (y .state) (y .chip) 0) (λ e. omega (arith, e))))
+      (λ u. rw (t, u) (exactly s from (readingBlock s (y .chip) (a .allowed) (y .state) block page buffer .returned) (pageProgress s (y .chip) (a .allowed) block page) (page-heard s (y .chip) (a .allowed) block page) (told-for _))))
+      (λ f. rw f (unstarted-exactly s from (result refused (y .state) (y .chip) 0) (refusal-other g _ (y .state) logical page _)))
+
+  change-exactly : (refused : ℕ) (u : Update) → (refused ≡ 10 → ⊥) → SilentExactly s from (cond (eqb refused 0) (changeRequest s (y .chip) (a .allowed) (y .state) u) (unsent (result refused (y .state) (y .chip) 0)))
+  unfolding isPassed
+  change-exactly refused u x =
+      cases (eqb refused 0)
+      (λ t. rw t (exactly s from _ (changeCall s (y .chip) (a .allowed) (y .state) u .progress) (change-heard s (y .chip) (a .allowed) (y .state) u) (change-told s (y .state) u _ refl)))
+      (λ f. rw f (unstarted-exactly s from _ x))
+
+pub silent-exactly : (g : Geometry) (y : Store) → SilentCalls g y
+unfolding writeRequest eraseRequest
+silent-exactly g y (toMount a) h = mount-exactly g y a
+silent-exactly g y (toRead a logical page buffer) h = read-exactly g y a logical page buffer
+silent-exactly g y (toWrite a logical page bytes) h =
+    change-exactly g y a _ (writeUpdate (y .state) logical page bytes) (refusal-other g _ (y .state) logical page _)
+silent-exactly g y (toErase a logical) h =
+    change-exactly g y a _ (eraseUpdate logical) (refusal-other g _ (y .state) logical 0 _)
+silent-exactly g y (toIdentify a parameters logical) h = absurd h
+
+-- and every formatting
+pub format-exactly : (s : Setting) (d : Device) (n : ℕ) (st : State) → SilentExactly s (callLine d n .chip) (formatRequest s d n st)
+unfolding formatRequest
+format-exactly s d n st =
+    cases (sizedFor s d)
+    (λ t. rw t (exactly s _ _ (formatRun s d n .progress) (format-heard s d n) (marks-run-told s _)))
+    (λ f. rw f (unstarted-exactly s _ _ (λ e. omega (arith, e))))
