@@ -1,5 +1,3 @@
 pub mod KeptLaws
 pub mod LibraryLaws
-pub mod PriceLaws
-pub mod SalesLaws
 pub mod SizeLaws

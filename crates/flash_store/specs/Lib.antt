@@ -1,4 +1,2 @@
 pub mod Identify
 pub mod Library
-pub mod Prices
-pub mod Sales

@@ -1,7 +1,6 @@
 // Price rules for programs in C: the check of a table, and the price of a selection. c/price_rules.h says what is lent.
-use crate::BAD_BUFFER;
 ghost use mathlib.Core.Path.{_≡_};
-ghost use Rattle.flash_store.specs.Prices.{written, checkingLent, pricingLent};
+ghost use Rattle.c_prices.specs.Prices.{written, checkingLent, pricingLent};
 
 // Checks a table, and writes the smallest selection at fault.
 #[no_mangle]
@@ -13,12 +12,7 @@ pub extern "C" fn price_rules_check(
 ) -> usize
     ensures { λ r. ⌜ written r (now (fault .exit)) ≡ checkingLent (now (first .entry)) (now (last .entry)) (now (price .entry)) (now (fault .entry)) ⌝ }
 {
-    if fault.len() != 1 {
-        return BAD_BUFFER;
-    }
-    let checked = price_rules::check(first, last, price);
-    fault[0] = checked.fault;
-    checked.answer
+    c_prices::check(first, last, price, fault)
 }
 
 // Writes the price of a selection, in a table that the check accepts.
@@ -32,10 +26,5 @@ pub extern "C" fn price_rules_price(
 ) -> usize
     ensures { λ r. ⌜ written r (now (found .exit)) ≡ pricingLent (now (first .entry)) (now (last .entry)) (now (price .entry)) selection (now (found .entry)) ⌝ }
 {
-    if found.len() != 1 {
-        return BAD_BUFFER;
-    }
-    let priced = price_rules::price_of(first, last, price, selection);
-    found[0] = priced.price;
-    priced.answer
+    c_prices::price_of(first, last, price, selection, found)
 }

@@ -1,7 +1,6 @@
 // The box's sales against the coin mechanism's, for programs in C.
-use crate::BAD_BUFFER;
 ghost use mathlib.Core.Path.{_≡_};
-ghost use Rattle.flash_store.specs.Sales.{salesHanded, reconcilingLent};
+ghost use Rattle.c_sales.specs.Sales.{salesHanded, reconcilingLent};
 
 // Holds one list against the other. c/reconcile.h says what is lent.
 #[no_mangle]
@@ -15,22 +14,12 @@ pub extern "C" fn reconcile_lists(
 ) -> usize
     ensures { λ r. ⌜ salesHanded r (now (totals .exit)) (now (difference .exit)) ≡ reconcilingLent (now («box_numbers» .entry)) (now («box_amounts» .entry)) (now («mechanism_numbers» .entry)) (now («mechanism_amounts» .entry)) (now (totals .entry)) (now (difference .entry)) ⌝ }
 {
-    if totals.len() != 3 {
-        return BAD_BUFFER;
-    }
-    if difference.len() != 1 {
-        return BAD_BUFFER;
-    }
-    let r = reconcile::reconcile(
+    c_sales::reconcile(
         box_numbers,
         box_amounts,
         mechanism_numbers,
         mechanism_amounts,
-    );
-    let signed = r.difference;
-    totals[0] = r.agreed;
-    totals[1] = r.only_box;
-    totals[2] = r.only_mechanism;
-    difference[0] = signed;
-    r.answer
+        totals,
+        difference,
+    )
 }

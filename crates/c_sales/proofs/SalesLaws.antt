@@ -8,7 +8,7 @@ use lib.IntN.{ℤ}
 use lib.ListN.{length, set}
 use Rattle.reconcile.specs.Totals.{reconciled}
 use Rattle.reconcile.specs.declared.Reconciled.{Reconciled}
-use Rattle.flash_store.specs.Sales.{salesHanded, salesOut, reconcilingLent}
+use Rattle.c_sales.specs.Sales.{salesHanded, salesOut, reconcilingLent}
 
 -- every element stored
 three-stored : (xs : List ℕ) (a b c : ℕ) → length xs ≡ 3 → set (set (set xs 0 a) 1 b) 2 c ≡ a ∷ b ∷ c ∷ []

@@ -1,13 +1,13 @@
--- `flash_store::prices::price_rules_check` meets its contract. Assumes nothing.
+-- `c_prices::check` meets its contract. Assumes nothing.
 use mathlib.Core.Path.{ap, _∙_}
 use denote.Ref.{now}
 use Rattle.price_rules.specs.declared.Checked.{Checked}
 use Rattle.price_rules.specs.Faults.{checking}
-use Rattle.flash_store.specs.Prices.{resultIn}
-use Rattle.flash_store.proofs.PriceLaws.{result-written, result-kept}
+use Rattle.c_prices.specs.Prices.{resultIn}
+use Rattle.c_prices.proofs.PriceLaws.{result-written, result-kept}
 use borrow.Author.Needs.{needs}
-use Rattle.flash_store.proofs.prices.price_rules_check.Statement.{statement}
-use Rattle.flash_store.proofs.prices.price_rules_check.Tie as tie
+use Rattle.c_prices.proofs.check.Statement.{statement}
+use Rattle.c_prices.proofs.check.Tie as tie
 
 returns : tie.Need-returns
 returns c = result-kept (now (c .before .before .before .before .before .args .fault)) (checking (now (c .before .before .before .before .before .args .first)) (now (c .before .before .before .before .before .args .last)) (now (c .before .before .before .before .before .args .price)) .answer) (checking (now (c .before .before .before .before .before .args .first)) (now (c .before .before .before .before .before .args .last)) (now (c .before .before .before .before .before .args .price)) .fault) (c .if1 .taken)
@@ -27,6 +27,6 @@ returns-2 c =
     result-written buffer (c .check .result .answer) (c .check .result .fault) (c .before .if1 .left)
     ∙ ap (λ (k : Checked). resultIn buffer (k .answer) (k .fault)) (c .check .ensures)
 
-pub price-rules-check-spec : {M : Type 1} → statement M
-price-rules-check-spec =
+pub check-spec : {M : Type 1} → statement M
+check-spec =
     tie.close (tie.spec returns check-requires slice-write-fault same-length returns-2)

@@ -5,7 +5,7 @@ use mathlib.Core.Path.{_≡_, refl, ap}
 use native.Mathlib.Omega.{arith}
 use borrow.Author.Tests.{eq-eqb, ne-eqb}
 use lib.ListN.{length, set}
-use Rattle.flash_store.specs.Prices.{written, resultIn}
+use Rattle.c_prices.specs.Prices.{written, resultIn}
 
 set-one : (buffer : List ℕ) (x : ℕ) → length buffer ≡ 1 → set buffer 0 x ≡ x ∷ []
 set-one [] x h = absurd (omega arith)

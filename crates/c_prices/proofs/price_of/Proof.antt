@@ -1,13 +1,13 @@
--- `flash_store::prices::price_rules_price` meets its contract. Assumes nothing.
+-- `c_prices::price_of` meets its contract. Assumes nothing.
 use mathlib.Core.Path.{ap, _∙_}
 use denote.Ref.{now}
 use Rattle.price_rules.specs.declared.Priced.{Priced}
 use Rattle.price_rules.specs.Faults.{pricing}
-use Rattle.flash_store.specs.Prices.{resultIn}
-use Rattle.flash_store.proofs.PriceLaws.{result-written, result-kept}
+use Rattle.c_prices.specs.Prices.{resultIn}
+use Rattle.c_prices.proofs.PriceLaws.{result-written, result-kept}
 use borrow.Author.Needs.{needs}
-use Rattle.flash_store.proofs.prices.price_rules_price.Statement.{statement}
-use Rattle.flash_store.proofs.prices.price_rules_price.Tie as tie
+use Rattle.c_prices.proofs.price_of.Statement.{statement}
+use Rattle.c_prices.proofs.price_of.Tie as tie
 
 returns : tie.Need-returns
 returns c = result-kept (now (c .before .before .before .before .before .args .found)) (pricing (now (c .before .before .before .before .before .args .first)) (now (c .before .before .before .before .before .args .last)) (now (c .before .before .before .before .before .args .price)) (c .before .before .before .before .before .args .selection) .answer) (pricing (now (c .before .before .before .before .before .args .first)) (now (c .before .before .before .before .before .args .last)) (now (c .before .before .before .before .before .args .price)) (c .before .before .before .before .before .args .selection) .price) (c .if1 .taken)
@@ -27,6 +27,6 @@ returns-2 c =
     result-written buffer (c .price-of .result .answer) (c .price-of .result .price) (c .before .if1 .left)
     ∙ ap (λ (k : Priced). resultIn buffer (k .answer) (k .price)) (c .price-of .ensures)
 
-pub price-rules-price-spec : {M : Type 1} → statement M
-price-rules-price-spec =
+pub price-of-spec : {M : Type 1} → statement M
+price-of-spec =
     tie.close (tie.spec returns price-of-requires slice-write-found same-length returns-2)
