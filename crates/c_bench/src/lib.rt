@@ -6,9 +6,8 @@ ghost use mathlib.Core.Path.{_≡_};
 ghost use lib.ListN.{length};
 ghost use Rattle.cells.specs.Cells.{over};
 ghost use Rattle.chip_array.specs.Device.{setting};
-ghost use Rattle.bus_sequences.specs.Cycles.{readOutputs};
-ghost use Rattle.operations.specs.Trace.{readSends, programSends};
-ghost use Rattle.c_bench.specs.Start.{part, begun};
+ghost use Rattle.bus_sequences.specs.Cycles.{readCycles, readOutputs, programCycles};
+ghost use Rattle.c_bench.specs.Start.{part, begun, measured, measuredBy};
 
 // The geometry of the chip in the data sheet.
 fn part() -> Geometry
@@ -33,7 +32,7 @@ pub extern "C" fn chip_bench_read(
     row: usize,
     buffer: &mut [u8],
 ) -> usize
-    ensures { λ r. ⌜ r ≡ length (readSends (setting part (now (mask .entry)) (now (fates .entry))) (begun (now (array .entry)) (now (register .entry)) (now (history .entry))) row 0 (length (now (buffer .entry)))) ⌝ }
+    ensures { λ r. ⌜ measured r (now (array .exit)) (now (register .exit)) (now (history .exit)) ≡ measuredBy (setting part (now (mask .entry)) (now (fates .entry))) (begun (now (array .entry)) (now (register .entry)) (now (history .entry))) (readCycles (setting part (now (mask .entry)) (now (fates .entry))) (begun (now (array .entry)) (now (register .entry)) (now (history .entry))) row 0 (length (now (buffer .entry)))) ⌝ }
     ensures { λ _. ⌜ now (buffer .exit) ≡ over (readOutputs (setting part (now (mask .entry)) (now (fates .entry))) (begun (now (array .entry)) (now (register .entry)) (now (history .entry))) row 0 (length (now (buffer .entry)))) (now (buffer .entry)) ⌝ }
 {
     let start = Bus::new(Interface::power_on(), 1000000);
@@ -64,7 +63,7 @@ pub extern "C" fn chip_bench_program(
     row: usize,
     data: &[u8],
 ) -> usize
-    ensures { λ r. ⌜ r ≡ length (programSends (setting part (now (mask .entry)) (now (fates .entry))) (begun (now (array .entry)) (now (register .entry)) (now (history .entry))) row (now («data» .entry))) ⌝ }
+    ensures { λ r. ⌜ measured r (now (array .exit)) (now (register .exit)) (now (history .exit)) ≡ measuredBy (setting part (now (mask .entry)) (now (fates .entry))) (begun (now (array .entry)) (now (register .entry)) (now (history .entry))) (programCycles (setting part (now (mask .entry)) (now (fates .entry))) (begun (now (array .entry)) (now (register .entry)) (now (history .entry))) row (now («data» .entry))) ⌝ }
 {
     let start = Bus::new(Interface::power_on(), 1000000);
     let done = operations::program(

@@ -1,13 +1,10 @@
 -- `c_bench::chip_bench_program` meets its contract. Assumes nothing.
 use Rattle.c_bench.specs.Start.{part, begun}
 use Rattle.bus_sequences.specs.Cycles.{programCycles}
-use Rattle.bus.proofs.LineLaws.{sent-counts}
-use Rattle.bus.specs.Line.{Line}
 use Rattle.chip_array.specs.Device.{setting}
-use mathlib.Core.Path.{ap}
-use native.Mathlib.Omega.{arith}
 use denote.Ref.{now}
 use borrow.Author.Needs.{needs}
+use Rattle.c_bench.proofs.MeasureLaws.{left-most, measured-is}
 use Rattle.c_bench.proofs.chip_bench_program.Statement.{statement}
 use Rattle.c_bench.proofs.chip_bench_program.Tie as tie
 
@@ -34,7 +31,7 @@ sub-result c =
     let s = setting part (now (a .mask)) (now (a .fates)) in
     let l = begun (now (a .array)) (now (a .register)) (now (a .history)) in
     let e = rw (at-part .part .ensures, at-new .new .ensures, at-power-on .power-on .ensures) at (at-program .program .ensures .0) in
-    omega (arith, sent-counts s l (programCycles s l (a .row) (now (a .«data»))), ap (λ (x : Line). x .left) e)
+    left-most s l (programCycles s l (a .row) (now (a .«data»))) _ _ _ _ e
 
 same-length : tie.Need-same-length
 same-length c = search needs
@@ -56,7 +53,7 @@ returns c =
     let s = setting part (now (a .mask)) (now (a .fates)) in
     let l = begun (now (a .array)) (now (a .register)) (now (a .history)) in
     let e = rw (at-part .part .ensures, at-new .new .ensures, at-power-on .power-on .ensures) at (at-program .program .ensures .0) in
-    omega (arith, sent-counts s l (programCycles s l (a .row) (now (a .«data»))), ap (λ (x : Line). x .left) e)
+    measured-is s l (programCycles s l (a .row) (now (a .«data»))) _ _ _ _ e
 
 pub chip-bench-program-spec : {M : Type 1} → statement M
 chip-bench-program-spec =

@@ -1,14 +1,11 @@
 -- `c_bench::chip_bench_read` meets its contract. Assumes nothing.
 use Rattle.c_bench.specs.Start.{part, begun}
 use Rattle.bus_sequences.specs.Cycles.{readCycles}
-use Rattle.bus.proofs.LineLaws.{sent-counts}
-use Rattle.bus.specs.Line.{Line}
 use Rattle.chip_array.specs.Device.{setting}
 use lib.ListN.{length}
-use mathlib.Core.Path.{ap}
-use native.Mathlib.Omega.{arith}
 use denote.Ref.{now}
 use borrow.Author.Needs.{needs}
+use Rattle.c_bench.proofs.MeasureLaws.{left-most, measured-is}
 use Rattle.c_bench.proofs.chip_bench_read.Statement.{statement}
 use Rattle.c_bench.proofs.chip_bench_read.Tie as tie
 
@@ -35,7 +32,7 @@ sub-result c =
     let s = setting part (now (a .mask)) (now (a .fates)) in
     let l = begun (now (a .array)) (now (a .register)) (now (a .history)) in
     let e = rw (at-part .part .ensures, at-new .new .ensures, at-power-on .power-on .ensures) at (at-read .read .ensures .0) in
-    omega (arith, sent-counts s l (readCycles s l (a .row) 0 (length (now (a .buffer)))), ap (λ (x : Line). x .left) e)
+    left-most s l (readCycles s l (a .row) 0 (length (now (a .buffer)))) _ _ _ _ e
 
 same-length : tie.Need-same-length
 same-length c = search needs
@@ -60,7 +57,7 @@ returns c =
     let s = setting part (now (a .mask)) (now (a .fates)) in
     let l = begun (now (a .array)) (now (a .register)) (now (a .history)) in
     let e = rw (at-part .part .ensures, at-new .new .ensures, at-power-on .power-on .ensures) at (at-read .read .ensures .0) in
-    (omega (arith, sent-counts s l (readCycles s l (a .row) 0 (length (now (a .buffer)))), ap (λ (x : Line). x .left) e), rw (at-part .part .ensures, at-new .new .ensures, at-power-on .power-on .ensures) at (at-read .read .ensures .1 .1))
+    (measured-is s l (readCycles s l (a .row) 0 (length (now (a .buffer)))) _ _ _ _ e, rw (at-part .part .ensures, at-new .new .ensures, at-power-on .power-on .ensures) at (at-read .read .ensures .1 .1))
 
 pub chip-bench-read-spec : {M : Type 1} → statement M
 chip-bench-read-spec =
