@@ -15,7 +15,7 @@ static int differs;
 
 static int64_t sum(const struct reconcile_sales *sales) {
     int64_t total = 0;
-    for (size_t i = 0; i < sales->count; i++) {
+    for (size_t i = 0; sales->amounts && i < sales->count; i++) {
         total += sales->amounts[i];
     }
     return total;
@@ -58,6 +58,18 @@ static void show_short(void) {
     show("falls at the last", (struct reconcile_sales){falls, amounts, 4}, mechanism, RECONCILE_REFUSED, 0);
 }
 
+/* A list of which one half, or the whole, is not given. */
+static void show_missing(void) {
+    static const uint32_t numbers[] = {1, 2, 5}, amounts[] = {100, 150, 60};
+    struct reconcile_sales whole = {numbers, amounts, 3}, none = {NULL, NULL, 3};
+    struct reconcile_sales no_amounts = {numbers, NULL, 3}, no_numbers = {NULL, amounts, 3};
+    show("box, no amount", no_amounts, whole, RECONCILE_REFUSED, 0);
+    show("box, no number", no_numbers, whole, RECONCILE_REFUSED, 0);
+    show("mechanism, no amount", whole, no_amounts, RECONCILE_REFUSED, 0);
+    show("mechanism, no number", whole, no_numbers, RECONCILE_REFUSED, 0);
+    show("mechanism not given", whole, none, RECONCILE_DONE, 0);
+}
+
 static void show_long(void) {
     for (uint32_t i = 0; i <= LONGEST; i++) {
         longest[i] = i;
@@ -90,6 +102,7 @@ static void show_plain(void) {
 
 int main(void) {
     show_short();
+    show_missing();
     show_long();
     show_plain();
     return differs;

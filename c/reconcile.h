@@ -47,11 +47,11 @@ size_t reconcile_lists(const uint32_t *box_numbers, size_t box_numbers_len, cons
                        const uint32_t *mechanism_amounts, size_t mechanism_amounts_len, uint64_t *totals,
                        size_t totals_len, int64_t *difference, size_t difference_len);
 
-/* A list of sales. */
+/* A list of sales. NULL counts as no number, or as no amount, whatever count says; both NULL is a list without a sale. */
 struct reconcile_sales {
-    const uint32_t *numbers; /* may be NULL: no sale */
+    const uint32_t *numbers;
     const uint32_t *amounts;
-    size_t count;
+    size_t count; /* of the numbers, and of the amounts */
 };
 
 struct reconcile_totals {
@@ -64,17 +64,18 @@ static inline const uint32_t *reconcile_lent(const uint32_t *entries) {
     return entries ? entries : &none;
 }
 
+static inline size_t reconcile_length(const uint32_t *entries, size_t count) { return entries ? count : 0; }
+
 /* Holds the box's list against the mechanism's. */
 static inline enum reconcile_answer reconcile_do(const struct reconcile_sales *box,
                                                  const struct reconcile_sales *mechanism,
                                                  struct reconcile_totals *out) {
     uint64_t totals[RECONCILE_TOTALS] = {0, 0, 0};
-    size_t box_len = box->numbers && box->amounts ? box->count : 0;
-    size_t mechanism_len = mechanism->numbers && mechanism->amounts ? mechanism->count : 0;
-    size_t answer = reconcile_lists(reconcile_lent(box->numbers), box_len, reconcile_lent(box->amounts), box_len,
-                                    reconcile_lent(mechanism->numbers), mechanism_len,
-                                    reconcile_lent(mechanism->amounts), mechanism_len, totals, RECONCILE_TOTALS,
-                                    &out->difference, 1);
+    size_t answer = reconcile_lists(
+        reconcile_lent(box->numbers), reconcile_length(box->numbers, box->count), reconcile_lent(box->amounts),
+        reconcile_length(box->amounts, box->count), reconcile_lent(mechanism->numbers),
+        reconcile_length(mechanism->numbers, mechanism->count), reconcile_lent(mechanism->amounts),
+        reconcile_length(mechanism->amounts, mechanism->count), totals, RECONCILE_TOTALS, &out->difference, 1);
     out->agreed = totals[0];
     out->only_box = totals[1];
     out->only_mechanism = totals[2];
