@@ -1,12 +1,19 @@
-// Compares the library, call by call and byte for byte, with the second implementation in store.rs.
+// Compares the library, call by call and byte for byte, with the second implementation in store.rs, prices.rs, sales.rs and
+// draws.rs.
 // `compare` runs a fixed selection, `compare COUNT SEED` random lists until COUNT calls were made.
 
 mod book;
 mod chips;
+#[allow(dead_code)]
+mod draws;
 mod fixed;
 mod identify;
 mod library;
 mod lists;
+mod price_tables;
+mod prices;
+mod sale_lists;
+mod sales;
 mod store;
 
 use book::*;
@@ -15,6 +22,8 @@ use fixed::*;
 use identify::*;
 use library::*;
 use lists::*;
+use price_tables::*;
+use sale_lists::*;
 use std::process::exit;
 use store::*;
 
@@ -92,8 +101,13 @@ impl Random {
 
 // ---- counting and reporting ----
 
-const KINDS: [&str; 6] = ["format", "mount", "read", "write", "erase", "identify"];
-const ANSWERS: [usize; 15] = [0, 1, 2, 3, 4, 5, 6, 7, 8, 9, 10, 11, 12, 100, 255];
+const KINDS: [&str; 9] = ["format", "mount", "read", "write", "erase", "identify", "check", "price", "reconcile"];
+const ANSWERS: [usize; 17] = [0, 1, 2, 3, 4, 5, 6, 7, 8, 9, 10, 11, 12, 17, 18, 100, 255];
+
+// Calls that are no requests to the store: the check of price rules, a price, sales held against each other.
+const CHECK: usize = 6;
+const PRICE: usize = 7;
+const RECONCILE: usize = 8;
 
 fn kind_of(request: &Request) -> usize {
     match request {
@@ -110,7 +124,7 @@ fn kind_of(request: &Request) -> usize {
 struct Run {
     origin: String,
     calls: usize,
-    answers: [[usize; 15]; 6],
+    answers: [[usize; ANSWERS.len()]; KINDS.len()],
     books: usize,
     entered: usize,
     progress: usize,
@@ -122,10 +136,10 @@ impl Run {
         Run { origin: "a chip's setting".to_string(), ..Run::default() }
     }
 
-    fn count(&mut self, request: &Request, answer: usize) {
+    fn count(&mut self, kind: usize, answer: usize) {
         self.calls += 1;
         match ANSWERS.iter().position(|known| *known == answer) {
-            Some(place) => self.answers[kind_of(request)][place] += 1,
+            Some(place) => self.answers[kind][place] += 1,
             None => self.fail(&format!("answer {answer} is none of the paper's")),
         }
         if self.progress > 0 && self.calls % self.progress == 0 {
@@ -277,7 +291,7 @@ impl World {
         let before = self.own.shown_part();
         let (mask, fates) = (call.mask.clone(), call.fates.clone());
         let answer = self.own_call(&geometry, request, call);
-        run.count(request, answer);
+        run.count(kind_of(request), answer);
         let theirs = library(&geometry, request, &mut self.library, call);
         let found = difference(&self.own, &self.library);
         if answer != theirs || found.is_some() || call.mask != mask || call.fates != fates {

@@ -1,7 +1,9 @@
 // The fixed selection: the paper's bench figures, then every cut, failure and silence of requests on small chips,
-// forged states and interfaces, wrong lengths, parameter pages, a chip with rows past sixteen bits, and random lists.
+// forged states and interfaces, wrong lengths, parameter pages, a chip with rows past sixteen bits, and random lists;
+// and beside the store the draws of the test load, price rules and lists of sales.
 
 use super::*;
+use crate::draws::drawn;
 
 const RANDOM_CALLS: usize = 100_000;
 
@@ -20,6 +22,27 @@ pub fn fixed_selection(run: &mut Run) {
     parameter_pages(run);
     large_chip(run);
     random_lists(run, RANDOM_CALLS, 1);
+    draws_alike(run);
+    price_tables(run);
+    sale_lists(run);
+}
+
+extern "C" {
+    fn test_load_draw(last: u32) -> u32;
+}
+
+// The draws after the least and the greatest numbers, each the start of a thousand.
+fn draws_alike(run: &mut Run) {
+    for seed in (0..100).chain(u32::MAX - 100..=u32::MAX) {
+        run.origin = format!("draws from {seed}");
+        let mut last = seed;
+        for _ in 0..1000 {
+            // It takes a number and gives one; nothing is lent.
+            let library = unsafe { test_load_draw(last) };
+            last = drawn(last);
+            expect(run, "a draw", library, last);
+        }
+    }
 }
 
 // ---- bench figures ----
