@@ -4,13 +4,15 @@ use mathlib.Core.Bool.{cond}
 use mathlib.Core.List.{List}
 use lib.Dec.{eqb, ltb}
 use lib.ListN.{getD, length}
-use Rattle.bench.specs.declared.lines.Field.{Field}
-use Rattle.bench.specs.declared.lines.Field.the-variants.{Number, Missing}
+use Rattle.line_input.specs.declared.Field.{Field}
+use Rattle.line_input.specs.declared.Field.the-variants.{Number, Missing}
 use Rattle.bench.specs.declared.lines.Line.{Line}
-use Rattle.bench.specs.declared.lines.Line.the-variants.{Request as Says, Malformed}
-use Rattle.bench.specs.declared.lines.Request.{Request}
-use Rattle.bench.specs.declared.lines.Request.the-variants.{Format, Write, Read, Erase}
-use Rattle.bench.specs.Fields.{fieldAt}
+use Rattle.bench.specs.declared.lines.Line.the-variants.{Request as Says, Malformed, End, Unread as Failed}
+use Rattle.bench_requests.specs.declared.Request.{Request}
+use Rattle.bench_requests.specs.declared.Request.the-variants.{Format, Write, Read, Erase}
+use Rattle.line_input.specs.declared.lines.Ending.{Ending}
+use Rattle.line_input.specs.declared.lines.Ending.the-variants.{Whole, Long, Nothing, Unread}
+use Rattle.line_input.specs.Fields.{fieldAt}
 
 -- a request whose last field ends the line
 abbrev pub ending : List ℕ → ℕ → Request → Line
@@ -50,3 +52,10 @@ byLetter line letter =
 
 unfoldable pub parsed : List ℕ → Line
 parsed line = cond (eqb (length line) 0) Malformed (byLetter line (getD line 0 0))
+
+-- by how the line ended: only a whole one is taken
+abbrev pub lineOf : Ending → List ℕ → Line
+lineOf Whole line = parsed line
+lineOf Long line = Malformed
+lineOf Nothing line = End
+lineOf Unread line = Failed

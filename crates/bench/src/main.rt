@@ -1,47 +1,29 @@
 // The bench: requests from standard input on the small chip, a line printed for each.
 mod lines;
 
-use demo_store::Ended;
+use bench_requests::Figures;
+use bench_requests::Request;
 use demo_store::Store;
 use libc::STDERR_FILENO;
-use libc::STDOUT_FILENO;
 use lines::Line;
-use lines::Request;
+ghost use mathlib.Core.Path.{_≡_};
+ghost use Rattle.bench_requests.specs.Requests.{performed, figuresOf};
 
-fn perform(store: Store, request: Request) -> Ended {
-    let mask = [0u8; 192];
-    let fates = [0u32; 0];
-    let uncut = demo_store::UNCUT;
-    match request {
-        Request::Format => demo_store::format(store, &mask, &fates, uncut),
-        Request::Write(block, page, byte) => {
-            demo_store::write(store, &mask, &fates, uncut, block, page, byte)
-        }
-        Request::Read(block, page) => {
-            let read = demo_store::read(store, &mask, &fates, uncut, block, page);
-            read.ended
-        }
-        Request::Erase(block) => demo_store::erase(store, &mask, &fates, uncut, block),
-    }
+// Prints the figures of a request made on a store, and no others.
+fn show(before: Store, request: Request, figures: Figures)
+    requires { ⌜ figures ≡ figuresOf (performed before request) ⌝ }
+{
+    bench_requests::print(figures);
 }
 
-// Prints answer, cycles sent, and the valid unmarked blocks that hold nothing current.
-fn show(ended: Ended) {
-    let store = ended.store;
-    let state = store.state;
-    io::print_decimal(STDOUT_FILENO, ended.answer as u64);
-    io::write_all(STDOUT_FILENO, b" ");
-    io::print_decimal(STDOUT_FILENO, ended.sent as u64);
-    io::write_all(STDOUT_FILENO, b" ");
-    io::print_decimal(STDOUT_FILENO, state.free_blocks(4, 2) as u64);
-    io::write_all(STDOUT_FILENO, b"\n");
-}
-
-// The next request to perform, if there is one.
+// The next request, if there is one, and a message if the run ends before the end of the input.
 fn next_request() -> Line {
     let line = lines::next_line();
     if let Line::Malformed = line {
         io::write_all(STDERR_FILENO, b"bench: malformed line\n");
+    }
+    if let Line::Unread = line {
+        io::write_all(STDERR_FILENO, b"bench: the input cannot be read\n");
     }
     line
 }
@@ -56,8 +38,8 @@ fn main() {
         let Line::Request(request) = line else {
             return;
         };
-        let ended = perform(store, request);
-        show(ended);
+        let ended = bench_requests::perform(store, request);
+        show(store, request, bench_requests::figures_of(ended));
         store = ended.store;
         turns -= 1;
     }

@@ -1,47 +1,56 @@
--- The requests of the test load made one by one on the small chip, each with no mask bit, no fate word and no cut.
-use Prim.Native.Nat.{ℕ}
+-- The test load on the small chip: how each of its requests ends, made one by one.
+use Prim.Native.Nat.{ℕ, zero, suc}
 use mathlib.Core.Bool.{cond}
 use mathlib.Core.List.{List, [], _∷_}
+use mathlib.Core.Path.{_≡_}
 use lib.Dec.{eqb}
-use lib.ListN.{replicate}
-use Rattle.geometry.specs.declared.Geometry.{Geometry}
-use Rattle.chip_array.specs.Device.{Setting, setting}
-use Rattle.request.specs.Call.{Result}
-use Rattle.format.specs.Format.{formatting}
-use Rattle.read.specs.Reading.{readingPage}
-use Rattle.write_changes.specs.Changes.{writing, erasingLogical}
 use Rattle.demo_store.specs.declared.Store.{Store}
-use Rattle.demo_store.specs.Small.{chipIn, newStore}
+use Rattle.demo_store.specs.declared.Ended.{Ended}
+use Rattle.demo_store.specs.Small.{newStore}
+use Rattle.bench_requests.specs.declared.Request as bench
+use Rattle.bench_requests.specs.declared.Request.the-variants as made
+use Rattle.bench_requests.specs.declared.Figures.{Figures}
+use Rattle.bench_requests.specs.Requests.{performed, figuresOf}
 use Rattle.test_load.specs.declared.Request.{Request}
 use Rattle.test_load.specs.declared.Request.the-variants.{Erase, Read, Write}
 use Rattle.test_load.specs.Requests.{requestsFrom}
 
--- the store that a request leaves
-abbrev pub storeAfter : Geometry → Result → Store
-storeAfter g r =
-    record { geometry = g; state = r .state; interface = r .chip .interface; array = r .chip .array; register = r .chip .register; history = r .chip .history }
+-- a request of the load as the bench makes it
+abbrev pub asked : Request → bench.Request
+asked (Erase block) = made.Erase block
+asked (Read block page) = made.Read block page
+asked (Write block page byte) = made.Write block page byte
 
-abbrev pub plainly : Store → Setting
-plainly s = setting (s .geometry) (replicate 192 0) []
+-- how requests end that are made one by one, from a store on
+unfoldable pub endsFrom : Store → List Request → List Ended
+endsFrom s [] = []
+endsFrom s (r ∷ rs) = performed s (asked r) ∷ endsFrom (performed s (asked r) .store) rs
 
--- one request made on a store
-unfoldable pub asked : Store → Request → Store
-asked s (Erase block) = storeAfter (s .geometry) (erasingLogical (plainly s) (chipIn s) 4294967295 (s .state) block)
-asked s (Read block page) =
-    storeAfter (s .geometry) (readingPage (plainly s) (chipIn s) 4294967295 (s .state) block page (replicate 32 0) .returned)
-asked s (Write block page byte) =
-    storeAfter (s .geometry) (writing (plainly s) (chipIn s) 4294967295 (s .state) block page (replicate 32 byte))
+-- a new chip, formatted; seed 0 gets 2
+unfoldable pub begun : ℕ → Ended
+begun seed = cond (eqb seed 0) (record { answer = 2; sent = 0; store = newStore 2 }) (performed (newStore 2) made.Format)
 
--- one after the other
-unfoldable pub loaded : Store → List Request → Store
-loaded s [] = s
-loaded s (r ∷ rs) = loaded (asked s r) rs
+-- the requests after the formatting: none from seed 0
+abbrev pub requestCount : ℕ → ℕ → ℕ
+requestCount seed count = cond (eqb seed 0) 0 count
 
--- a new chip, formatted
-abbrev pub formatted : Store
-formatted =
-    storeAfter (newStore 2 .geometry) (formatting (plainly (newStore 2)) (chipIn (newStore 2)) 4294967295 (newStore 2 .state))
+abbrev pub following : ℕ → ℕ → List Ended
+following seed count = endsFrom (begun seed .store) (requestsFrom (requestCount seed count) seed 2 4)
 
--- where a load ends: seed 0 makes no request
-unfoldable pub loadEnd : ℕ → ℕ → Store
-loadEnd seed count = cond (eqb seed 0) (newStore 2) (loaded formatted (requestsFrom count seed 2 4))
+-- the whole load
+abbrev pub load : ℕ → ℕ → List Ended
+load seed count = begun seed ∷ following seed count
+
+-- a line printed at a place has the figures of the request there
+unfoldable pub HasLine : List Ended → ℕ → Figures → Type 0
+HasLine [] place figures = ⊥
+HasLine (e ∷ es) zero figures = figures ≡ figuresOf e
+HasLine (e ∷ es) (suc place) figures = HasLine es place figures
+
+-- how the last of them ends
+unfoldable pub lastOf : Ended → List Ended → Ended
+lastOf e [] = e
+lastOf e (x ∷ xs) = lastOf x xs
+
+abbrev pub loadEnd : ℕ → ℕ → Ended
+loadEnd seed count = lastOf (begun seed) (following seed count)

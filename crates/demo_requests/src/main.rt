@@ -6,20 +6,11 @@ use demo_store::Store;
 use demo_store::UNCUT;
 use libc::STDOUT_FILENO;
 
-fn print_number(x: usize) {
-    io::write_all(STDOUT_FILENO, b" ");
-    io::print_decimal(STDOUT_FILENO, x as u64);
-}
-
 // Prints how a request ended.
 pub(crate) fn show(label: &[u8], ended: Ended) {
-    let store = ended.store;
-    let state = store.state;
     io::write_all(STDOUT_FILENO, label);
-    print_number(ended.answer);
-    print_number(ended.sent);
-    print_number(state.free_blocks(4, 2));
-    io::write_all(STDOUT_FILENO, b"\n");
+    io::write_all(STDOUT_FILENO, b" ");
+    bench_requests::print(bench_requests::figures_of(ended));
 }
 
 // Formats a new chip, but for the byte in page 1 of block 2 where a factory mark would stand.

@@ -1,5 +1,7 @@
--- `bench::main` is safe and ends: the turns fall. Assumes nothing.
+-- `bench::main` shows no figures but those of the request that was made, and ends: the turns fall. Assumes nothing.
+use mathlib.Core.Path.{ap, _∙_}
 use borrow.Author.Needs.{needs}
+use Rattle.bench_requests.specs.Requests.{figuresOf}
 use Rattle.bench.proofs.main.Statement.{statement}
 use Rattle.bench.proofs.main.Tie as tie
 
@@ -27,8 +29,11 @@ returns c = search needs
 perform-requires : tie.Need-perform-requires Inv-loop μ-loop
 perform-requires c κs = search needs
 
+figures-of-requires : tie.Need-figures-of-requires Inv-loop μ-loop
+figures-of-requires c κs = search needs
+
 show-requires : tie.Need-show-requires Inv-loop μ-loop
-show-requires c κs = search needs
+show-requires c κs = c .figures-of .ensures ∙ ap figuresOf (c .before .perform .ensures)
 
 sub-turns : tie.Need-sub-turns Inv-loop μ-loop
 sub-turns c = search needs
@@ -54,6 +59,7 @@ main-spec =
     enum-known-line
     returns
     perform-requires
+    figures-of-requires
     show-requires
     sub-turns
     loop-less
