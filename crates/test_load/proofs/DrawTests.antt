@@ -1,9 +1,13 @@
--- Draws and requests computed: the first draws from seeds 1 and 2026, a request of each kind, and the first three of a load. Assumes nothing.
+-- Draws and requests computed: the draw from 0, the first draws from seeds 1 and 2026, a request of each kind, and the first three of a load. Assumes nothing.
 use mathlib.Core.List.{[], _∷_}
 use mathlib.Core.Path.{_≡_, refl}
 use Rattle.test_load.specs.Draws.{drawn}
 use Rattle.test_load.specs.Requests.{chosen, requestFrom, requestsFrom}
 use Rattle.test_load.specs.declared.Request.the-variants.{Erase, Read, Write}
+
+draw-0 : drawn 0 ≡ 0
+unfolding drawn
+draw-0 = refl
 
 draw-1 : drawn 1 ≡ 270369
 unfolding drawn
