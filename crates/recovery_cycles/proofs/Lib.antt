@@ -10,4 +10,3 @@ pub mod WaitLaws
 pub mod SilentLaws
 pub mod AnswerLaws
 pub mod StartTests
-pub mod MeaningLaws

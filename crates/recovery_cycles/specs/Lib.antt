@@ -1,4 +1,3 @@
 pub mod Starts
 pub mod Spared
 pub mod Silent
-pub mod Meaning

@@ -1,3 +1,4 @@
 pub mod Independent
 pub mod Reads
 pub mod Unready
+pub mod Meaning
