@@ -100,9 +100,10 @@ static void begin(void) {
     show("erase block 2", flash_store_do_erase(&store, &uncut, 2), FLASH_STORE_ADDRESS, &uncut, 0);
 }
 
-/* Power returns: the chip is as the cut left it, its interface is new, and the state is gone. */
+/* Power returns: the cells are as the cut left them, interface and page register are new, and the state is gone. */
 static void power_on(void) {
     memset(store.interface, 0, sizeof store.interface);
+    memset(page_register, 0, sizeof page_register);
     memset(store.state, 0, sizeof store.state);
 }
 

@@ -8,7 +8,7 @@
  *
  * Start with struct flash_store, struct flash_store_call and the functions flash_store_do_..., at the end of this file:
  *   a new chip       array all FFh but for factory marks, history all 0, interface and state all 0; then format
- *   power returns    interface and state all 0; array, page_register and history as they were left; then mount
+ *   power returns    interface and state all 0, page_register any bytes; array and history as they were left; then mount
  *   a call           a product passes no mask, no fate words and FLASH_STORE_UNCUT; mask, fates and allowance are for tests,
  *                    which make the model fail, fall silent or lose power by them
  *
