@@ -12,7 +12,7 @@
  *   a call           a product passes no mask, no fate words and FLASH_STORE_UNCUT; mask, fates and allowance are for tests,
  *                    which make the model fail, fall silent or lose power by them
  *
- * Stack that a call takes, measured as docs/BENCHMARKS.md says: format under 90,000 bytes, mount under 130,000, read under
+ * Stack that a call takes, measured as docs/BENCHMARKS.md says: format under 90,000 bytes, mount under 75,000, read under
  * 65,000, write under 95,000, erase under 85,000, identify under 25,000. No call takes memory from a heap, and the library
  * keeps nothing between calls.
  */
