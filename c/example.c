@@ -1,6 +1,6 @@
 /*
  * The small chip of 4 blocks, new: formatted, mounted, read and written; writes cut by a pulled plug, and what the next mount
- * finds; erased. Ends with 1 where a figure is not the expected one.
+ * finds; the write-protect line tied low and released; erased. Ends with 1 where a figure is not the expected one.
  */
 #include <stdio.h>
 #include <string.h>
@@ -9,8 +9,16 @@
 
 enum { MAIN = 32, SPARE = 16, PAGES = 4, BLOCKS = 4, LOGICAL = 2, PAGE = MAIN + SPARE, BLOCK = PAGE * PAGES };
 
-/* Cycles: a mount, a read with a copy, a new copy of a block, one that keeps three pages of the old copy. */
-enum { MOUNT = 931, READ = MAIN + 10, COPY = 235, COPY_OVER = COPY + 3 * READ };
+/* Cycles: the status, an erase, a program, the factory marks after a reset, a mount, a read with a copy. */
+enum { STATUS = 2, ERASE = 7, PROGRAM = PAGE + 9, MARKS = 91, MOUNT = 931, READ = MAIN + 10 };
+
+/* A filled block, a formatting, a new copy of a block, one that keeps three pages of the old copy. */
+enum {
+    FILL = ERASE + PAGES * PROGRAM,
+    FORMAT = MARKS + STATUS + BLOCKS * ERASE + FILL,
+    COPY = STATUS + FILL,
+    COPY_OVER = COPY + 3 * READ
+};
 
 static uint8_t array[BLOCK * BLOCKS], page_register[PAGE], history[BLOCKS], mask[BLOCK], page[MAIN];
 
@@ -31,6 +39,7 @@ static struct flash_store store = {
 /* As a product calls: no mask, no fate words, no cut. */
 static struct flash_store_call uncut = {.allowed = FLASH_STORE_UNCUT};
 static struct flash_store_call cut = {.mask = mask, .mask_len = sizeof mask, .allowed = 100};
+static struct flash_store_call low = {.allowed = FLASH_STORE_UNCUT, .write_protected = 1};
 
 static int differs;
 
@@ -43,14 +52,14 @@ static void show(const char *name, size_t answer, size_t expected, struct flash_
     call->sent = 0;
 }
 
-static size_t read_page(size_t block, size_t length) {
-    return flash_store_do_read(&store, &uncut, block, 0, page, length);
+static size_t read_page(struct flash_store_call *call, size_t block, size_t length) {
+    return flash_store_do_read(&store, call, block, 0, page, length);
 }
 
 /* Reads page 0 of block 0, of which every byte must be this one. */
-static void show_page(const char *name, uint8_t byte, size_t cycles) {
+static void show_page(const char *name, struct flash_store_call *call, uint8_t byte, size_t cycles) {
     memset(page, ~byte, sizeof page);
-    show(name, read_page(0, MAIN), FLASH_STORE_DONE, &uncut, cycles);
+    show(name, read_page(call, 0, MAIN), FLASH_STORE_DONE, call, cycles);
     printf("  first byte %02x\n", page[0]);
     for (size_t i = 0; i < MAIN; i++) {
         if (page[i] != byte) {
@@ -85,18 +94,18 @@ static size_t format_three(void) {
 /* The new chip formatted and mounted, and calls that are refused. */
 static void begin(void) {
     memset(array, 0xff, sizeof array);
-    show("read before any mount", read_page(0, MAIN), FLASH_STORE_MOUNT_FIRST, &uncut, 0);
+    show("read before any mount", read_page(&uncut, 0, MAIN), FLASH_STORE_MOUNT_FIRST, &uncut, 0);
     show("write before any mount", write_page(&uncut, 0), FLASH_STORE_MOUNT_FIRST, &uncut, 0);
     show("format, 3 logical blocks", format_three(), FLASH_STORE_GEOMETRY, &uncut, 0);
     show("format, state a byte short", format_short(), FLASH_STORE_BAD_BUFFER, &uncut, 0);
     show("mount of a new chip", flash_store_do_mount(&store, &uncut), FLASH_STORE_NO_TABLE, &uncut, MOUNT);
-    show("format", flash_store_do_format(&store, &uncut), FLASH_STORE_DONE, &uncut, 354);
+    show("format", flash_store_do_format(&store, &uncut), FLASH_STORE_DONE, &uncut, FORMAT);
     show("mount cut after 100 cycles", flash_store_do_mount(&store, &cut), FLASH_STORE_CUT, &cut, 100);
-    show("read after the cut", read_page(0, MAIN), FLASH_STORE_MOUNT_FIRST, &uncut, 0);
+    show("read after the cut", read_page(&uncut, 0, MAIN), FLASH_STORE_MOUNT_FIRST, &uncut, 0);
     show("mount", flash_store_do_mount(&store, &uncut), FLASH_STORE_DONE, &uncut, MOUNT);
-    show_page("read block 0 page 0", 0xff, 0);
-    show("read block 2 page 0", read_page(2, MAIN), FLASH_STORE_ADDRESS, &uncut, 0);
-    show("read into 31 bytes", read_page(0, MAIN - 1), FLASH_STORE_LENGTH, &uncut, 0);
+    show_page("read block 0 page 0", &uncut, 0xff, 0);
+    show("read block 2 page 0", read_page(&uncut, 2, MAIN), FLASH_STORE_ADDRESS, &uncut, 0);
+    show("read into 31 bytes", read_page(&uncut, 0, MAIN - 1), FLASH_STORE_LENGTH, &uncut, 0);
     show("erase block 2", flash_store_do_erase(&store, &uncut, 2), FLASH_STORE_ADDRESS, &uncut, 0);
 }
 
@@ -112,25 +121,44 @@ static void pull_plug(const char *name, uint8_t written, uint32_t allowed, uint8
     memset(mask, taken, sizeof mask);
     cut.allowed = allowed;
     show(name, write_page(&cut, written), FLASH_STORE_CUT, &cut, allowed);
-    show("read after the cut", read_page(0, MAIN), FLASH_STORE_MOUNT_FIRST, &uncut, 0);
+    show("read after the cut", read_page(&uncut, 0, MAIN), FLASH_STORE_MOUNT_FIRST, &uncut, 0);
     power_on();
     show("mount", flash_store_do_mount(&store, &uncut), FLASH_STORE_DONE, &uncut, MOUNT);
-    show_page("read block 0 page 0", found, READ);
+    show_page("read block 0 page 0", &uncut, found, READ);
+}
+
+/* The write-protect line is low while boards are swapped: calls that write change nothing, and the others go on. */
+static void tie_low(uint8_t held) {
+    static uint8_t before[sizeof array];
+    memcpy(before, array, sizeof array);
+    show("write 77, line low", write_page(&low, 0x77), FLASH_STORE_PROTECTED, &low, STATUS);
+    show("erase block 0, line low", flash_store_do_erase(&store, &low, 0), FLASH_STORE_PROTECTED, &low, STATUS);
+    show("format, line low", flash_store_do_format(&store, &low), FLASH_STORE_PROTECTED, &low, MARKS + STATUS);
+    show_page("read block 0 page 0, line low", &low, held, READ);
+    show("mount, line low", flash_store_do_mount(&store, &low), FLASH_STORE_DONE, &low, MOUNT);
+    show_page("read block 0 page 0, line low", &low, held, READ);
+    if (memcmp(before, array, sizeof array) != 0) {
+        printf("the array has changed\n");
+        differs = 1;
+    }
+    show("write 77, line released", write_page(&uncut, 0x77), FLASH_STORE_DONE, &uncut, COPY_OVER);
+    show_page("read block 0 page 0", &uncut, 0x77, READ);
 }
 
 int main(void) {
     begin();
     show("write 11 to block 0 page 0", write_page(&uncut, 0x11), FLASH_STORE_DONE, &uncut, COPY);
-    show_page("read block 0 page 0", 0x11, READ);
+    show_page("read block 0 page 0", &uncut, 0x11, READ);
     show("write 22 over it", write_page(&uncut, 0x22), FLASH_STORE_DONE, &uncut, COPY_OVER);
-    show_page("read block 0 page 0", 0x22, READ);
-    /* An erase is 7 cycles, a program 57. Cut two before its end, a program has begun, and its status is not read. */
-    pull_plug("write 33, first program halved", 0x33, 7 + 57 - 2, 0x0f, 0x22);
+    show_page("read block 0 page 0", &uncut, 0x22, READ);
+    /* Cut two before its end, a program has begun, and its status is not read. */
+    pull_plug("write 33, first program halved", 0x33, STATUS + ERASE + PROGRAM - 2, 0x0f, 0x22);
     pull_plug("write 44, last program halved", 0x44, COPY_OVER - 2, 0x0f, 0x22);
     pull_plug("write 55, last program whole", 0x55, COPY_OVER - 2, 0xff, 0x55);
     cut.mask = NULL;
     pull_plug("write 66, no mask", 0x66, COPY_OVER - 2, 0xff, 0x55);
+    tie_low(0x55);
     show("erase block 0", flash_store_do_erase(&store, &uncut, 0), FLASH_STORE_DONE, &uncut, COPY);
-    show_page("read block 0 page 0", 0xff, READ);
+    show_page("read block 0 page 0", &uncut, 0xff, READ);
     return differs;
 }

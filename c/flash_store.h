@@ -11,8 +11,9 @@
  *   power returns    interface and state all 0, page_register any bytes; array and history as they were left; then mount
  *   a call           a product passes no mask, no fate words and FLASH_STORE_UNCUT; mask, fates and allowance are for tests,
  *                    which make the model fail, fall silent or lose power by them
+ *   the line         write_protected of each call tells whether the chip's write-protect line is low
  *
- * Stack that a call takes, measured as docs/BENCHMARKS.md says: format under 90,000 bytes, mount under 75,000, read under
+ * Stack that a call takes, measured as docs/BENCHMARKS.md says: format under 95,000 bytes, mount under 75,000, read under
  * 65,000, write under 95,000, erase under 85,000, identify under 25,000. No call takes memory from a heap, and the library
  * keeps nothing between calls.
  */
@@ -30,7 +31,7 @@ _Static_assert(sizeof(size_t) == 8, "the library is built for a size_t of 8 byte
 #endif
 
 /* The version of this header and its archive: docs/CHANGES.md. */
-#define FLASH_STORE_VERSION "4.5"
+#define FLASH_STORE_VERSION "4.6"
 
 /* The answers, in the order in which they are tested; SILENT and CUT come as they happen, CUT first. */
 enum flash_store_answer {
@@ -44,6 +45,8 @@ enum flash_store_answer {
     FLASH_STORE_NO_TABLE = 4,     /* no complete table: not mounted, chip unchanged */
     FLASH_STORE_WRONG_TABLE = 5,  /* the current table is wrong: not mounted, chip unchanged */
     FLASH_STORE_CLASH = 6,        /* two blocks with one number, or a copy of a logical block >= N: not mounted, chip unchanged */
+    FLASH_STORE_PROTECTED = 13,   /* format, write, erase: the write-protect line is low. The state is the one handed in, array and
+                                     history are unchanged; only the interface moves on, and the page register of a formatting */
     FLASH_STORE_SPENT = 9,        /* no sequence number left: stopped */
     FLASH_STORE_WORN = 8,         /* no block left: stopped */
     FLASH_STORE_NO_SIZES = 12,    /* identify: no copy of the parameter page is good: state and chip unchanged */
@@ -61,6 +64,8 @@ enum flash_store_answer {
  *   4 NO_TABLE         the chip was not formatted with this geometry and answer 0: take the right one, or format
  *   5 WRONG_TABLE      the same, or another number of logical blocks
  *   6 CLASH            the chip holds what this store does not leave: format, which gives it all up
+ *   13 PROTECTED       release the write-protect line and make the same call again. A state that was mounted still is: reads go
+ *                      on, and no mount brings the request back
  *   9 SPENT            mount, read what is to be kept, format
  *   8 WORN             write, erase: mount, read what is to be kept, take another chip. Format: fewer logical blocks, or another chip
  *   12 NO_SIZES        ask again; else take the sizes from the data sheet
@@ -72,6 +77,7 @@ enum flash_store_answer {
 enum {
     FLASH_STORE_STATE_BYTES = 9248,   /* the mounted state, laid out as docs/FORMAT.md says */
     FLASH_STORE_INTERFACE_WORDS = 12, /* the chip's command interface, laid out as docs/FORMAT.md says; all 0 at power on */
+    FLASH_STORE_PROTECTED_WORD = 11,  /* which of them is the write-protect line: not 0 where it is low */
     FLASH_STORE_PARAMETER_BYTES = 768 /* the chip's parameter page: three copies of 256 bytes (002, Table 13) */
 };
 
@@ -90,7 +96,9 @@ enum {
  *   blocks              blocks of the chip: 4 to 4,096, at most 8 x (main - 8)
  *   logical             logical blocks, N: 1 to blocks - 2
  *   state               FLASH_STORE_STATE_BYTES; any bytes before the first mount or formatting, then as the last call left them
- *   interface           FLASH_STORE_INTERFACE_WORDS; all 0 at power on, then as the last call left them
+ *   interface           FLASH_STORE_INTERFACE_WORDS; all 0 at power on, then as the last call left them, but for the word
+ *                       FLASH_STORE_PROTECTED_WORD, which the caller sets before each call: not 0 where the write-protect line is
+ *                       low. The line is fixed during a call and may change from one to the next. No call changes the word
  *   array               (main + spare) x pages x blocks bytes: the cells of the chip; FFh for a new chip but for factory marks,
  *                       then as the last call left them
  *   page_register       main + spare bytes: the chip's page register; any bytes before the first call, then as the last call
@@ -104,6 +112,9 @@ enum {
  *   sent                1: set to the cycles sent, with every answer but BAD_BUFFER
  * state, interface, array, page_register, history and sent are written; mask, fates and the bytes of a write are not. The
  * answer is returned.
+ *
+ * Format, write and erase look at the write-protect line, by two cycles that read the chip's status: format once it has read the
+ * factory marks, write and erase before they take a sequence number. Mount, read and identify do not, and work with the line low.
  */
 
 /* Formats the chip: erases every unmarked block and fills a table. Mounted with answer 0. */
@@ -131,7 +142,7 @@ size_t flash_store_read(size_t main, size_t spare, size_t pages, size_t blocks, 
 /*
  * Writes bytes, main bytes long, to page `page` of logical block `block`. Stored with answer 0. On a chip once formatted with
  * answer 0, a write or erase answered 8 to 11 shows after the next mount answered 0 either whole or not at all, and no other
- * page changes.
+ * page changes; one answered 13 never shows.
  */
 size_t flash_store_write(size_t main, size_t spare, size_t pages, size_t blocks, size_t logical, uint8_t *state,
                          size_t state_len, size_t *interface, size_t interface_len, uint8_t *array, size_t array_len,
@@ -168,7 +179,7 @@ size_t flash_store_identify(size_t logical, uint8_t *state, size_t state_len, si
 struct flash_store {
     size_t main, spare, pages, blocks, logical; /* the geometry */
     uint8_t state[FLASH_STORE_STATE_BYTES];
-    size_t interface[FLASH_STORE_INTERFACE_WORDS]; /* all 0 at power on */
+    size_t interface[FLASH_STORE_INTERFACE_WORDS]; /* all 0 at power on; each call sets the line's word */
     uint8_t *array; /* (main + spare) x pages x blocks; all FFh for a new chip, but for factory marks */
     size_t array_len;
     uint8_t *page_register; /* main + spare */
@@ -179,13 +190,20 @@ struct flash_store {
 
 /* What a call brings, and the cycles that it took away. */
 struct flash_store_call {
-    const uint8_t *mask;   /* (main + spare) x pages; may be NULL: zeros, an operation that does not pass takes no effect */
-    size_t mask_len;       /* of a mask that is not NULL */
-    const uint32_t *fates; /* may be NULL: no fate words, every operation passes */
-    size_t fates_len;      /* of fates that are not NULL */
-    uint32_t allowed;      /* FLASH_STORE_UNCUT: no cut */
-    size_t sent;           /* set by the call */
+    const uint8_t *mask;    /* (main + spare) x pages; may be NULL: zeros, an operation that does not pass takes no effect */
+    size_t mask_len;        /* of a mask that is not NULL */
+    const uint32_t *fates;  /* may be NULL: no fate words, every operation passes */
+    size_t fates_len;       /* of fates that are not NULL */
+    uint32_t allowed;       /* FLASH_STORE_UNCUT: no cut */
+    size_t write_protected; /* not 0: the write-protect line is low during this call */
+    size_t sent;            /* set by the call */
 };
+
+/* The interface as the plain calls take it: with the write-protect line that the call brings. */
+static inline size_t *flash_store_interface(struct flash_store *store, const struct flash_store_call *call) {
+    store->interface[FLASH_STORE_PROTECTED_WORD] = call->write_protected;
+    return store->interface;
+}
 
 /* The fate words of a call as the plain calls take them: never NULL. */
 static inline const uint32_t *flash_store_fates(const struct flash_store_call *call) {
@@ -223,38 +241,38 @@ static inline size_t flash_store_mask_len(const struct flash_store *store, const
 
 /* The two structs as the plain calls take them, without and with the geometry. */
 #define FLASH_STORE_MEMORY(store, call)                                                                             \
-    (store)->state, FLASH_STORE_STATE_BYTES, (store)->interface, FLASH_STORE_INTERFACE_WORDS, (store)->array,       \
-        (store)->array_len, (store)->page_register, (store)->page_register_len, (store)->history,                   \
+    (store)->state, FLASH_STORE_STATE_BYTES, flash_store_interface(store, call), FLASH_STORE_INTERFACE_WORDS,       \
+        (store)->array, (store)->array_len, (store)->page_register, (store)->page_register_len, (store)->history,   \
         (store)->history_len, flash_store_mask(call), flash_store_mask_len(store, call), flash_store_fates(call),   \
         flash_store_fates_len(call), (call)->allowed, &(call)->sent, 1
 #define FLASH_STORE_LENT(store, call)                                                                                 \
     (store)->main, (store)->spare, (store)->pages, (store)->blocks, (store)->logical, FLASH_STORE_MEMORY(store, call)
 
-/* Formats. */
+/* Formats; PROTECTED where the call has the write-protect line low. */
 static inline enum flash_store_answer flash_store_do_format(struct flash_store *store, struct flash_store_call *call) {
     return (enum flash_store_answer)flash_store_format(FLASH_STORE_LENT(store, call));
 }
 
-/* Mounts. */
+/* Mounts, with the line low too. */
 static inline enum flash_store_answer flash_store_do_mount(struct flash_store *store, struct flash_store_call *call) {
     return (enum flash_store_answer)flash_store_mount(FLASH_STORE_LENT(store, call));
 }
 
-/* Reads a logical page into buffer, main bytes long. */
+/* Reads a logical page into buffer, main bytes long, with the line low too. */
 static inline enum flash_store_answer flash_store_do_read(struct flash_store *store, struct flash_store_call *call,
                                                           size_t block, size_t page, uint8_t *buffer,
                                                           size_t buffer_len) {
     return (enum flash_store_answer)flash_store_read(FLASH_STORE_LENT(store, call), block, page, buffer, buffer_len);
 }
 
-/* Writes bytes, main bytes long, to a logical page. */
+/* Writes bytes, main bytes long, to a logical page; PROTECTED where the call has the write-protect line low. */
 static inline enum flash_store_answer flash_store_do_write(struct flash_store *store, struct flash_store_call *call,
                                                            size_t block, size_t page, const uint8_t *bytes,
                                                            size_t bytes_len) {
     return (enum flash_store_answer)flash_store_write(FLASH_STORE_LENT(store, call), block, page, bytes, bytes_len);
 }
 
-/* Erases a logical block. */
+/* Erases a logical block; PROTECTED where the call has the write-protect line low. */
 static inline enum flash_store_answer flash_store_do_erase(struct flash_store *store, struct flash_store_call *call,
                                                            size_t block) {
     return (enum flash_store_answer)flash_store_erase(FLASH_STORE_LENT(store, call), block);

@@ -230,11 +230,11 @@ pub fn random_fates(random: &mut Random, geometry: &Geometry) -> Vec<u32> {
 fn usual_cycles(geometry: &Geometry, request: &Request) -> usize {
     let page = geometry.page_bytes() + 10;
     match request {
-        Request::Format => 3 + geometry.blocks * 29 + geometry.pages * page + 20,
+        Request::Format => 5 + geometry.blocks * 29 + geometry.pages * page + 20,
         Request::Mount => 3 + geometry.blocks * geometry.pages * page,
         Request::Read { .. } => 10 + geometry.main,
         Request::Identify => ASKED as usize,
-        _ => 7 + geometry.pages * 2 * page,
+        _ => 9 + geometry.pages * 2 * page,
     }
 }
 
@@ -252,6 +252,16 @@ pub fn random_call(random: &mut Random, geometry: &Geometry, request: &Request) 
         mask: random_mask(random, geometry),
         fates: random_fates(random, geometry),
         allowed: random_allowance(random, geometry, request),
+        protected: random_line(random),
+    }
+}
+
+// The write-protect line is low in one call of five.
+fn random_line(random: &mut Random) -> u64 {
+    if random.one_in(5) {
+        random_word(random).max(1)
+    } else {
+        0
     }
 }
 

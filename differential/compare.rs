@@ -44,6 +44,13 @@ impl Side {
         Side { state: self.state.clone(), chip, buffer: self.buffer.clone(), sent, sizes }
     }
 
+    // Whether state, array and history are as before. A chip that was handed in busy may have ended what it was at.
+    fn is_unwritten(&self, before: &Side) -> bool {
+        let busy = [BUSY, BUSY_STATUS].contains(&before.chip.interface[PHASE]);
+        let array = before.chip.array.is_empty() || self.chip.array == before.chip.array;
+        self.state == before.state && (busy || array && self.chip.history == before.chip.history)
+    }
+
     fn restore_lengths(&mut self, kept: &Side) {
         restore(&mut self.state, &kept.state);
         restore(&mut self.sent, &kept.sent);
@@ -102,7 +109,7 @@ impl Random {
 // ---- counting and reporting ----
 
 const KINDS: [&str; 9] = ["format", "mount", "read", "write", "erase", "identify", "check", "price", "reconcile"];
-const ANSWERS: [usize; 17] = [0, 1, 2, 3, 4, 5, 6, 7, 8, 9, 10, 11, 12, 17, 18, 100, 255];
+const ANSWERS: [usize; 18] = [0, 1, 2, 3, 4, 5, 6, 7, 8, 9, 10, 11, 12, 13, 17, 18, 100, 255];
 
 // Calls that are no requests to the store: the check of price rules, a price, sales held against each other.
 const CHECK: usize = 6;
@@ -210,7 +217,7 @@ fn difference(own: &Side, library: &Side) -> Option<String> {
 }
 
 fn print_arguments(geometry: &Geometry, request: &Request, call: &Call, before: &Side) {
-    println!("{geometry:?} {request:?} allowed {} fates {:X?}", call.allowed, call.fates);
+    println!("{geometry:?} {request:?} allowed {} line {} fates {:X?}", call.allowed, call.protected, call.fates);
     println!("interface {:?} sent {:?} sizes {:?}", before.chip.interface, before.sent, before.sizes);
     for (name, bytes) in [
         ("mask", &call.mask),
@@ -280,7 +287,7 @@ impl World {
     }
 
     fn plain(&self) -> Call {
-        Call { mask: self.mask(0), fates: Vec::new(), allowed: u32::MAX }
+        Call { mask: self.mask(0), fates: Vec::new(), allowed: u32::MAX, protected: 0 }
     }
 
     // One call on both sides, which are alike before it; the answer.
@@ -295,9 +302,12 @@ impl World {
         let theirs = library(&geometry, request, &mut self.library, call);
         let found = difference(&self.own, &self.library);
         if answer != theirs || found.is_some() || call.mask != mask || call.fates != fates {
-            print_arguments(&geometry, request, &Call { mask, fates, allowed: call.allowed }, &before);
+            print_arguments(&geometry, request, &Call { mask, fates, ..*call }, &before);
             let found = found.unwrap_or("all bytes alike, or mask or fates written".to_string());
             run.fail(&format!("answered {answer} here, {theirs} by the library; {found}"));
+        }
+        if answer == PROTECTED && !self.own.is_unwritten(&before) {
+            run.fail("a protected request has changed something");
         }
         answer
     }

@@ -1,6 +1,6 @@
-// The fixed selection: the paper's bench figures, then every cut, failure and silence of requests on small chips,
-// forged states and interfaces, wrong lengths, parameter pages, a chip with rows past sixteen bits, and random lists;
-// and beside the store the draws of the test load, price rules and lists of sales.
+// The fixed selection: the paper's bench figures, then every cut, failure and silence of requests on small chips, with the
+// write-protect line high and low, forged states and interfaces, wrong lengths, parameter pages, a chip with rows past sixteen
+// bits, and random lists; and beside the store the draws of the test load, price rules and lists of sales.
 
 use super::*;
 use crate::draws::drawn;
@@ -13,6 +13,8 @@ pub fn fixed_selection(run: &mut Run) {
     every_failure(run);
     every_silence(run);
     interface_in_any_phase(run);
+    unready_chips(run);
+    busy_chips(run);
     changed_states(run);
     wrong_lengths(run);
     limits(run);
@@ -69,24 +71,25 @@ pub fn bench_figures(run: &mut Run) {
     bench_replacement(run);
     bench_numbers(run);
     bench_column(run);
+    bench_line(run);
 }
 
 fn bench_program(run: &mut Run) {
     let mut world = World::fresh(SMALL);
     let answer = world.format(run);
-    expect(run, "F", line(&world, answer), (0, 354, 3));
+    expect(run, "F", line(&world, answer), (0, 356, 3));
     let page = &world.own.chip.array[..SMALL.page_bytes()];
     expect(run, "check of the table", (page[41], page[42]), (129, 0));
     let answer = world.write(run, 0, 0, 0xA5);
-    expect(run, "W 0 0 A5", line(&world, answer), (0, 235, 2));
+    expect(run, "W 0 0 A5", line(&world, answer), (0, 237, 2));
     let answer = world.read(run, 0, 0);
     expect(run, "R 0 0", line(&world, answer), (0, 42, 2));
     let answer = world.read(run, 1, 3);
     expect(run, "R 1 3", line(&world, answer), (0, 0, 2));
     let answer = world.erase(run, 0);
-    expect(run, "E 0", line(&world, answer), (0, 235, 2));
+    expect(run, "E 0", line(&world, answer), (0, 237, 2));
     let answer = world.write(run, 0, 1, 0x5A);
-    expect(run, "W 0 1 5A", line(&world, answer), (0, 361, 2));
+    expect(run, "W 0 1 5A", line(&world, answer), (0, 363, 2));
     let answer = world.write(run, 2, 0, 0);
     expect(run, "W 2 0 00", line(&world, answer), (2, 0, 2));
 }
@@ -111,7 +114,7 @@ fn bench_limits(run: &mut Run) {
     expect(run, "a mount of an erased chip", answer, NO_TABLE);
     world.both(|side| side.chip.array[SMALL.page_start(2, 1) + 32] = 0x7F);
     let answer = world.format(run);
-    expect(run, "one marked block of four", line(&world, answer), (8, 112, 0));
+    expect(run, "one marked block of four", line(&world, answer), (8, 114, 0));
 }
 
 // A formatted small chip with one page written to each logical block.
@@ -166,20 +169,20 @@ fn bench_replacement(run: &mut Run) {
     world.format(run);
     world.write(run, 0, 0, 0x22);
     world.write(run, 1, 0, 0x33);
-    let call = Call { mask: world.mask(0xFF), fates: Vec::new(), allowed: 70 };
+    let call = Call { mask: world.mask(0xFF), allowed: 70, ..world.plain() };
     let request = Request::Write { block: 0, page: 0 };
     let answer = world.right(run, &request, &call, &[0x44; 32]);
     expect(run, "a write cut at 70", line(&world, answer), (11, 70, 0));
     world.mount(run);
     let answer = world.write(run, 0, 0, 0x55);
-    expect(run, "the block filled last is the last candidate", line(&world, answer), (0, 361, 1));
+    expect(run, "the block filled last is the last candidate", line(&world, answer), (0, 363, 1));
 
     let mut world = World::fresh(SMALL);
     world.format(run);
     world.write(run, 0, 0, 0x11);
     let call = Call { fates: vec![1 << 16], ..world.plain() };
     let answer = world.right(run, &request, &call, &[0x66; 32]);
-    expect(run, "the old copy's block is free for the table", line(&world, answer), (0, 603, 1));
+    expect(run, "the old copy's block is free for the table", line(&world, answer), (0, 605, 1));
 }
 
 fn bench_numbers(run: &mut Run) {
@@ -190,7 +193,7 @@ fn bench_numbers(run: &mut Run) {
     let answer = world.write(run, 0, 0, 0x77);
     expect(run, "the last number", (answer, world.state().next), (DONE, LAST_NUMBER + 1));
     let answer = world.write(run, 0, 0, 0x78);
-    expect(run, "no number left", line(&world, answer), (9, 0, 0));
+    expect(run, "no number left", line(&world, answer), (9, 2, 0));
     let answer = world.mount(run);
     expect(run, "a mount after the last number", (answer, world.state().next), (DONE, LAST_NUMBER + 1));
 }
@@ -201,6 +204,56 @@ fn bench_column(run: &mut Run) {
     let answer = world.right(run, &Request::Format, &call, &[]);
     expect(run, "a formatting cut at the first address", answer, CUT);
     expect(run, "column 2,048", world.own.chip.interface[ADDRESS_REGISTER], 0x0800);
+}
+
+// With the write-protect line low: the requests that write get 13 and change nothing, the others pass.
+fn bench_line(run: &mut Run) {
+    let (base, _) = written();
+    let write = Request::Write { block: 0, page: 0 };
+    for (request, cut, wanted) in [
+        (&write, u32::MAX, (13, 2)),
+        (&write, 2, (13, 2)),
+        (&write, 1, (11, 1)),
+        (&write, 0, (11, 0)),
+        (&Request::Erase { block: 1 }, u32::MAX, (13, 2)),
+        (&Request::Format, u32::MAX, (13, 93)),
+        (&Request::Format, 92, (11, 92)),
+        (&Request::Mount, u32::MAX, (0, 931)),
+        (&Request::Read { block: 0, page: 0 }, u32::MAX, (0, 42)),
+        (&Request::Identify, u32::MAX, (0, ASKED)),
+        (&Request::Write { block: 2, page: 0 }, u32::MAX, (2, 0)),
+    ] {
+        let mut world = base.duplicate();
+        let call = Call { allowed: cut, protected: 1, ..world.plain() };
+        let buffer = buffer_for(&world, request);
+        let answer = world.right(run, request, &call, &buffer);
+        expect(run, &format!("{request:?}, the line low"), (answer, world.own.sent[0]), wanted);
+    }
+    bench_line_first(run, &base);
+}
+
+// 13 comes after 3 and 7, before 8 and 9; the same call passes once the line is released.
+fn bench_line_first(run: &mut Run, base: &World) {
+    let low = Call { protected: u64::MAX, ..base.plain() };
+    let write = Request::Write { block: 0, page: 0 };
+    let mut world = base.duplicate();
+    let answer = world.right(run, &write, &low, &[0; SMALL.main - 1]);
+    expect(run, "a short page", answer, LENGTH);
+    let state = State { next: LAST_NUMBER + 1, ..world.state() };
+    world.both(|side| side.state = state.to_bytes());
+    let answer = world.right(run, &write, &low, &[0x79; SMALL.main]);
+    expect(run, "no number left, the line low", answer, PROTECTED);
+    world.both(|side| side.state.fill(0));
+    let answer = world.right(run, &write, &low, &[0x79; SMALL.main]);
+    expect(run, "not mounted, the line low", answer, MOUNT_FIRST);
+    world.both(|side| side.chip.array[SMALL.page_start(2, 1) + 32] = 0x7F);
+    let answer = world.right(run, &Request::Format, &low, &[]);
+    expect(run, "a marked block, the line low", answer, PROTECTED);
+
+    let mut world = base.duplicate();
+    world.right(run, &write, &low, &[0x79; SMALL.main]);
+    let answer = world.write(run, 0, 0, 0x79);
+    expect(run, "the line released", line(&world, answer), (0, 363, 1));
 }
 
 // ---- every place of a request ----
@@ -253,17 +306,17 @@ fn try_call(run: &mut Run, base: &(World, Book), request: &Request, call: &Call)
     book.compare_all(run, &world);
 }
 
-// Cycles and fate words of a request that passes, with this many words at hand.
-fn usual(base: &World, request: &Request, fates: &[u32]) -> (u64, usize) {
+// Cycles and fate words of a request that is not cut, with these words at hand and this line.
+fn usual(base: &World, request: &Request, fates: &[u32], protected: u64) -> (u64, usize) {
     let mut world = base.duplicate();
-    let call = Call { fates: fates.to_vec(), ..world.plain() };
+    let call = Call { fates: fates.to_vec(), protected, ..world.plain() };
     let buffer = buffer_for(&world, request);
     world.right(&mut Run::of_setting(), request, &call, &buffer);
     (world.own.sent[0], world.own.chip.interface[FATES_USED] as usize)
 }
 
 fn operations(base: &World, request: &Request) -> usize {
-    usual(base, request, &[0; 1000]).1
+    usual(base, request, &[0; 1000], 0).1
 }
 
 // A chip with eight pages a block, six blocks, one of them marked and one invalid.
@@ -286,14 +339,23 @@ fn larger() -> (World, Book) {
 fn every_cut(run: &mut Run) {
     for (base, fates) in [(written(), vec![]), (written(), vec![1 << 16, 2]), (larger(), vec![0, 0, 1 << 16])] {
         for request in requests() {
-            let (cycles, _) = usual(&base.0, &request, &fates);
             for mask in masks(&base.0, &request) {
-                run.origin = format!("every cut of {request:?} on {:?} with fates {fates:X?}", base.0.geometry);
-                for allowed in (0..=cycles as u32).step_by(stride(&base.0, &request)) {
-                    try_call(run, &base, &request, &Call { mask: mask.clone(), fates: fates.clone(), allowed });
+                for protected in [0, 1] {
+                    cuts_of(run, &base, &request, &Call { mask: mask.clone(), fates: fates.clone(), allowed: 0, protected });
                 }
             }
         }
+    }
+}
+
+// The call with every allowance up to the cycles that it sends.
+fn cuts_of(run: &mut Run, base: &(World, Book), request: &Request, call: &Call) {
+    let Call { fates, protected, .. } = call;
+    let geometry = base.0.geometry;
+    run.origin = format!("every cut of {request:?} on {geometry:?} with fates {fates:X?} and line {protected}");
+    let (cycles, _) = usual(&base.0, request, fates, *protected);
+    for allowed in (0..=cycles as u32).step_by(stride(&base.0, request)) {
+        try_call(run, base, request, &Call { allowed, ..call.clone() });
     }
 }
 
@@ -316,7 +378,7 @@ fn every_failure(run: &mut Run) {
                         let mut fates = vec![0; second + 1];
                         fates[first] = 1 << 16;
                         fates[second] = 1 << 16;
-                        try_call(run, &base, &request, &Call { mask: mask.clone(), fates, allowed: u32::MAX });
+                        try_call(run, &base, &request, &Call { mask: mask.clone(), fates, ..base.0.plain() });
                     }
                 }
             }
@@ -333,10 +395,11 @@ fn every_silence(run: &mut Run) {
             for busy in [1, 254, 255, 256, 257, 511, 512, 65535, 0x1_00FF, 0x1_0100, 0xFFFE_0002] {
                 let mut fates = vec![0; place];
                 fates.push(busy);
-                let (sent, _) = usual(&base.0, &request, &fates);
+                let (sent, _) = usual(&base.0, &request, &fates, 0);
                 let mask = &masks(&base.0, &request)[0];
                 for allowed in [sent as u32 - 1, sent as u32, u32::MAX] {
-                    try_call(run, &base, &request, &Call { mask: mask.clone(), fates: fates.clone(), allowed });
+                    let call = Call { mask: mask.clone(), fates: fates.clone(), allowed, protected: 0 };
+                    try_call(run, &base, &request, &call);
                 }
             }
         }
@@ -356,19 +419,69 @@ fn interface_in_any_phase(run: &mut Run) {
                 interface[LOADED] = loaded;
                 let mut forged = base.duplicate();
                 forged.both(|side| side.chip.interface = interface.clone());
-                calls_in_phase(run, &forged);
+                calls_in_phase(run, &forged, 0);
+                calls_in_phase(run, &forged, others.max(1));
             }
         }
     }
 }
 
-fn calls_in_phase(run: &mut Run, base: &World) {
+fn calls_in_phase(run: &mut Run, base: &World, protected: u64) {
     for request in requests() {
-        for allowed in [0, 1, 2, 3, 6, 7, 8, 9, 10, 20, 65, u32::MAX] {
+        for allowed in [0, 1, 2, 3, 4, 6, 7, 8, 9, 10, 20, 65, u32::MAX] {
             let mut world = base.duplicate();
-            let call = Call { allowed, ..world.plain() };
+            let call = Call { allowed, protected, ..world.plain() };
             let buffer = buffer_for(&world, &request);
             world.right(run, &request, &call, &buffer);
+        }
+    }
+}
+
+// The small chip in a phase, with busy reads left of an operation on a row.
+fn in_phase(base: &World, phase: u64, operation: u64, busy: u64, failed: u64, row: u64) -> World {
+    let mut interface = vec![0; INTERFACE_WORDS];
+    interface[PHASE] = phase;
+    interface[COUNT] = 5;
+    interface[ADDRESS_REGISTER] = row << 16;
+    interface[OPERATION] = operation;
+    interface[BUSY_LEFT] = busy;
+    interface[FAILED] = failed;
+    let mut world = base.duplicate();
+    world.both(|side| side.chip.interface = interface.clone());
+    world
+}
+
+// A write begins with 70h and a status read, which ends what a busy chip is at if no busy read is left.
+fn unready_chips(run: &mut Run) {
+    let (base, _) = written();
+    let mut cases = vec![(READY, 0, (DONE, 363)), (STATUS, 0, (DONE, 363)), (DATA_OUTPUT, 0, (DONE, 363))];
+    for phase in [READ_ADDRESS, PROGRAM_ADDRESS, ERASE_ADDRESS, PROGRAM_DATA, PARAMETER_ADDRESS] {
+        cases.push((phase, 0, (ILLEGAL, 1)));
+    }
+    for phase in [BUSY, BUSY_STATUS] {
+        cases.extend([(phase, 0, (DONE, 363)), (phase, 1, (ILLEGAL, 3)), (phase, 2, (ILLEGAL, 3))]);
+    }
+    for (phase, busy, wanted) in cases {
+        run.origin = format!("a write on a chip in phase {phase}, {busy} busy reads left");
+        let mut world = in_phase(&base, phase, 1, busy, 0, 0);
+        let answer = world.write(run, 0, 0, 0x42);
+        expect(run, "answer and cycles", (answer, world.own.sent[0]), wanted);
+    }
+}
+
+// Every operation that a chip can be busy with, and two that it cannot, on rows of the chip and past its last.
+fn busy_chips(run: &mut Run) {
+    let (base, _) = written();
+    for phase in [BUSY, BUSY_STATUS] {
+        for operation in 0..6 {
+            for (busy, failed) in [(0, 0), (0, 1), (1, 0), (1, 1)] {
+                for row in [5, 15, 16, 1 << 24] {
+                    run.origin = format!("phase {phase}, operation {operation}, {busy} busy reads, failed {failed}, row {row}");
+                    let forged = in_phase(&base, phase, operation, busy, failed, row);
+                    calls_in_phase(run, &forged, 0);
+                    calls_in_phase(run, &forged, 1);
+                }
+            }
         }
     }
 }
@@ -404,10 +517,10 @@ fn changed_states(run: &mut Run) {
 
 fn calls_with_state(run: &mut Run, base: &World, state: &State) {
     for request in requests() {
-        for fates in [vec![], vec![1 << 16], vec![0, 1 << 16, 1 << 16]] {
+        for (fates, protected) in [(vec![], 0), (vec![], 1), (vec![1 << 16], 0), (vec![0, 1 << 16, 1 << 16], 0)] {
             let mut world = base.duplicate();
             world.both(|side| side.state = state.to_bytes());
-            let call = Call { fates, ..world.plain() };
+            let call = Call { fates, protected, ..world.plain() };
             let buffer = buffer_for(&world, &request);
             world.right(run, &request, &call, &buffer);
             world.mount(run);
@@ -615,7 +728,7 @@ fn large_replacement(run: &mut Run, world: &mut World) {
     start_after(world, 1500);
     let mut mask = world.mask(0);
     mask[..40_000.min(LARGE.block_bytes())].fill(0xF3);
-    let call = Call { mask, fates: vec![0, 0, 1 << 16, 5], allowed: u32::MAX };
+    let call = Call { mask, fates: vec![0, 0, 1 << 16, 5], ..world.plain() };
     let bytes = vec![0xC3; LARGE.main];
     let answer = world.right(run, &Request::Write { block: 6, page: 9 }, &call, &bytes);
     expect(run, "a failed write", answer, DONE);

@@ -52,8 +52,9 @@ macro_rules! lend {
     };
 }
 
-// The library's answer.
+// The library's answer. The write-protect line goes into its word, as the calls of c/flash_store.h put it.
 pub fn library(geometry: &Geometry, request: &Request, side: &mut Side, call: &Call) -> usize {
+    side.chip.set_line(call.protected);
     let buffer = side.buffer.as_mut_ptr();
     let length = side.buffer.len();
     let (sizes, words) = (side.sizes.as_mut_ptr(), side.sizes.len());

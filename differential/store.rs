@@ -28,6 +28,7 @@ pub const SPENT: usize = 9;
 pub const SILENT: usize = 10;
 pub const CUT: usize = 11;
 pub const NO_SIZES: usize = 12;
+pub const PROTECTED: usize = 13;
 pub const BAD_BUFFER: usize = 100;
 pub const ILLEGAL: usize = 255;
 
@@ -83,7 +84,7 @@ pub const FAILED: usize = 7;
 pub const LOADED: usize = 8;
 pub const FATES_USED: usize = 9;
 pub const ILLEGAL_SEEN: usize = 10;
-pub const PROTECTED: usize = 11;
+pub const LINE_LOW: usize = 11;
 
 // Phases.
 pub const READY: u64 = 0;
@@ -111,11 +112,21 @@ pub struct Chip {
     pub history: Vec<u8>,
 }
 
+impl Chip {
+    // The write-protect line, which the caller sets before each call: not 0 where it is low.
+    pub fn set_line(&mut self, protected: u64) {
+        if let Some(word) = self.interface.get_mut(LINE_LOW) {
+            *word = protected;
+        }
+    }
+}
+
 #[derive(Clone)]
 pub struct Call {
     pub mask: Vec<u8>,
     pub fates: Vec<u32>,
     pub allowed: u32,
+    pub protected: u64,
 }
 
 // What one side holds before and after a call. The buffer is a reader's place, a writer's bytes or the chip's parameter page.
@@ -128,7 +139,8 @@ pub struct Side {
     pub sizes: Vec<u64>,
 }
 
-// A program or erase whose confirm cycle was taken; `forbidden` says that its block was marked, listed or had failed.
+// A program or erase whose confirm cycle was taken; `forbidden` says that its block was marked, listed or had failed, or that
+// the write-protect line was low.
 #[derive(Clone)]
 pub struct Confirmed {
     pub program: bool,
@@ -148,6 +160,7 @@ pub struct Watch {
 
 #[derive(Clone, Copy, PartialEq, Eq, Debug)]
 pub enum Stop {
+    Protected,
     Worn,
     Spent,
     Silent,
@@ -158,6 +171,7 @@ pub enum Stop {
 impl Stop {
     fn answer(self) -> usize {
         match self {
+            Stop::Protected => PROTECTED,
             Stop::Worn => WORN,
             Stop::Spent => SPENT,
             Stop::Silent => SILENT,
@@ -196,6 +210,10 @@ impl<'a> Bus<'a> {
     fn illegal<T>(&mut self) -> Result<T, Stop> {
         self.set(ILLEGAL_SEEN, 1);
         Err(Stop::Illegal)
+    }
+
+    fn line_low(&self) -> bool {
+        self.word(LINE_LOW) != 0
     }
 
     fn idle(&self) -> bool {
@@ -338,6 +356,14 @@ impl<'a> Bus<'a> {
         self.set(FAILED, if can_fail { (fate >> 16 & 1) as u64 } else { 0 });
     }
 
+    // With the write-protect line low no program and no erase starts: no fate word, and the status shows a failure.
+    fn refuse_start(&mut self, operation: u64) {
+        self.set(PHASE, READY);
+        self.set(OPERATION, operation);
+        self.set(BUSY_LEFT, 0);
+        self.set(FAILED, 1);
+    }
+
     fn read_confirm(&mut self) -> bool {
         if self.word(PHASE) != READ_ADDRESS || self.word(COUNT) != 5 {
             return false;
@@ -360,6 +386,10 @@ impl<'a> Bus<'a> {
             return false;
         }
         self.note_confirmed(true);
+        if self.line_low() {
+            self.refuse_start(PROGRAMMING);
+            return true;
+        }
         self.clear_bits(true);
         self.chip.history[block] = page as u8 + 1;
         self.start(PROGRAMMING);
@@ -372,6 +402,10 @@ impl<'a> Bus<'a> {
         }
         let block = self.addressed_block();
         self.note_confirmed(false);
+        if self.line_low() {
+            self.refuse_start(ERASING);
+            return true;
+        }
         self.raise_bits(true);
         self.chip.history[block] = 255;
         self.start(ERASING);
@@ -409,7 +443,8 @@ impl<'a> Bus<'a> {
         let (block, page) = (self.addressed_block(), self.addressed_page());
         let bytes = if program { self.chip.register.clone() } else { Vec::new() };
         let forbidden = forbidden_block(&self.geometry, &self.chip.array, block)
-            || self.watch.failed.contains(&block);
+            || self.watch.failed.contains(&block)
+            || self.line_low();
         self.watch.confirmed.push(Confirmed { program, block, page, bytes, forbidden });
     }
 
@@ -440,40 +475,41 @@ impl<'a> Bus<'a> {
     fn status(&mut self) -> Result<u8, Stop> {
         self.due()?;
         match self.word(PHASE) {
-            STATUS => Ok(self.ready_status()),
+            STATUS => Ok(self.status_byte(true)),
             BUSY_STATUS if self.word(BUSY_LEFT) > 0 => {
                 self.set(BUSY_LEFT, self.word(BUSY_LEFT) - 1);
-                Ok(0x80)
+                Ok(self.status_byte(false))
             }
-            BUSY_STATUS => {
-                self.finish();
-                Ok(self.ready_status())
-            }
+            BUSY_STATUS if self.finish() => Ok(self.status_byte(true)),
             _ => self.illegal(),
         }
     }
 
-    fn ready_status(&self) -> u8 {
-        if self.word(FAILED) != 0 {
-            0xE1
-        } else {
-            0xE0
-        }
+    // Bit 7 not protected, bits 6 and 5 ready, bit 0 failed.
+    fn status_byte(&self, ready: bool) -> u8 {
+        let writable = if self.line_low() { 0 } else { 0x80 };
+        let failed = if ready && self.word(FAILED) != 0 { 0x01 } else { 0 };
+        writable | failed | if ready { 0x60 } else { 0 }
     }
 
-    fn finish(&mut self) {
-        let passed = self.word(FAILED) == 0;
+    // Ends the operation under way; false where there is none, or its row is not on this chip.
+    fn finish(&mut self) -> bool {
+        let on_chip = self.row() < self.geometry.pages * self.geometry.blocks;
         match self.word(OPERATION) {
-            READING | TELLING => self.set(LOADED, 1),
-            PROGRAMMING if passed => self.clear_bits(false),
-            ERASING if passed => {
+            TELLING => self.set(LOADED, 1),
+            _ if !on_chip => return false,
+            READING => self.set(LOADED, 1),
+            _ if self.word(FAILED) != 0 => {}
+            PROGRAMMING => self.clear_bits(false),
+            ERASING => {
                 self.raise_bits(false);
                 let block = self.addressed_block();
                 self.chip.history[block] = 0;
             }
-            _ => {}
+            _ => return false,
         }
         self.set(PHASE, STATUS);
+        true
     }
 
     // ---- operations ----
@@ -497,16 +533,30 @@ impl<'a> Bus<'a> {
         self.address((row >> 16) as u8)
     }
 
-    // Status reads until ready; whether the operation passed.
-    fn wait(&mut self) -> Result<bool, Stop> {
+    // Status reads until ready; the last one.
+    fn wait(&mut self) -> Result<u8, Stop> {
         self.command(0x70)?;
         for _ in 0..256 {
             let status = self.status()?;
             if status & 0x40 != 0 {
-                return Ok(status & 1 == 0);
+                return Ok(status);
             }
         }
         Err(Stop::Silent)
+    }
+
+    // Whether a program or erase passed; a protected chip has not failed.
+    fn wait_changed(&mut self) -> Result<bool, Stop> {
+        let status = self.wait()?;
+        writable(status)?;
+        Ok(status & 0x01 == 0)
+    }
+
+    // One status read, before anything is changed.
+    fn ask_writable(&mut self) -> Result<(), Stop> {
+        self.command(0x70)?;
+        let status = self.status()?;
+        writable(status)
     }
 
     fn read(&mut self, block: usize, page: usize, column: usize, count: usize) -> Result<Vec<u8>, Stop> {
@@ -542,7 +592,7 @@ impl<'a> Bus<'a> {
             self.data_in(*byte)?;
         }
         self.command(0x10)?;
-        let passed = self.wait()?;
+        let passed = self.wait_changed()?;
         self.note_result(block, passed);
         Ok(passed)
     }
@@ -551,7 +601,7 @@ impl<'a> Bus<'a> {
         self.command(0x60)?;
         self.send_row(block, 0)?;
         self.command(0xD0)?;
-        let passed = self.wait()?;
+        let passed = self.wait_changed()?;
         self.note_result(block, passed);
         Ok(passed)
     }
@@ -565,6 +615,13 @@ impl<'a> Bus<'a> {
     fn read_page(&mut self, block: usize, page: usize) -> Result<Vec<u8>, Stop> {
         self.read(block, page, 0, self.geometry.page_bytes())
     }
+}
+
+fn writable(status: u8) -> Result<(), Stop> {
+    if status & 0x80 == 0 {
+        return Err(Stop::Protected);
+    }
+    Ok(())
 }
 
 // ---- pages and blocks ----
@@ -917,6 +974,7 @@ impl<'a> Store<'a> {
     }
 
     fn replace(&mut self, what: &Filling) -> Result<(), Stop> {
+        self.bus.ask_writable()?;
         self.held = self.state.current(&self.geometry());
         self.fill(what)?;
         if self.failed {
@@ -935,6 +993,7 @@ impl<'a> Store<'a> {
         for block in 0..geometry.blocks {
             self.read_marks(block)?;
         }
+        self.bus.ask_writable()?;
         let mut greatest = 0;
         for block in 0..geometry.blocks {
             greatest = greatest.max(self.clear_block(block)?);
@@ -1142,6 +1201,7 @@ fn lent_rightly(request: &Request, side: &Side) -> bool {
 
 // One call; the answer.
 pub fn call(geometry: &Geometry, request: &Request, side: &mut Side, call: &Call, watch: &mut Watch) -> usize {
+    side.chip.set_line(call.protected);
     if !lent_rightly(request, side) {
         return BAD_BUFFER;
     }
@@ -1160,8 +1220,6 @@ pub fn call(geometry: &Geometry, request: &Request, side: &mut Side, call: &Call
     if !reads_blank(request, &before) {
         chip.interface[FATES_USED] = 0;
         chip.interface[ILLEGAL_SEEN] = 0;
-        // The write-protect line is taken as high.
-        chip.interface[PROTECTED] = 0;
     }
     let bus = Bus { geometry: *geometry, chip, parameters, call, watch, sent: 0 };
     let mut store = Store { bus, state: before, held: Vec::new(), failed: false };
@@ -1173,7 +1231,10 @@ pub fn call(geometry: &Geometry, request: &Request, side: &mut Side, call: &Call
         }
     };
     sent[0] = store.bus.sent;
-    *state = store.state.to_bytes();
+    // A protected request hands the state back as it came.
+    if answer != PROTECTED {
+        *state = store.state.to_bytes();
+    }
     answer
 }
 

@@ -87,6 +87,24 @@ unfailed-by-tag Cut h = refl
 unfailed-by-tag Illegal h = refl
 unfailed-by-tag Protected h = refl
 
+pub protected-by-tag : (o : Outcome) → tagOf the-type o ≡ 5 → isProtected o ≡ true
+unfolding isProtected
+protected-by-tag Passed h = absurd (omega (arith, h))
+protected-by-tag Failed h = absurd (omega (arith, h))
+protected-by-tag Silent h = absurd (omega (arith, h))
+protected-by-tag Cut h = absurd (omega (arith, h))
+protected-by-tag Illegal h = absurd (omega (arith, h))
+protected-by-tag Protected h = refl
+
+pub unprotected-by-tag : (o : Outcome) → OneOf (0 ∷ 1 ∷ 2 ∷ 3 ∷ 4 ∷ []) (tagOf the-type o) → isProtected o ≡ false
+unfolding isProtected
+unprotected-by-tag Passed h = refl
+unprotected-by-tag Failed h = refl
+unprotected-by-tag Silent h = refl
+unprotected-by-tag Cut h = refl
+unprotected-by-tag Illegal h = refl
+unprotected-by-tag Protected h = absurd (⊎-elim (λ e. omega (arith, e)) (⊎-elim (λ e. omega (arith, e)) (⊎-elim (λ e. omega (arith, e)) (⊎-elim (λ e. omega (arith, e)) (λ e. omega (arith, e))))) h)
+
 -- what one test tells of another
 pub is-passed : (o : Outcome) → isPassed o ≡ true → o ≡ Passed
 unfolding isPassed

@@ -83,6 +83,10 @@ unfolding statusByte protectedByte writable
 writable-told w k =
     cases (eqb w 0) (λ b. cases (eqb k 0) (λ a. rw (b, a)) (λ a. rw (b, a))) (λ b. cases (eqb k 0) (λ a. rw (b, a)) (λ a. rw (b, a)))
 
+pub writable-busy : (w : ℕ) → writable (statusByte w 0 0) ≡ eqb w 0
+unfolding statusByte protectedByte writable
+writable-busy w = cases (eqb w 0) (λ b. rw b) (λ b. rw b)
+
 -- the bit of the status byte that says ready
 pub ready-bit : (n : ℕ) → not (eqb (n / 64 % 2 * 64) 0) ≡ ready n
 unfolding ready
@@ -185,6 +189,12 @@ module _ (s : Setting) where
   pub told-busy : (l : Line) → goesOn (send s l status) ≡ true → ready (statusOut l) ≡ false → send s l status .chip .interface .phase ≡ 8
   told-busy l h t =
       ⊎-elim (λ w. w .1) (λ w. absurd (false≢true (sym t ∙ ap ready (w .0) ∙ ready-told _ _)))
+      (line-told l h .tells (going (send s l status) h .legal))
+
+  -- bit 7 of a status read that was taken, ready or busy
+  pub told-writable : (l : Line) → goesOn (send s l status) ≡ true → writable (statusOut l) ≡ eqb (send s l status .chip .interface .protected) 0
+  told-writable l h =
+      ⊎-elim (λ w. ap writable (w .0) ∙ writable-busy _) (λ w. ap writable (w .0) ∙ writable-told _ _)
       (line-told l h .tells (going (send s l status) h .legal))
 
   pub polled-stops : (n : ℕ) (l : Line) → goesOn (send s l status) ≡ false → polled s (suc n) l ≡ send s l status

@@ -24,6 +24,10 @@ rowCycles row = map address (rowBytes row)
 abbrev pub resetCycles : List Cycle
 resetCycles = command resetCode ∷ command statusCode ∷ status ∷ []
 
+-- 70h, one status read
+abbrev pub statusCycles : List Cycle
+statusCycles = command statusCode ∷ status ∷ []
+
 -- 00h, five address bytes; then 30h
 abbrev pub readAddress : ℕ → ℕ → List Cycle
 readAddress row column = command readCode ∷ addressCycles column row

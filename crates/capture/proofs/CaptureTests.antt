@@ -3,7 +3,7 @@ use Prim.Native.Nat.{ℕ, zero, suc}
 use mathlib.Core.List.{List, [], _∷_}
 use mathlib.Core.Path.{_≡_, refl}
 use Rattle.chip.specs.Chip.{Cycle}
-use Rattle.bus_sequences.specs.Cycles.{resetCycles}
+use Rattle.bus_sequences.specs.Cycles.{resetCycles, statusCycles}
 use Rattle.capture.specs.declared.Captured.{Captured}
 use Rattle.capture.specs.declared.Captured.the-variants.{Command, Address, DataIn, DataOut, Status, Past}
 use Rattle.capture.specs.Capture.{cycleAt, programCapture, eraseCapture, fetchCapture, readCapture}
@@ -16,6 +16,10 @@ from cs i (suc n) = cycleAt cs i ∷ from cs (suc i) n
 reset : from resetCycles 0 4 ≡ Command 255 ∷ Command 112 ∷ Status ∷ Past ∷ []
 unfolding from cycleAt
 reset = refl
+
+status-read : from statusCycles 0 3 ≡ Command 112 ∷ Status ∷ Past ∷ []
+unfolding from cycleAt
+status-read = refl
 
 -- block 1 of the small chip, ready at once
 erase : from (eraseCapture 4 1) 0 8 ≡ Command 96 ∷ Address 4 ∷ Address 0 ∷ Address 0 ∷ Command 208 ∷ Command 112 ∷ Status ∷ Past ∷ []

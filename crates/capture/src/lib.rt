@@ -1,7 +1,7 @@
-// The cycles of an operation one by one, as a logic analyser shows them: the i-th cycle of a reset, a read, a program and an
-// erase, from the numbers that tell the operation.
+// The cycles of an operation one by one, as a logic analyser shows them: the i-th cycle of a reset, a status read, a read, a
+// program and an erase, from the numbers that tell the operation.
 ghost use mathlib.Core.Path.{_≡_};
-ghost use Rattle.bus_sequences.specs.Cycles.{resetCycles, addressCycles, rowCycles};
+ghost use Rattle.bus_sequences.specs.Cycles.{resetCycles, statusCycles, addressCycles, rowCycles};
 ghost use Rattle.capture.specs.Capture.{cycleAt, polledCycles, outputCycles, fetchCapture, readCapture, programCapture, eraseCapture};
 
 // One cycle of the bus. The byte of a data output cycle and of a status read is the chip's.
@@ -87,6 +87,19 @@ pub fn reset_cycle(i: usize) -> Captured
         return Captured::Command(0x70);
     }
     if i == 2 {
+        return Captured::Status;
+    }
+    Captured::Past
+}
+
+// The status: 70h, one status read.
+pub fn status_cycle(i: usize) -> Captured
+    ensures { λ r. ⌜ r ≡ cycleAt statusCycles i ⌝ }
+{
+    if i == 0 {
+        return Captured::Command(0x70);
+    }
+    if i == 1 {
         return Captured::Status;
     }
     Captured::Past

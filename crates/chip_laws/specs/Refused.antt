@@ -22,6 +22,11 @@ nowhere = record { main = 0; spare = 0; pages = 0; blocks = 0; logical = 0 }
 abbrev pub fresh : Device
 fresh = erasedChip poweredOn
 
+-- the same with the write-protect line low
+abbrev pub protectedChip : Device
+protectedChip =
+    erasedChip record { phase = 0; count = 0; address = 0; first = 0; column = 0; operation = 0; busy = 0; failed = 0; loaded = 0; fate = 0; illegal = 0; protected = 1 }
+
 -- a call, a chip, the cycles that lead to the place, and the cycles looked at there, each for itself
 pub record Place : Type 0 where
   pub setting : Setting
@@ -178,6 +183,10 @@ refusals =
     ∷ place (call (65536 ∷ [])) fresh (erased 4 ++ programs 0 7 48) (command 16 ∷ [])
     ∷ at (erases 4 ++ (command 208 ∷ command 255 ∷ programs 0 7 48)) (command 16 ∷ [])
     ∷ place (call []) (device poweredOn (replicate 768 255) (replicate 48 255) (0 ∷ 255 ∷ 0 ∷ 0 ∷ [])) (programs 0 7 48) (command 16 ∷ [])
+    -- with the write-protect line low as well: 10h after fewer bytes, D0h after two row bytes, data out after it
+    ∷ place (call []) protectedChip (programs 0 0 47) (command 16 ∷ [])
+    ∷ place (call []) protectedChip (command 96 ∷ map address (0 ∷ 0 ∷ [])) (command 208 ∷ [])
+    ∷ place (call []) protectedChip (erases 0 ++ (command 208 ∷ [])) (dataOut ∷ command 16 ∷ command 208 ∷ [])
     ∷ decidedBelow
 
 -- the neighbours that are taken
@@ -226,4 +235,10 @@ accepted =
     ∷ at (programmed 1 ++ programs 0 4 48) (command 16 ∷ [])
     ∷ at (programmed 1 ++ (erased 0 ++ programs 0 0 48)) (command 16 ∷ [])
     ∷ place (call (65536 ∷ [])) fresh (erased 4 ++ (erased 4 ++ programs 0 7 48)) (command 16 ∷ [])
+    -- confirm cycles with the write-protect line low, which start nothing: the chip is ready at once, and the page may be programmed again
+    ∷ place (call []) protectedChip (programs 0 15 48) (command 16 ∷ [])
+    ∷ place (call []) protectedChip (erases 15) (command 208 ∷ [])
+    ∷ place (call []) protectedChip (programs 0 0 48 ++ (command 16 ∷ [])) (command 255 ∷ command 112 ∷ starting)
+    ∷ place (call []) protectedChip (erases 0 ++ (command 208 ∷ [])) (command 255 ∷ command 112 ∷ starting)
+    ∷ place (call []) protectedChip (programs 0 0 48 ++ (command 16 ∷ programs 0 0 48)) (command 16 ∷ [])
     ∷ []

@@ -14,10 +14,10 @@ use Rattle.chip_laws.specs.Lengths.{SameLengths}
 use Rattle.chip_laws.proofs.LengthLaws.{run-lengths}
 use Rattle.chip_laws.proofs.ReplayLaws.{sent-runs}
 use Rattle.bus_polling.specs.Outcomes.{isPassed}
-use Rattle.bus_sequences.specs.Cycles.{resetCycles, readCycles, eraseCycles, programCycles}
+use Rattle.bus_sequences.specs.Cycles.{resetCycles, statusCycles, readCycles, eraseCycles, programCycles}
 use Rattle.request.specs.Call.{sized, sizedFor}
 use Rattle.bus_polling.specs.declared.Outcome.the-variants.{Passed}
-use Rattle.progress.specs.Progress.{Progress, progress, readOn, resetOn}
+use Rattle.progress.specs.Progress.{Progress, progress, readOn, resetOn, statusOn}
 use Rattle.progress.specs.Steps.{eraseOn, programOn}
 use Rattle.progress.specs.Kept.{Kept}
 use Rattle.damage.specs.Replay.{Replayed}
@@ -54,6 +54,11 @@ module _ (s : Setting) (d : Device) where
   unfolding programOn
   program-leads block page bytes p e =
       cases (isPassed (p .outcome)) (λ t. rw t (sent-leads (p .line) (p .cycles) (programCycles s (p .line) (rowOf (s .geometry) block page) bytes) e)) (λ t. rw t e)
+
+  pub leads-status : (p : Progress) → Leads s d p → Leads s d (statusOn s p)
+  unfolding statusOn
+  leads-status p e =
+      cases (isPassed (p .outcome)) (λ t. rw t (sent-leads (p .line) (p .cycles) statusCycles e)) (λ t. rw t e)
 
   pub leads-kept : Kept s (Leads s d)
   leads-kept =

@@ -61,6 +61,17 @@ unfolding startedBy Each
 reads-only s l row column =
     cases (goesOn (sendAll s l (readAddress row column ++ (command readConfirm ∷ [])))) (λ t. rw t (refl, tt)) (λ t. rw t tt)
 
+-- a request that has started nothing but reads, and reads on
+abbrev pub Reads : Progress → Type 0
+Reads p = Each (λ o. o .kind ≡ 1) (p .started)
+
+pub read-reads : (s : Setting) (row column n : ℕ) (p : Progress) → Reads p → Reads (readOn s row column n p)
+unfolding readOn
+read-reads s row column n p h =
+    cases (isPassed (p .outcome))
+    (λ t. rw t (each-append (λ o. o .kind ≡ 1) (p .started) (readStarts s (p .line) row column) h (reads-only s (p .line) row column)))
+    (λ t. rw t h)
+
 -- none of which fails
 pub reads-unfailed : (s : Setting) (l : Line) (row column n : ℕ) → CanRead s l row column n → Each (λ o. isFailed (o .answer) ≡ false) (readStarts s l row column)
 reads-unfailed s l row column n can = subst (Each Unfailed) (sym (read-starts s l row column n can)) (each-one Unfailed (leb (l .left) 6) _ (read-unfailed s l 6))

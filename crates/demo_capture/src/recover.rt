@@ -6,6 +6,7 @@ use capture::Captured;
 
 pub enum Kind {
     Reset,
+    Status,
     Read,
     Program,
     Erase,
@@ -57,6 +58,7 @@ pub(crate) fn cycle_of(operation: Operation, i: usize) -> Captured {
     let bytes = operation.bytes;
     match kind {
         Kind::Reset => capture::reset_cycle(i),
+        Kind::Status => capture::status_cycle(i),
         Kind::Read => capture::read_cycle(row, operation.column, operation.moved, polls, i),
         Kind::Program => program_cycle(row, &bytes, operation.count, polls, i),
         Kind::Erase => capture::erase_cycle(row, polls, i),
@@ -159,11 +161,15 @@ fn confirmed(left: Chip, moved: usize) -> Operation {
     }
 }
 
-// The operation whose first cycle comes after `sent` cycles. FFh leaves the chip ready; any other is told at its confirm
-// cycle, and a read's bytes follow 70h, the status reads and 00h.
+// The operation whose first cycle comes after `sent` cycles. FFh leaves the chip ready, and 70h showing its status; any other
+// is told at its confirm cycle, and a read's bytes follow 70h, the status reads and 00h.
 pub(crate) fn operation_after(call: Call, sent: usize, total: usize) -> Operation {
-    if phase_after(call, sum(sent, 1, total)) == chip_interface::READY {
+    let phase = phase_after(call, sum(sent, 1, total));
+    if phase == chip_interface::READY {
         return plain(Kind::Reset);
+    }
+    if phase == chip_interface::STATUS {
+        return plain(Kind::Status);
     }
     let at = confirmed_after(call, sent, total);
     let left = runs::left_after(call, at);

@@ -56,7 +56,7 @@ fn is_same(a: Interface, b: Interface) -> bool {
     let address = (a.phase ^ b.phase) | (a.count ^ b.count) | (a.address ^ b.address);
     let column = (a.first ^ b.first) | (a.column ^ b.column) | (a.loaded ^ b.loaded);
     let operation = (a.operation ^ b.operation) | (a.busy ^ b.busy) | (a.failed ^ b.failed);
-    let call = (a.fate ^ b.fate) | (a.illegal ^ b.illegal);
+    let call = (a.fate ^ b.fate) | (a.illegal ^ b.illegal) | (a.protected ^ b.protected);
     address | column | operation | call == 0
 }
 

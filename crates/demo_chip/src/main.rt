@@ -1,4 +1,5 @@
-// Shows the chip at work: address bytes of the largest part, then a reset, an erase, a program and a read of the small chip.
+// Shows the chip at work: address bytes of the largest part, status bytes, then a reset, an erase, a program and a read of the
+// small chip, and the same with its write-protect line low.
 use bus::Bus;
 use bus_polling::Done;
 use bus_polling::Outcome;
@@ -77,6 +78,20 @@ fn show_addresses() {
     print_row(geometry::row_of(part, 1024, 0));
     print_row(geometry::row_of(part, 4095, 63));
     print_column(2048);
+}
+
+// A status byte with the write-protect line high, and with it low.
+fn print_status(label: &[u8], ready: usize, failed: usize) {
+    io::write_all(STDOUT_FILENO, label);
+    print_byte(chip_interface::status_byte(0, ready, failed));
+    print_byte(chip_interface::status_byte(1, ready, failed));
+    io::write_all(STDOUT_FILENO, b"\n");
+}
+
+fn show_status_bytes() {
+    print_status(b"status busy", 0, 0);
+    print_status(b"status ready", 1, 0);
+    print_status(b"status failed", 1, 1);
 }
 
 fn small() -> Geometry {
@@ -169,9 +184,18 @@ fn read_row_4(
     after
 }
 
-fn reset_chip(label: &[u8], a: &mut [u8], r: &mut [u8], h: &mut [u8], fates: &[u32]) -> Bus {
+fn reset_chip(
+    label: &[u8],
+    line: usize,
+    a: &mut [u8],
+    r: &mut [u8],
+    h: &mut [u8],
+    fates: &[u32],
+) -> Bus {
     let mask = [0u8; 192];
-    let start = Bus::new(Interface::power_on(), 10000);
+    let mut interface = Interface::power_on();
+    interface.protected = line;
+    let start = Bus::new(interface, 10000);
     let done = operations::reset(start, small(), a, r, h, &mask, fates);
     let bus = done.bus;
     let outcome = done.outcome;
@@ -183,7 +207,7 @@ fn show_operations() {
     let mut r = [0xffu8; 48];
     let mut h = [0u8; 4];
     let fates = [0u32, 0, 65536, 255, 256];
-    let b = reset_chip(b"reset", &mut a, &mut r, &mut h, &fates);
+    let b = reset_chip(b"reset", 0, &mut a, &mut r, &mut h, &fates);
     let c = erase_block_1(b"erase block 1", b, &mut a, &mut r, &mut h, &fates);
     let d = program_row(
         b"program page 0 of it",
@@ -221,7 +245,53 @@ fn show_operations() {
     );
 }
 
+// One status read more after an operation.
+fn read_again(from: Bus, a: &mut [u8], r: &[u8], h: &mut [u8]) -> Bus {
+    let out = bus::status(from, small(), a, r, h);
+    io::write_all(STDOUT_FILENO, b"its status");
+    print_byte(out.byte);
+    io::write_all(STDOUT_FILENO, b"\n");
+    out.bus
+}
+
+// The line is low: D0h and 10h start nothing, and the answer is neither passed nor failed.
+fn show_protected() {
+    let mut a = [0x3cu8; 768];
+    let mut r = [0xffu8; 48];
+    let mut h = [0u8; 4];
+    let mask = [0u8; 192];
+    let fates = [0u32; 0];
+    let b = reset_chip(b"reset, line low", 1, &mut a, &mut r, &mut h, &fates);
+    let c = shown(
+        b"status, line low",
+        operations::read_status(b, small(), &mut a, &mut r, &mut h, &mask, &fates),
+    );
+    let d = read_again(c, &mut a, &r, &mut h);
+    let e = erase_block_1(
+        b"erase block 1, line low",
+        d,
+        &mut a,
+        &mut r,
+        &mut h,
+        &fates,
+    );
+    let f = read_again(e, &mut a, &r, &mut h);
+    let g = program_row(
+        b"program page 0 of it, line low",
+        4,
+        f,
+        &mut a,
+        &mut r,
+        &mut h,
+        &fates,
+    );
+    let i = read_again(g, &mut a, &r, &mut h);
+    read_row_4(b"read page 0, line low", i, &mut a, &mut r, &mut h, &fates);
+}
+
 fn main() {
     show_addresses();
+    show_status_bytes();
     show_operations();
+    show_protected();
 }

@@ -35,15 +35,17 @@ fn show(label: &[u8], done: Identified) {
     io::write_all(STDOUT_FILENO, b"\n");
 }
 
-// Asks a new chip.
-fn ask_with(label: &[u8], parameters: &[u8], fates: &[u32], allowed: u32) {
+// Asks a new chip, whose write-protect line is low at 1 and high at 0.
+fn ask_on(line: usize, label: &[u8], parameters: &[u8], fates: &[u32], allowed: u32) {
     let mask = [0u8; 192];
+    let mut interface = Interface::power_on();
+    interface.protected = line;
     let mut array = [0xffu8; 768];
     let mut register = [0xffu8; 48];
     let mut history = [0u8; 4];
     let done = identify::identify(
         State::blank(0),
-        Interface::power_on(),
+        interface,
         &mut array,
         &mut register,
         &mut history,
@@ -58,7 +60,12 @@ fn ask_with(label: &[u8], parameters: &[u8], fates: &[u32], allowed: u32) {
 
 // Asks with a whole page.
 fn ask(label: &[u8], page: [u8; 768], fates: &[u32], allowed: u32) {
-    ask_with(label, &page, fates, allowed);
+    ask_on(0, label, &page, fates, allowed);
+}
+
+// Asks with a whole page while the line is low.
+fn ask_protected(label: &[u8], page: [u8; 768], fates: &[u32]) {
+    ask_on(1, label, &page, fates, UNCUT);
 }
 
 fn main() {
@@ -98,9 +105,10 @@ fn main() {
         &none,
         UNCUT,
     );
-    ask_with(b"767-bytes", &[0x4f; 767], &none, UNCUT);
+    ask_on(0, b"767-bytes", &[0x4f; 767], &none, UNCUT);
     ask(b"busy-255", good, &[255u32], UNCUT);
     ask(b"busy-256", good, &[256u32], UNCUT);
     ask(b"allowed-775", good, &none, 775);
     ask(b"allowed-776", good, &none, 776);
+    ask_protected(b"write-protected", good, &none);
 }

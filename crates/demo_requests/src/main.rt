@@ -1,4 +1,5 @@
 // Runs the requests on the small chip: a word for each case, then answer, cycles sent and free blocks.
+mod protected;
 mod writes;
 
 use demo_store::Ended;
@@ -26,11 +27,11 @@ fn wide(x: u8) -> u64 {
 }
 
 // Reads a logical page, and shows its first byte.
-fn show_read(store: Store) {
+pub(crate) fn show_read(label: &[u8], store: Store, block: usize, page: usize) {
     let mask = [0u8; 192];
     let fates = [0u32; 0];
-    let read = demo_store::read(store, &mask, &fates, UNCUT, 1, 3);
-    show(b"read-1-3", read.ended);
+    let read = demo_store::read(store, &mask, &fates, UNCUT, block, page);
+    show(label, read.ended);
     io::write_all(STDOUT_FILENO, b"  first byte ");
     io::print_hex(STDOUT_FILENO, wide(read.page[0]), 2);
     io::write_all(STDOUT_FILENO, b"\n");
@@ -42,7 +43,7 @@ fn show_first_read() {
     let fates = [0u32; 0];
     let formatted = demo_store::format(demo_store::new_store(2), &mask, &fates, UNCUT);
     show(b"format", formatted);
-    show_read(formatted.store);
+    show_read(b"read-1-3", formatted.store, 1, 3);
 }
 
 fn main() {
@@ -52,14 +53,15 @@ fn main() {
     show_format(b"three-logical", 3, 0xff, &none, UNCUT);
     show_format(b"busy-255", 2, 0xff, &[255u32], UNCUT);
     show_format(b"busy-256", 2, 0xff, &[256u32], UNCUT);
-    show_format(b"allowed-353", 2, 0xff, &none, 353);
-    show_format(b"allowed-354", 2, 0xff, &none, 354);
+    show_format(b"allowed-355", 2, 0xff, &none, 355);
+    show_format(b"allowed-356", 2, 0xff, &none, 356);
     writes::show_write(b"write", &none, UNCUT);
     writes::show_write(b"write-busy-255", &[255u32], UNCUT);
     writes::show_write(b"write-busy-256", &[256u32], UNCUT);
-    writes::show_write(b"write-allowed-234", &none, 234);
-    writes::show_write(b"write-allowed-235", &none, 235);
+    writes::show_write(b"write-allowed-236", &none, 236);
+    writes::show_write(b"write-allowed-237", &none, 237);
     writes::show_last_number();
     writes::show_failed_erase();
     writes::show_cut_write();
+    protected::show_all();
 }

@@ -5,7 +5,7 @@ use demo_store::Store;
 use demo_store::UNCUT;
 
 // A new chip, formatted.
-fn formatted() -> Store {
+pub(crate) fn formatted() -> Store {
     let mask = [0u8; 192];
     let fates = [0u32; 0];
     let ended = demo_store::format(demo_store::new_store(2), &mask, &fates, UNCUT);
@@ -13,13 +13,13 @@ fn formatted() -> Store {
 }
 
 // A cut operation takes effect in every bit.
-fn write(store: Store, fates: &[u32], allowed: u32, block: usize) -> Ended {
+pub(crate) fn write(store: Store, fates: &[u32], allowed: u32, block: usize) -> Ended {
     let mask = [0xffu8; 192];
     demo_store::write(store, &mask, fates, allowed, block, 0, 0x11)
 }
 
 // The store after a write that passes.
-fn written(store: Store, block: usize) -> Store {
+pub(crate) fn written(store: Store, block: usize) -> Store {
     let none = [0u32; 0];
     let ended = write(store, &none, UNCUT, block);
     ended.store

@@ -14,7 +14,7 @@ const NEW: u8 = 0x5a;
 const OLDER: u8 = 0x11;
 
 // The cycles of the write.
-const FULL: u32 = 361;
+const FULL: u32 = 363;
 
 // What came back, and what the block being filled holds.
 struct Seen {

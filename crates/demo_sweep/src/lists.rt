@@ -1,15 +1,15 @@
-// Lists of calls with cuts and refusals between them, and what the mount at their end reads.
+// Lists of calls with cuts, refusals and a protected chip between them, and what a read then gives.
 use demo_store::Ended;
 use demo_store::Store;
 use demo_store::UNCUT;
 use libc::STDOUT_FILENO;
 
 // A call is a letter: A writes A5h and B 5Ah to page 0 of logical block 0; a and b are A and B cut after the last confirm
-// cycle, and c is B cut before; X writes to logical block 2, r is a read that is cut; M mounts, N with a mask that is too
-// short, S with 256 busy reads.
+// cycle, and c is B cut before; P is B with the write-protect line low, p a mount with it low; X writes to logical block 2, r
+// is a read that is cut; M mounts, N with a mask that is too short, S with 256 busy reads.
 fn allowed_for(call: u8) -> u32 {
     match call {
-        b'a' | b'b' => 360,
+        b'a' | b'b' => 362,
         b'c' => 200,
         b'r' => 20,
         _ => UNCUT,
@@ -33,13 +33,22 @@ fn byte_for(call: u8) -> u8 {
 
 fn is_mount(call: u8) -> bool {
     match call {
-        b'M' | b'S' => true,
+        b'M' | b'S' | b'p' => true,
         _ => false,
     }
 }
 
-fn perform(store: Store, call: u8) -> Ended {
+fn line_for(call: u8) -> usize {
+    match call {
+        b'P' | b'p' => 1,
+        _ => 0,
+    }
+}
+
+fn perform(mut store: Store, call: u8) -> Ended {
     let mask = [0xffu8; 192];
+    let line = line_for(call);
+    store.interface.protected = line;
     let busy = busy_for(call);
     let fates = [busy; 1];
     let allowed = allowed_for(call);

@@ -42,4 +42,6 @@ fn main() {
     lists::show(b"cut read:", b"ArBM");
     lists::show(b"refused calls:", b"AXbNXM");
     lists::show(b"silent mount:", b"AbSM");
+    lists::show(b"protected:", b"APpM");
+    lists::show(b"protected, then released:", b"APBM");
 }

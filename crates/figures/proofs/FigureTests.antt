@@ -10,13 +10,14 @@ use Rattle.cells.specs.Cells.{programmed, weakened, raised}
 use Rattle.cells.specs.Part.{put}
 use Rattle.bus.specs.Line.{mayGo, cutAfter, send, byteOut, sendAll, sent, goesOn}
 use Rattle.bus_polling.specs.Polling.{waiting, polls, outcomeOf, endedAs}
-use Rattle.bus_polling.specs.Outcomes.{isPassed, isFailed, isSilent, isCut}
+use Rattle.bus_polling.specs.Outcomes.{isPassed, isFailed, isSilent, isCut, isProtected}
 use Rattle.bus_sequences.specs.Cycles.{readCycles, readOutcome, putOut, readOutputs}
 use Rattle.operations.specs.Trace.{startedBy}
-use Rattle.progress.specs.Progress.{readOn, resetOn}
+use Rattle.operations.specs.Ends.{statusEnd}
+use Rattle.progress.specs.Progress.{readOn, resetOn, statusOn}
 use Rattle.scan_block.specs.Pages.{pagesRead}
 use Rattle.scan.specs.Scan.{blocksRead}
-use Rattle.request.specs.Call.{callLine, sized, stopAnswer, resultOf}
+use Rattle.request.specs.Call.{callLine, sized, stopAnswer, statusAnswer, statusState, resultOf}
 use Rattle.bitmaps.specs.Bitmap.{bitAt, withBit, countBits, clearFrom, neverBoth}
 use Rattle.pages.specs.Check.{zeroBits}
 use Rattle.pages.specs.Layout.{numberWidth, isDataKind, isTableKind, bytesOf, numberOf, labelBytes, encoded, kindOf, labelOf, allOnes, storedCheck, countedCheck, whole}
@@ -28,8 +29,8 @@ use Rattle.progress.specs.Steps.{eraseOn, programOn}
 use Rattle.fill.specs.Fill.{mainOf, mainRead, pageFilled, pagesFilled, tableMain}
 use Rattle.state_choose.specs.Choose.{permitted, searchAfter, countPermitted}
 use Rattle.state.specs.State.{blank, copyBits, emptyFrom, soundFrom, soundEntries, mounted, freeBlocks}
-use Rattle.fill_tables.specs.Tables.{afterFill, tryBlock, tryTable, tablesFilled}
-use Rattle.format.specs.Format.{firstState, tooFew, tablesRun, roundRun, marksRun, formatRequest, formatting}
+use Rattle.fill_tables.specs.Tables.{afterStatus, afterFill, tryBlock, tryTable, tablesFilled}
+use Rattle.format.specs.Format.{firstState, tooFew, tablesRun, roundRun, statusRun, marksRun, formatRequest, formatting}
 use Rattle.copies.specs.Current.{currentTable, currentCopy, greatestBelow, nextNumber, filledLast, sharesNumber, clashesAt, clashes, judgeTable, mountAnswer}
 use Rattle.copies.specs.Pick.{better, pick, someBelow}
 use Rattle.mount.specs.Mount.{mountRun}
@@ -39,40 +40,53 @@ use Rattle.figures.specs.Figures.{figures, mountRows, formatRows, given,
 
 -- every starred case is as the paper says
 pub figures-agree : given figures ≡ paper figures
-unfolding resultOf given paper ones begun statusMode readMode plainCommand addressFits latched addressed fateWord nextFate started statusByte fitting readStarted programStarted eraseStarted completed isConfirm confirmed confirmable commanded dataTaken dataGiven dataByte finished statusRead exec programmed weakened raised put mayGo cutAfter send byteOut sendAll sent goesOn waiting polls outcomeOf isPassed endedAs readCycles readOutcome putOut readOutputs startedBy readOn resetOn pagesRead blocksRead sized stopAnswer isSilent isCut bitAt withBit countBits zeroBits numberWidth bytesOf numberOf labelBytes encoded kindOf labelOf allOnes storedCheck countedCheck whole isMarked marksTo marksRead afterErase blockErased failedAt erasedTo eraseOn programOn isFailed mainOf mainRead pageFilled pagesFilled tableMain permitted searchAfter countPermitted afterFill tryBlock tryTable tablesFilled firstState tooFew tablesRun roundRun marksRun formatRequest table.tablePage isDataKind isTableKind anyTo greatest joined numbersAt greatestBelow greatestTo hasNumber
+unfolding resultOf given paper ones begun statusMode readMode plainCommand addressFits latched addressed fateWord nextFate started statusByte fitting readStarted programStarted eraseStarted completed isConfirm confirmed confirmable commanded dataTaken dataGiven dataByte finished statusRead exec programmed weakened raised put mayGo cutAfter send byteOut sendAll sent goesOn waiting polls outcomeOf isPassed endedAs readCycles readOutcome putOut readOutputs startedBy readOn resetOn statusOn pagesRead blocksRead sized stopAnswer isSilent isCut bitAt withBit countBits zeroBits numberWidth bytesOf numberOf labelBytes encoded kindOf labelOf allOnes storedCheck countedCheck whole isMarked marksTo marksRead afterErase blockErased failedAt erasedTo eraseOn programOn isFailed mainOf mainRead pageFilled pagesFilled tableMain permitted searchAfter countPermitted afterFill tryBlock tryTable tablesFilled firstState tooFew tablesRun roundRun statusRun marksRun formatRequest table.tablePage isDataKind isTableKind anyTo greatest joined numbersAt greatestBelow greatestTo hasNumber statusEnd afterStatus
 figures-agree = refl
 
 -- a formatting, all FFh at the start
-format-sends : bench.bench (bench.formatted []) ≡ 0 ∷ 354 ∷ []
-unfolding resultOf ones begun statusMode readMode plainCommand addressFits latched addressed fateWord nextFate started statusByte fitting readStarted programStarted eraseStarted completed isConfirm confirmed confirmable commanded dataTaken dataGiven dataByte finished statusRead exec programmed weakened raised put mayGo cutAfter send byteOut sendAll sent goesOn waiting polls outcomeOf isPassed endedAs readCycles readOutcome putOut readOutputs startedBy readOn resetOn pagesRead blocksRead sized stopAnswer isSilent isCut bitAt withBit countBits zeroBits numberWidth bytesOf numberOf labelBytes encoded kindOf labelOf allOnes storedCheck countedCheck whole isMarked marksTo marksRead afterErase blockErased failedAt erasedTo eraseOn programOn isFailed mainOf mainRead pageFilled pagesFilled tableMain permitted searchAfter countPermitted afterFill tryBlock tryTable tablesFilled firstState tooFew tablesRun roundRun marksRun formatRequest table.tablePage isDataKind isTableKind anyTo greatest joined numbersAt greatestBelow greatestTo hasNumber
+format-sends : bench.bench (bench.formatted []) ≡ 0 ∷ 356 ∷ []
+unfolding resultOf ones begun statusMode readMode plainCommand addressFits latched addressed fateWord nextFate started statusByte fitting readStarted programStarted eraseStarted completed isConfirm confirmed confirmable commanded dataTaken dataGiven dataByte finished statusRead exec programmed weakened raised put mayGo cutAfter send byteOut sendAll sent goesOn waiting polls outcomeOf isPassed endedAs readCycles readOutcome putOut readOutputs startedBy readOn resetOn statusOn pagesRead blocksRead sized stopAnswer isSilent isCut bitAt withBit countBits zeroBits numberWidth bytesOf numberOf labelBytes encoded kindOf labelOf allOnes storedCheck countedCheck whole isMarked marksTo marksRead afterErase blockErased failedAt erasedTo eraseOn programOn isFailed mainOf mainRead pageFilled pagesFilled tableMain permitted searchAfter countPermitted afterFill tryBlock tryTable tablesFilled firstState tooFew tablesRun roundRun statusRun marksRun formatRequest table.tablePage isDataKind isTableKind anyTo greatest joined numbersAt greatestBelow greatestTo hasNumber statusEnd afterStatus
 format-sends = refl
 
 format-state : bench.formatted [] .state ≡ bench.formattedState
-unfolding resultOf ones begun statusMode readMode plainCommand addressFits latched addressed fateWord nextFate started statusByte fitting readStarted programStarted eraseStarted completed isConfirm confirmed confirmable commanded dataTaken dataGiven dataByte finished statusRead exec programmed weakened raised put mayGo cutAfter send byteOut sendAll sent goesOn waiting polls outcomeOf isPassed endedAs readCycles readOutcome putOut readOutputs startedBy readOn resetOn pagesRead blocksRead sized stopAnswer isSilent isCut bitAt withBit countBits zeroBits numberWidth bytesOf numberOf labelBytes encoded kindOf labelOf allOnes storedCheck countedCheck whole isMarked marksTo marksRead afterErase blockErased failedAt erasedTo eraseOn programOn isFailed mainOf mainRead pageFilled pagesFilled tableMain permitted searchAfter countPermitted afterFill tryBlock tryTable tablesFilled firstState tooFew tablesRun roundRun marksRun formatRequest table.tablePage isDataKind isTableKind anyTo greatest joined numbersAt greatestBelow greatestTo hasNumber
+unfolding resultOf ones begun statusMode readMode plainCommand addressFits latched addressed fateWord nextFate started statusByte fitting readStarted programStarted eraseStarted completed isConfirm confirmed confirmable commanded dataTaken dataGiven dataByte finished statusRead exec programmed weakened raised put mayGo cutAfter send byteOut sendAll sent goesOn waiting polls outcomeOf isPassed endedAs readCycles readOutcome putOut readOutputs startedBy readOn resetOn statusOn pagesRead blocksRead sized stopAnswer isSilent isCut bitAt withBit countBits zeroBits numberWidth bytesOf numberOf labelBytes encoded kindOf labelOf allOnes storedCheck countedCheck whole isMarked marksTo marksRead afterErase blockErased failedAt erasedTo eraseOn programOn isFailed mainOf mainRead pageFilled pagesFilled tableMain permitted searchAfter countPermitted afterFill tryBlock tryTable tablesFilled firstState tooFew tablesRun roundRun statusRun marksRun formatRequest table.tablePage isDataKind isTableKind anyTo greatest joined numbersAt greatestBelow greatestTo hasNumber statusEnd afterStatus
 format-state = refl
 
 format-table : bench.formatted [] .chip .array ≡ bench.tableArray
-unfolding resultOf ones begun statusMode readMode plainCommand addressFits latched addressed fateWord nextFate started statusByte fitting readStarted programStarted eraseStarted completed isConfirm confirmed confirmable commanded dataTaken dataGiven dataByte finished statusRead exec programmed weakened raised put mayGo cutAfter send byteOut sendAll sent goesOn waiting polls outcomeOf isPassed endedAs readCycles readOutcome putOut readOutputs startedBy readOn resetOn pagesRead blocksRead sized stopAnswer isSilent isCut bitAt withBit countBits zeroBits numberWidth bytesOf numberOf labelBytes encoded kindOf labelOf allOnes storedCheck countedCheck whole isMarked marksTo marksRead afterErase blockErased failedAt erasedTo eraseOn programOn isFailed mainOf mainRead pageFilled pagesFilled tableMain permitted searchAfter countPermitted afterFill tryBlock tryTable tablesFilled firstState tooFew tablesRun roundRun marksRun formatRequest table.tablePage isDataKind isTableKind anyTo greatest joined numbersAt greatestBelow greatestTo hasNumber
+unfolding resultOf ones begun statusMode readMode plainCommand addressFits latched addressed fateWord nextFate started statusByte fitting readStarted programStarted eraseStarted completed isConfirm confirmed confirmable commanded dataTaken dataGiven dataByte finished statusRead exec programmed weakened raised put mayGo cutAfter send byteOut sendAll sent goesOn waiting polls outcomeOf isPassed endedAs readCycles readOutcome putOut readOutputs startedBy readOn resetOn statusOn pagesRead blocksRead sized stopAnswer isSilent isCut bitAt withBit countBits zeroBits numberWidth bytesOf numberOf labelBytes encoded kindOf labelOf allOnes storedCheck countedCheck whole isMarked marksTo marksRead afterErase blockErased failedAt erasedTo eraseOn programOn isFailed mainOf mainRead pageFilled pagesFilled tableMain permitted searchAfter countPermitted afterFill tryBlock tryTable tablesFilled firstState tooFew tablesRun roundRun statusRun marksRun formatRequest table.tablePage isDataKind isTableKind anyTo greatest joined numbersAt greatestBelow greatestTo hasNumber statusEnd afterStatus
 format-table = refl
 
 -- one cycle fewer allowed
-format-cut : formatting (bench.call []) (bench.chipWith (replicate 768 255)) 353 (blank 0) .answer ≡ 11
-unfolding resultOf ones begun statusMode readMode plainCommand addressFits latched addressed fateWord nextFate started statusByte fitting readStarted programStarted eraseStarted completed isConfirm confirmed confirmable commanded dataTaken dataGiven dataByte finished statusRead exec programmed weakened raised put mayGo cutAfter send byteOut sendAll sent goesOn waiting polls outcomeOf isPassed endedAs readCycles readOutcome putOut readOutputs startedBy readOn resetOn pagesRead blocksRead sized stopAnswer isSilent isCut bitAt withBit countBits zeroBits numberWidth bytesOf numberOf labelBytes encoded kindOf labelOf allOnes storedCheck countedCheck whole isMarked marksTo marksRead afterErase blockErased failedAt erasedTo eraseOn programOn isFailed mainOf mainRead pageFilled pagesFilled tableMain permitted searchAfter countPermitted afterFill tryBlock tryTable tablesFilled firstState tooFew tablesRun roundRun marksRun formatRequest table.tablePage isDataKind isTableKind anyTo greatest joined numbersAt greatestBelow greatestTo hasNumber
+format-cut : formatting (bench.call []) (bench.chipWith (replicate 768 255)) 355 (blank 0) .answer ≡ 11
+unfolding resultOf ones begun statusMode readMode plainCommand addressFits latched addressed fateWord nextFate started statusByte fitting readStarted programStarted eraseStarted completed isConfirm confirmed confirmable commanded dataTaken dataGiven dataByte finished statusRead exec programmed weakened raised put mayGo cutAfter send byteOut sendAll sent goesOn waiting polls outcomeOf isPassed endedAs readCycles readOutcome putOut readOutputs startedBy readOn resetOn statusOn pagesRead blocksRead sized stopAnswer isSilent isCut bitAt withBit countBits zeroBits numberWidth bytesOf numberOf labelBytes encoded kindOf labelOf allOnes storedCheck countedCheck whole isMarked marksTo marksRead afterErase blockErased failedAt erasedTo eraseOn programOn isFailed mainOf mainRead pageFilled pagesFilled tableMain permitted searchAfter countPermitted afterFill tryBlock tryTable tablesFilled firstState tooFew tablesRun roundRun statusRun marksRun formatRequest table.tablePage isDataKind isTableKind anyTo greatest joined numbersAt greatestBelow greatestTo hasNumber statusEnd afterStatus
 format-cut = refl
 
 -- one marked block of four
-format-marked : bench.bench (formatting (bench.call []) (bench.chipWith (set (replicate 768 255) 416 0)) 10000 (blank 0)) ≡ 8 ∷ 112 ∷ []
-unfolding resultOf ones begun statusMode readMode plainCommand addressFits latched addressed fateWord nextFate started statusByte fitting readStarted programStarted eraseStarted completed isConfirm confirmed confirmable commanded dataTaken dataGiven dataByte finished statusRead exec programmed weakened raised put mayGo cutAfter send byteOut sendAll sent goesOn waiting polls outcomeOf isPassed endedAs readCycles readOutcome putOut readOutputs startedBy readOn resetOn pagesRead blocksRead sized stopAnswer isSilent isCut bitAt withBit countBits zeroBits numberWidth bytesOf numberOf labelBytes encoded kindOf labelOf allOnes storedCheck countedCheck whole isMarked marksTo marksRead afterErase blockErased failedAt erasedTo eraseOn programOn isFailed mainOf mainRead pageFilled pagesFilled tableMain permitted searchAfter countPermitted afterFill tryBlock tryTable tablesFilled firstState tooFew tablesRun roundRun marksRun formatRequest table.tablePage copyBits freeBlocks mounted clearFrom neverBoth emptyFrom soundFrom soundEntries isDataKind isTableKind anyTo greatest joined numbersAt greatestBelow greatestTo hasNumber
+format-marked : bench.bench (formatting (bench.call []) (bench.chipWith (set (replicate 768 255) 416 0)) 10000 (blank 0)) ≡ 8 ∷ 114 ∷ []
+unfolding resultOf ones begun statusMode readMode plainCommand addressFits latched addressed fateWord nextFate started statusByte fitting readStarted programStarted eraseStarted completed isConfirm confirmed confirmable commanded dataTaken dataGiven dataByte finished statusRead exec programmed weakened raised put mayGo cutAfter send byteOut sendAll sent goesOn waiting polls outcomeOf isPassed endedAs readCycles readOutcome putOut readOutputs startedBy readOn resetOn statusOn pagesRead blocksRead sized stopAnswer isSilent isCut bitAt withBit countBits zeroBits numberWidth bytesOf numberOf labelBytes encoded kindOf labelOf allOnes storedCheck countedCheck whole isMarked marksTo marksRead afterErase blockErased failedAt erasedTo eraseOn programOn isFailed mainOf mainRead pageFilled pagesFilled tableMain permitted searchAfter countPermitted afterFill tryBlock tryTable tablesFilled firstState tooFew tablesRun roundRun statusRun marksRun formatRequest table.tablePage copyBits freeBlocks mounted clearFrom neverBoth emptyFrom soundFrom soundEntries isDataKind isTableKind anyTo greatest joined numbersAt greatestBelow greatestTo hasNumber statusEnd afterStatus
 format-marked = refl
+
+-- the line is low: 13 after the marks and the status read, and the state as it came; one cycle fewer allowed
+format-protected : bench.bench (formatting (bench.call []) bench.protectedChip 10000 bench.formattedState) ≡ 13 ∷ 93 ∷ []
+unfolding resultOf ones begun statusMode readMode plainCommand addressFits latched addressed fateWord nextFate started statusByte fitting readStarted programStarted eraseStarted completed isConfirm confirmed confirmable commanded dataTaken dataGiven dataByte finished statusRead exec programmed weakened raised put mayGo cutAfter send byteOut sendAll sent goesOn waiting polls outcomeOf isPassed endedAs readCycles readOutcome putOut readOutputs startedBy readOn resetOn statusOn pagesRead blocksRead sized stopAnswer isSilent isCut bitAt withBit countBits zeroBits numberWidth bytesOf numberOf labelBytes encoded kindOf labelOf allOnes storedCheck countedCheck whole isMarked marksTo marksRead afterErase blockErased failedAt erasedTo eraseOn programOn isFailed mainOf mainRead pageFilled pagesFilled tableMain permitted searchAfter countPermitted afterFill tryBlock tryTable tablesFilled firstState tooFew tablesRun roundRun statusRun marksRun formatRequest table.tablePage copyBits freeBlocks mounted clearFrom neverBoth emptyFrom soundFrom soundEntries isDataKind isTableKind anyTo greatest joined numbersAt greatestBelow greatestTo hasNumber statusEnd afterStatus statusAnswer statusState isProtected
+format-protected = refl
+
+format-protected-state : formatting (bench.call []) bench.protectedChip 10000 bench.formattedState .state ≡ bench.formattedState
+unfolding resultOf ones begun statusMode readMode plainCommand addressFits latched addressed fateWord nextFate started statusByte fitting readStarted programStarted eraseStarted completed isConfirm confirmed confirmable commanded dataTaken dataGiven dataByte finished statusRead exec programmed weakened raised put mayGo cutAfter send byteOut sendAll sent goesOn waiting polls outcomeOf isPassed endedAs readCycles readOutcome putOut readOutputs startedBy readOn resetOn statusOn pagesRead blocksRead sized stopAnswer isSilent isCut bitAt withBit countBits zeroBits numberWidth bytesOf numberOf labelBytes encoded kindOf labelOf allOnes storedCheck countedCheck whole isMarked marksTo marksRead afterErase blockErased failedAt erasedTo eraseOn programOn isFailed mainOf mainRead pageFilled pagesFilled tableMain permitted searchAfter countPermitted afterFill tryBlock tryTable tablesFilled firstState tooFew tablesRun roundRun statusRun marksRun formatRequest table.tablePage copyBits freeBlocks mounted clearFrom neverBoth emptyFrom soundFrom soundEntries isDataKind isTableKind anyTo greatest joined numbersAt greatestBelow greatestTo hasNumber statusEnd afterStatus statusAnswer statusState isProtected
+format-protected-state = refl
+
+format-protected-cut : bench.bench (formatting (bench.call []) bench.protectedChip 92 bench.formattedState) ≡ 11 ∷ 92 ∷ []
+unfolding resultOf ones begun statusMode readMode plainCommand addressFits latched addressed fateWord nextFate started statusByte fitting readStarted programStarted eraseStarted completed isConfirm confirmed confirmable commanded dataTaken dataGiven dataByte finished statusRead exec programmed weakened raised put mayGo cutAfter send byteOut sendAll sent goesOn waiting polls outcomeOf isPassed endedAs readCycles readOutcome putOut readOutputs startedBy readOn resetOn statusOn pagesRead blocksRead sized stopAnswer isSilent isCut bitAt withBit countBits zeroBits numberWidth bytesOf numberOf labelBytes encoded kindOf labelOf allOnes storedCheck countedCheck whole isMarked marksTo marksRead afterErase blockErased failedAt erasedTo eraseOn programOn isFailed mainOf mainRead pageFilled pagesFilled tableMain permitted searchAfter countPermitted afterFill tryBlock tryTable tablesFilled firstState tooFew tablesRun roundRun statusRun marksRun formatRequest table.tablePage copyBits freeBlocks mounted clearFrom neverBoth emptyFrom soundFrom soundEntries isDataKind isTableKind anyTo greatest joined numbersAt greatestBelow greatestTo hasNumber statusEnd afterStatus statusAnswer statusState isProtected
+format-protected-cut = refl
 
 -- three logical blocks on four blocks
 format-wide : bench.bench (formatting (setting (record { main = 32; spare = 16; pages = 4; blocks = 4; logical = 3 }) (replicate 192 0) []) (bench.chipWith (replicate 768 255)) 10000 (blank 0)) ≡ 1 ∷ 0 ∷ []
-unfolding resultOf ones begun statusMode readMode plainCommand addressFits latched addressed fateWord nextFate started statusByte fitting readStarted programStarted eraseStarted completed isConfirm confirmed confirmable commanded dataTaken dataGiven dataByte finished statusRead exec programmed weakened raised put mayGo cutAfter send byteOut sendAll sent goesOn waiting polls outcomeOf isPassed endedAs readCycles readOutcome putOut readOutputs startedBy readOn resetOn pagesRead blocksRead sized stopAnswer isSilent isCut bitAt withBit countBits zeroBits numberWidth bytesOf numberOf labelBytes encoded kindOf labelOf allOnes storedCheck countedCheck whole isMarked marksTo marksRead afterErase blockErased failedAt erasedTo eraseOn programOn isFailed mainOf mainRead pageFilled pagesFilled tableMain permitted searchAfter countPermitted afterFill tryBlock tryTable tablesFilled firstState tooFew tablesRun roundRun marksRun formatRequest table.tablePage copyBits freeBlocks mounted clearFrom neverBoth emptyFrom soundFrom soundEntries isDataKind isTableKind anyTo greatest joined numbersAt greatestBelow greatestTo hasNumber
+unfolding resultOf ones begun statusMode readMode plainCommand addressFits latched addressed fateWord nextFate started statusByte fitting readStarted programStarted eraseStarted completed isConfirm confirmed confirmable commanded dataTaken dataGiven dataByte finished statusRead exec programmed weakened raised put mayGo cutAfter send byteOut sendAll sent goesOn waiting polls outcomeOf isPassed endedAs readCycles readOutcome putOut readOutputs startedBy readOn resetOn statusOn pagesRead blocksRead sized stopAnswer isSilent isCut bitAt withBit countBits zeroBits numberWidth bytesOf numberOf labelBytes encoded kindOf labelOf allOnes storedCheck countedCheck whole isMarked marksTo marksRead afterErase blockErased failedAt erasedTo eraseOn programOn isFailed mainOf mainRead pageFilled pagesFilled tableMain permitted searchAfter countPermitted afterFill tryBlock tryTable tablesFilled firstState tooFew tablesRun roundRun statusRun marksRun formatRequest table.tablePage copyBits freeBlocks mounted clearFrom neverBoth emptyFrom soundFrom soundEntries isDataKind isTableKind anyTo greatest joined numbersAt greatestBelow greatestTo hasNumber statusEnd afterStatus
 format-wide = refl
 
 -- a mount of what was formatted: 16 pages of 48 bytes and the reset
 mount-sends : length (mountRun (bench.call []) (callLine (bench.chipWith bench.tableArray) 10000) .cycles) ≡ 931
-unfolding resultOf ones begun statusMode readMode plainCommand addressFits latched addressed fateWord nextFate started statusByte fitting readStarted programStarted eraseStarted completed isConfirm confirmed confirmable commanded dataTaken dataGiven dataByte finished statusRead exec programmed weakened raised put mayGo cutAfter send byteOut sendAll sent goesOn waiting polls outcomeOf isPassed endedAs readCycles readOutcome putOut readOutputs startedBy readOn resetOn pagesRead blocksRead sized stopAnswer isSilent isCut bitAt withBit countBits zeroBits numberWidth bytesOf numberOf labelBytes encoded kindOf labelOf allOnes storedCheck countedCheck whole isMarked marksTo marksRead afterErase blockErased failedAt erasedTo eraseOn programOn isFailed mainOf mainRead pageFilled pagesFilled tableMain permitted searchAfter countPermitted afterFill tryBlock tryTable tablesFilled firstState tooFew tablesRun roundRun marksRun formatRequest table.tablePage isDataKind isTableKind anyTo greatest joined numbersAt greatestBelow greatestTo hasNumber
+unfolding resultOf ones begun statusMode readMode plainCommand addressFits latched addressed fateWord nextFate started statusByte fitting readStarted programStarted eraseStarted completed isConfirm confirmed confirmable commanded dataTaken dataGiven dataByte finished statusRead exec programmed weakened raised put mayGo cutAfter send byteOut sendAll sent goesOn waiting polls outcomeOf isPassed endedAs readCycles readOutcome putOut readOutputs startedBy readOn resetOn statusOn pagesRead blocksRead sized stopAnswer isSilent isCut bitAt withBit countBits zeroBits numberWidth bytesOf numberOf labelBytes encoded kindOf labelOf allOnes storedCheck countedCheck whole isMarked marksTo marksRead afterErase blockErased failedAt erasedTo eraseOn programOn isFailed mainOf mainRead pageFilled pagesFilled tableMain permitted searchAfter countPermitted afterFill tryBlock tryTable tablesFilled firstState tooFew tablesRun roundRun statusRun marksRun formatRequest table.tablePage isDataKind isTableKind anyTo greatest joined numbersAt greatestBelow greatestTo hasNumber statusEnd afterStatus
 mount-sends = refl
 
 -- mounts answered 0, 4, 5 and 6: the table, an erased chip, the table of another geometry, a copy of a block that is none
@@ -98,5 +112,5 @@ unfolding given paper agrees completeTo isComplete isTable isData isCopyOf isMar
 mount-rows-agree = refl
 
 pub format-rows-agree : given formatRows ≡ paper formatRows
-unfolding resultOf given paper ones begun statusMode readMode plainCommand addressFits latched addressed fateWord nextFate started statusByte fitting readStarted programStarted eraseStarted completed isConfirm confirmed confirmable commanded dataTaken dataGiven dataByte finished statusRead exec programmed weakened raised put mayGo cutAfter send byteOut sendAll sent goesOn waiting polls outcomeOf isPassed endedAs readCycles readOutcome putOut readOutputs startedBy readOn resetOn pagesRead blocksRead sized stopAnswer isSilent isCut bitAt withBit countBits zeroBits numberWidth bytesOf numberOf labelBytes encoded kindOf labelOf allOnes storedCheck countedCheck whole isMarked marksTo marksRead afterErase blockErased failedAt erasedTo eraseOn programOn isFailed mainOf mainRead pageFilled pagesFilled tableMain permitted searchAfter countPermitted afterFill tryBlock tryTable tablesFilled firstState tooFew tablesRun roundRun marksRun formatRequest table.tablePage isDataKind isTableKind anyTo greatest joined numbersAt greatestBelow greatestTo hasNumber
+unfolding resultOf given paper ones begun statusMode readMode plainCommand addressFits latched addressed fateWord nextFate started statusByte fitting readStarted programStarted eraseStarted completed isConfirm confirmed confirmable commanded dataTaken dataGiven dataByte finished statusRead exec programmed weakened raised put mayGo cutAfter send byteOut sendAll sent goesOn waiting polls outcomeOf isPassed endedAs readCycles readOutcome putOut readOutputs startedBy readOn resetOn statusOn pagesRead blocksRead sized stopAnswer isSilent isCut bitAt withBit countBits zeroBits numberWidth bytesOf numberOf labelBytes encoded kindOf labelOf allOnes storedCheck countedCheck whole isMarked marksTo marksRead afterErase blockErased failedAt erasedTo eraseOn programOn isFailed mainOf mainRead pageFilled pagesFilled tableMain permitted searchAfter countPermitted afterFill tryBlock tryTable tablesFilled firstState tooFew tablesRun roundRun statusRun marksRun formatRequest table.tablePage isDataKind isTableKind anyTo greatest joined numbersAt greatestBelow greatestTo hasNumber statusEnd afterStatus
 format-rows-agree = refl

@@ -113,6 +113,12 @@ copyArray block logical number = put (block * 192) (blockWith dataKind logical n
 abbrev pub chipWith : List ℕ → Device
 chipWith array = device poweredOn array (replicate 48 255) (replicate 4 0)
 
+-- the erased chip with its write-protect line low
+abbrev pub protectedChip : Device
+protectedChip =
+    device (record { phase = 0; count = 0; address = 0; first = 0; column = 0; operation = 0; busy = 0; failed = 0; loaded = 0; fate = 0; illegal = 0; protected = 1 })
+    (replicate 768 255) (replicate 48 255) (replicate 4 0)
+
 -- tables with one number in blocks 1 and 2
 abbrev pub tiedArray : List ℕ → List ℕ
 tiedArray lower = put 192 (lower ++ tableBlock 3 0) (replicate 768 255)

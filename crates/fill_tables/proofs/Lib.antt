@@ -1,3 +1,4 @@
 pub mod AfterLaws
 pub mod KeepLaws
 pub mod NumberLaws
+pub mod StatusLaws

@@ -11,7 +11,7 @@ use Rattle.state.specs.State.{blank, nextNumber, taken, withInvalid, withTable}
 use Rattle.state.specs.declared.State.{State}
 use Rattle.state_choose.specs.declared.Choice.{Choice}
 use Rattle.state_choose.specs.declared.Choice.the-variants.{Block, Worn}
-use Rattle.request.specs.Call.{answerFor, stateFor}
+use Rattle.request.specs.Call.{Result, answerFor, stateFor, statusAnswer, statusState, endAt}
 use Rattle.progress.specs.Progress.{Progress, progress}
 use Rattle.fill.specs.Fill.{tableFilled}
 use Rattle.progress.specs.Steps.{resumed}
@@ -47,6 +47,16 @@ pub record Tabled : Type 0 where
 
 abbrev pub tabled : Progress → ℕ → State → Tabled
 tabled p a s = record { progress = p; answer = a; state = s }
+
+-- where it has come to, of n cycles allowed
+abbrev pub endOfRun : ℕ → Tabled → Result
+endOfRun n t = endAt n (t .answer) (t .state) (t .progress .line)
+
+-- a request that has read the status: what follows if the chip may be written, else 13 with the state as it came; silent or cut, a
+-- stopped one
+unfoldable pub afterStatus : State → Progress → Tabled → Tabled
+afterStatus state p rest =
+    cond (isPassed (p .outcome)) rest (tabled p (statusAnswer (p .outcome)) (statusState (p .outcome) state))
 
 -- a fill that passed, or one that was silent or cut
 abbrev pub endedBy : Progress → State → Tabled

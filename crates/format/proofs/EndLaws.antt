@@ -17,13 +17,13 @@ use Rattle.state.specs.State.{blank, none, numbersLeft, copyBits, heldBits}
 use Rattle.state.specs.declared.State.{State}
 use Rattle.request.specs.Call.{endAt}
 use Rattle.progress.specs.Progress.{progress}
-use Rattle.fill_tables.specs.Tables.{tablesFilled}
+use Rattle.fill_tables.specs.Tables.{tablesFilled, endOfRun}
 use Rattle.fill_cursor.specs.Cursor.{running, firstCursor}
 use Rattle.fill_cursor.specs.declared.Cursor.{Cursor}
 use Rattle.fill_cursor.specs.declared.Running.{Running}
 use Rattle.fill_driver.specs.Driver.{Ran, RanAs}
 use Rattle.fill_laws.proofs.TableLaws.{tables-ran}
-use Rattle.format.specs.Format.{firstState, tooFew, tablesOf, endOfRun, tablesRun}
+use Rattle.format.specs.Format.{firstState, tooFew, tablesOf, tablesRun}
 
 -- the search starts on the chip
 pub last-small : (g : Geometry) (marked invalid : List ℕ) (greatest : ℕ) → Valid g → firstState g marked invalid greatest .last < g .blocks

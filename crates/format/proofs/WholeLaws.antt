@@ -2,24 +2,28 @@
 use Prim.Native.Nat.{ℕ, _≤_}
 use mathlib.Core.Bool.{true, false, cond}
 use mathlib.Core.List.{List, []}
-use mathlib.Core.Path.{_≡_, refl, sym, ap, _∙_}
+use mathlib.Core.Path.{_≡_, refl, sym, ap, subst, _∙_}
 use native.Mathlib.Nat.{add-zero}
 use native.Mathlib.Omega.{arith}
 use borrow.Table.Steps.{cases}
 use Rattle.chip_array.specs.Device.{Device, Setting}
 use Rattle.chip.specs.Chip.{Cycle}
-use Rattle.bus.specs.Line.{Line}
+use Rattle.bus.specs.Line.{Line, sendAll}
+use Rattle.bus.proofs.LineLaws.{sent-counts}
 use Rattle.bus_polling.specs.Outcomes.{isPassed}
 use Rattle.bus_polling.specs.declared.Outcome.{Outcome}
 use Rattle.bus_polling.specs.declared.Outcome.the-variants.{Passed}
+use Rattle.bus_sequences.specs.Cycles.{statusCycles}
+use Rattle.operations.specs.Ends.{Called, statusEnd}
 use Rattle.operations.specs.Trace.{ArrayOperation}
 use Rattle.state.specs.State.{blank}
 use Rattle.state.specs.declared.State.{State}
 use Rattle.request.specs.Call.{Result, sizedFor, endAt, stopAnswer, resultOf}
 use Rattle.request.specs.Start.{started}
-use Rattle.progress.specs.Progress.{Progress, progress}
+use Rattle.progress.specs.Progress.{Progress, progress, statusOn}
+use Rattle.progress.proofs.StatusLaws.{status-leaves}
 use Rattle.progress.proofs.CountLaws.{allowance-kept}
-use Rattle.bus_polling.proofs.OutcomeLaws.{is-passed}
+use Rattle.bus_polling.proofs.OutcomeLaws.{is-passed, passed-answered}
 use Rattle.scan_found.specs.Found.{marksTo}
 use Rattle.request.proofs.StartLaws.{Stops}
 use Rattle.format_marks.proofs.MarkLaws.{marks-stopped}
@@ -28,7 +32,8 @@ use Rattle.format_erase.proofs.KeepLaws.{round-keeps}
 use Rattle.format_marks.specs.Marks.{marksRead, MarksFound}
 use Rattle.format_erase.specs.declared.Numbers.{Numbers}
 use Rattle.format_erase.specs.Round.{erasedTo, RoundDone}
-use Rattle.format.specs.Format.{endOfRun, stopped, tablesRun, roundRun, marksRun, formatRequest, formatting}
+use Rattle.fill_tables.specs.Tables.{endOfRun}
+use Rattle.format.specs.Format.{stopped, tablesRun, roundRun, statusRun, marksRun, formatRequest, formatting}
 
 pub marks-left : (s : Setting) (l m : Line) (o : Outcome) (marked : List ℕ) → MarksFound s l m o marked → m .left ≤ l .left
 marks-left s l m o marked d =
@@ -43,9 +48,9 @@ pub stop-is : (n : ℕ) (p : Progress) (m : Line) (o : Outcome) (a : ℕ) (st : 
 stop-is n p m o a st e q h k = λ i. endAt n ((h ∙ ap stopAnswer q) i) (k i) (e i)
 
 module _ (s : Setting) (n : ℕ) (l m : Line) (o : Outcome) (marked : List ℕ) (d : MarksFound s l m o marked) where
-  pub marks-stop : isPassed o ≡ false → (a : ℕ) (st : State) → a ≡ stopAnswer o → st ≡ blank 2 → (cs : List Cycle) (os : List ArrayOperation) → endAt n a st m ≡ endOfRun n (marksRun s (progress l Passed cs os))
+  pub marks-stop : (state : State) → isPassed o ≡ false → (a : ℕ) (st : State) → a ≡ stopAnswer o → st ≡ blank 2 → (cs : List Cycle) (os : List ArrayOperation) → endAt n a st m ≡ endOfRun n (marksRun s state (progress l Passed cs os))
   unfolding marksRun
-  marks-stop f a st h k cs os =
+  marks-stop state f a st h k cs os =
       let q = marksRead s (s .geometry .blocks) (progress l Passed cs os) in
       let stops : isPassed (q .outcome) ≡ false = sym (ap isPassed (d .outcome-is cs os)) ∙ f in
       rw stops (stop-is n q m o a st (d .line-is cs os) (d .outcome-is cs os) h k)
@@ -62,15 +67,25 @@ module _ (s : Setting) (n : ℕ) (l m : Line) (o : Outcome) (marked : List ℕ) 
         d .marked-are t ∙ ap (λ (x : List ℕ). marksTo (s .geometry) x (s .geometry .blocks)) (sym (d .same-array)) ∙ ap (λ (x : Line). marksTo (s .geometry) (x .chip .array) (s .geometry .blocks)) (d .line-is cs os)
 
     -- what follows the marks, from line m on
-    pub marks-goes : (r : Result) → ((cs : List Cycle) (os : List ArrayOperation) → r ≡ endOfRun n (roundRun s marked (progress m Passed cs os))) → (cs : List Cycle) (os : List ArrayOperation) → r ≡ endOfRun n (marksRun s (progress l Passed cs os))
+    pub marks-goes : (state : State) (r : Result) → ((cs : List Cycle) (os : List ArrayOperation) → r ≡ endOfRun n (statusRun s state marked (progress m Passed cs os))) → (cs : List Cycle) (os : List ArrayOperation) → r ≡ endOfRun n (marksRun s state (progress l Passed cs os))
     unfolding marksRun
-    marks-goes r f cs os =
+    marks-goes state r f cs os =
         let q = marksRead s (s .geometry .blocks) (progress l Passed cs os) in
         let passed : isPassed (q .outcome) ≡ true = sym (ap isPassed (d .outcome-is cs os)) ∙ t in
         f (q .cycles) (q .started)
-        ∙ ap (λ (x : Progress). endOfRun n (roundRun s marked x)) (goes cs os)
-        ∙ ap (λ (x : List ℕ). endOfRun n (roundRun s x q)) (marked-is cs os)
+        ∙ ap (λ (x : Progress). endOfRun n (statusRun s state marked x)) (goes cs os)
+        ∙ ap (λ (x : List ℕ). endOfRun n (statusRun s state x q)) (marked-is cs os)
         ∙ rw passed
+
+-- the status read
+pub status-left : (s : Setting) (l m : Line) → m ≡ sendAll s l statusCycles → m .left ≤ l .left
+status-left s l m e = omega (arith, sent-counts s l statusCycles, ap (λ (x : Line). x .left) e)
+
+pub status-called : (s : Setting) (l m : Line) (o : Outcome) → m ≡ sendAll s l statusCycles → o ≡ statusEnd m → isPassed o ≡ true → Called s l → Called s m
+unfolding statusOn isPassed
+status-called s l m o e q t c =
+    subst (Called s) (sym e)
+    (status-leaves s (progress l Passed [] []) refl c .next-called (passed-answered (statusEnd (sendAll s l statusCycles)) (sym (ap isPassed (q ∙ ap statusEnd e)) ∙ t)))
 
 module _ (s : Setting) (n : ℕ) (marked : List ℕ) (l m : Line) (o : Outcome) (invalid : List ℕ) (numbers : Numbers) (d : RoundDone s marked l m o invalid numbers) where
   pub round-stop : isPassed o ≡ false → (a : ℕ) (st : State) → a ≡ stopAnswer o → st ≡ blank 2 → (cs : List Cycle) (os : List ArrayOperation) → endAt n a st m ≡ endOfRun n (roundRun s marked (progress l Passed cs os))
@@ -92,13 +107,13 @@ module _ (s : Setting) (n : ℕ) (marked : List ℕ) (l m : Line) (o : Outcome) 
       f (q .cycles) (q .started) ∙ all ∙ rw passed
 
 -- a formatting ends at the operation that did not pass
-pub format-stops : (s : Setting) (n : ℕ) → Stops n (λ p. endOfRun n (marksRun s p))
+pub format-stops : (s : Setting) (n : ℕ) (state : State) → Stops n (λ p. endOfRun n (marksRun s state p))
 unfolding marksRun marksRead
-format-stops s n p f =
+format-stops s n state p f =
     let same : marksRead s (s .geometry .blocks) p ≡ p = sym (ap (λ (x : ℕ). marksRead s x p) (add-zero (s .geometry .blocks))) ∙ marks-stopped s 0 p f (s .geometry .blocks) in
-    ap (λ (q : Progress). endOfRun n (cond (isPassed (q .outcome)) (roundRun s (marksTo (s .geometry) (q .line .chip .array) (s .geometry .blocks)) q) (stopped q))) same ∙ rw f
+    ap (λ (q : Progress). endOfRun n (cond (isPassed (q .outcome)) (statusRun s state (marksTo (s .geometry) (q .line .chip .array) (s .geometry .blocks)) q) (stopped q))) same ∙ rw f
 
 -- the request, told by how every request that resets the chip begins
-pub format-started : (s : Setting) (d : Device) (n : ℕ) (state : State) → started s d n state (λ p. endOfRun n (marksRun s p)) ≡ formatting s d n state
+pub format-started : (s : Setting) (d : Device) (n : ℕ) (state : State) → started s d n state (λ p. endOfRun n (marksRun s state p)) ≡ formatting s d n state
 unfolding resultOf formatRequest
 format-started s d n state = cases (sizedFor s d) (λ t. rw t) (λ f. rw f)

@@ -1,4 +1,4 @@
--- Formatting, step after step and blocks rising: marks, erases, the count of blocks, table fills until one passes.
+-- Formatting, step after step and blocks rising: marks, the status, erases, the count of blocks, table fills until one passes.
 use Prim.Native.Nat.{ℕ, _+_, _-_}
 use mathlib.Core.Bool.{Bool, cond}
 use mathlib.Core.List.{List, []}
@@ -8,13 +8,13 @@ use Rattle.geometry.specs.declared.Geometry.{Geometry}
 use Rattle.chip_array.specs.Device.{Device, Setting}
 use Rattle.bus_polling.specs.Outcomes.{isPassed}
 use Rattle.bus_polling.specs.declared.Outcome.the-variants.{Passed}
-use Rattle.progress.specs.Progress.{Progress, progress, resetOn}
+use Rattle.progress.specs.Progress.{Progress, progress, resetOn, statusOn}
 use Rattle.scan_found.specs.Found.{marksTo}
 use Rattle.state_choose.specs.Choose.{countPermitted}
 use Rattle.state.specs.State.{blank, none, mountedWith, numbersLeft}
 use Rattle.state.specs.declared.State.{State}
-use Rattle.request.specs.Call.{Result, result, Performed, resultOf, unsent, performed, sizedFor, callLine, stopAnswer, endAt}
-use Rattle.fill_tables.specs.Tables.{Tabled, tabled, tablesFilled}
+use Rattle.request.specs.Call.{Result, result, Performed, resultOf, unsent, performed, sizedFor, callLine, stopAnswer}
+use Rattle.fill_tables.specs.Tables.{Tabled, tabled, endOfRun, afterStatus, tablesFilled}
 use Rattle.format_marks.specs.Marks.{marksRead}
 use Rattle.format_erase.specs.Round.{erasedTo}
 
@@ -47,24 +47,24 @@ roundRun s marked p =
     let r = erasedTo s marked (s .geometry .blocks) p in
     cond (isPassed (r .progress .outcome)) (tablesRun s marked (r .invalid) (r .numbers .greatest) (r .progress)) (stopped (r .progress))
 
+-- the status read and what follows it
+unfoldable pub statusRun : Setting → State → List ℕ → Progress → Tabled
+statusRun s state marked p = afterStatus state (statusOn s p) (roundRun s marked (statusOn s p))
+
 -- the marks and what follows them
-unfoldable pub marksRun : Setting → Progress → Tabled
-marksRun s p =
+unfoldable pub marksRun : Setting → State → Progress → Tabled
+marksRun s state p =
     let q = marksRead s (s .geometry .blocks) p in
-    cond (isPassed (q .outcome)) (roundRun s (marksTo (s .geometry) (q .line .chip .array) (s .geometry .blocks)) q) (stopped q)
+    cond (isPassed (q .outcome)) (statusRun s state (marksTo (s .geometry) (q .line .chip .array) (s .geometry .blocks)) q) (stopped q)
 
 -- a reset, and all of that: the cycles sent and the operations, the answer and the next state
-abbrev pub formatRun : Setting → Device → ℕ → Tabled
-formatRun s d n = marksRun s (resetOn s (progress (callLine d n) Passed [] []))
-
--- where a run has come to, of n cycles allowed
-abbrev pub endOfRun : ℕ → Tabled → Result
-endOfRun n t = endAt n (t .answer) (t .state) (t .progress .line)
+abbrev pub formatRun : Setting → Device → ℕ → State → Tabled
+formatRun s d n state = marksRun s state (resetOn s (progress (callLine d n) Passed [] []))
 
 -- the request
 unfoldable pub formatRequest : Setting → Device → ℕ → State → Performed Result
 formatRequest s d n state =
-    cond (sizedFor s d) (performed (endOfRun n (formatRun s d n)) (formatRun s d n .progress)) (unsent (result 1 state d 0))
+    cond (sizedFor s d) (performed (endOfRun n (formatRun s d n state)) (formatRun s d n state .progress)) (unsent (result 1 state d 0))
 
 abbrev pub formatting : Setting → Device → ℕ → State → Result
 formatting s d n state = resultOf (formatRequest s d n state)

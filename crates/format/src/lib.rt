@@ -1,4 +1,4 @@
-// Formatting: marks are read, every unmarked block is erased, and a table is filled.
+// Formatting: marks are read, then the status; every unmarked block is erased, and a table is filled.
 use bus::Bus;
 use bus_polling::Outcome;
 use chip_interface::Interface;
@@ -22,7 +22,8 @@ ghost use Rattle.operations.specs.Trace.{ArrayOperation};
 ghost use Rattle.progress.specs.Progress.{progress};
 ghost use Rattle.state.specs.State.{numberEnd};
 ghost use Rattle.request.specs.Call.{result};
-ghost use Rattle.format.specs.Format.{endOfRun, firstState, tablesRun, roundRun, marksRun, formatting};
+ghost use Rattle.fill_tables.specs.Tables.{endOfRun};
+ghost use Rattle.format.specs.Format.{firstState, tablesRun, roundRun, statusRun, marksRun, formatting};
 
 // The state before the first table: the search starts at block 0, and no block holds anything current.
 fn first_state(g: Geometry, marked: [u8; 512], invalid: [u8; 512], greatest: u64) -> State
@@ -139,8 +140,36 @@ fn erase_and_fill(
     )
 }
 
-// The marks, the first round of erases and the table fills, once the chip is reset.
+// The first round of erases and the table fills, if the status shows that the chip may be written.
+fn erase_if_writable(
+    state: State,
+    from: Bus,
+    g: Geometry,
+    array: &mut [u8],
+    register: &mut [u8],
+    history: &mut [u8],
+    mask: &[u8],
+    fates: &[u32],
+    marked: [u8; 512],
+    allowed: u32,
+) -> Returned
+    requires { ⌜ Called (setting g (now mask) (now fates)) (line from (now array) (now register) (now history)) ⌝ }
+    requires { ⌜ from .left ≤ allowed ⌝ }
+    ensures { λ r. ⌜ ((cs : List Cycle) (os : List ArrayOperation) → result (r .answer) (r .state) (device (r .interface) (now (array .exit)) (now (register .exit)) (now (history .exit))) (r .sent) ≡ endOfRun allowed (statusRun (setting g (now (mask .entry)) (now (fates .entry))) state marked (progress (line from (now (array .entry)) (now (register .entry)) (now (history .entry))) Passed cs os))) ⌝ }
+{
+    let shown = operations::read_status(from, g, array, register, history, mask, fates);
+    let b = shown.bus;
+    let outcome = shown.outcome;
+    let Outcome::Passed = outcome else {
+        let answer = request::status_answer(outcome);
+        return request::end(answer, request::status_state(outcome, state), b, allowed);
+    };
+    erase_and_fill(b, g, array, register, history, mask, fates, marked, allowed)
+}
+
+// The marks, the status, the first round of erases and the table fills, once the chip is reset.
 fn mark_and_erase(
+    state: State,
     from: Bus,
     g: Geometry,
     array: &mut [u8],
@@ -152,7 +181,7 @@ fn mark_and_erase(
 ) -> Returned
     requires { ⌜ Called (setting g (now mask) (now fates)) (line from (now array) (now register) (now history)) ⌝ }
     requires { ⌜ from .left ≤ allowed ⌝ }
-    ensures { λ r. ⌜ ((cs : List Cycle) (os : List ArrayOperation) → result (r .answer) (r .state) (device (r .interface) (now (array .exit)) (now (register .exit)) (now (history .exit))) (r .sent) ≡ endOfRun allowed (marksRun (setting g (now (mask .entry)) (now (fates .entry))) (progress (line from (now (array .entry)) (now (register .entry)) (now (history .entry))) Passed cs os))) ⌝ }
+    ensures { λ r. ⌜ ((cs : List Cycle) (os : List ArrayOperation) → result (r .answer) (r .state) (device (r .interface) (now (array .exit)) (now (register .exit)) (now (history .exit))) (r .sent) ≡ endOfRun allowed (marksRun (setting g (now (mask .entry)) (now (fates .entry))) state (progress (line from (now (array .entry)) (now (register .entry)) (now (history .entry))) Passed cs os))) ⌝ }
 {
     let found = format_marks::read_marks(from, g, array, register, history, mask, fates);
     let b = found.bus;
@@ -161,7 +190,18 @@ fn mark_and_erase(
         return request::end(request::stop_answer(outcome), State::blank(2), b, allowed);
     };
     let marked = found.marked;
-    erase_and_fill(b, g, array, register, history, mask, fates, marked, allowed)
+    erase_if_writable(
+        state,
+        b,
+        g,
+        array,
+        register,
+        history,
+        mask,
+        fates,
+        marked,
+        allowed,
+    )
 }
 
 // The request, of any state, chip, mask, fate words and allowance.
@@ -192,5 +232,15 @@ pub fn format(
     if answer != 0 {
         return request::end(answer, State::blank(2), bus, allowed);
     }
-    mark_and_erase(bus, g, array, register, history, mask, fates, allowed)
+    mark_and_erase(
+        state,
+        bus,
+        g,
+        array,
+        register,
+        history,
+        mask,
+        fates,
+        allowed,
+    )
 }

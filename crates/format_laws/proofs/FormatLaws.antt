@@ -8,7 +8,7 @@ use native.Mathlib.Nat.{mul-le-mul-right, add-zero}
 use native.Mathlib.Omega.{arith}
 use borrow.Table.Steps.{cases}
 use borrow.Author.Tests.{eqb-true, eqb-false, ltb-true, ltb-false}
-use lib.Dec.{eqb}
+use lib.Dec.{eqb, ltb}
 use lib.ListN.{length, replicate}
 use Rattle.geometry.specs.declared.Geometry.{Geometry}
 use Rattle.geometry.specs.Limits.{Valid}
@@ -17,9 +17,10 @@ use Rattle.geometry.proofs.SizeLaws.{row-below}
 use Rattle.cells.specs.Bytes.{Bytes}
 use Rattle.bitmaps.specs.Bitmap.{bitAt}
 use Rattle.chip_array.specs.Device.{Device, Setting}
-use Rattle.bus_polling.specs.Outcomes.{isPassed, isReadEnd}
+use Rattle.bus_polling.specs.Outcomes.{isPassed, isFailed, isSilent, isCut, isIllegal, isProtected, isReadEnd}
 use Rattle.bus_polling.specs.declared.Outcome.{Outcome}
-use Rattle.bus_polling.specs.declared.Outcome.the-variants.{Passed}
+use Rattle.bus_polling.specs.declared.Outcome.the-variants.{Passed, Cut, Protected}
+use Rattle.bus_polling.proofs.OutcomeLaws.{is-passed, passed-answered}
 use Rattle.operations.specs.Ends.{Called}
 use Rattle.operations.specs.Trace.{ArrayOperation}
 use Rattle.copies.specs.Blocks.{blockIn, pageIn, isMarked}
@@ -31,9 +32,10 @@ use Rattle.state.proofs.NumberLaws.{mounted-told}
 use Rattle.state.specs.declared.State.{State}
 use Rattle.scan_found.specs.Contents.{mapOf}
 use Rattle.scan_found.specs.Found.{bitsAt, marksTo}
-use Rattle.request.specs.Call.{sizedFor, callLine, stopAnswer}
+use Rattle.request.specs.Call.{sizedFor, callLine, stopAnswer, statusAnswer, statusState}
 use Rattle.request.proofs.CallLaws.{sizes, stop-answer, stop-cut, stop-silent}
-use Rattle.progress.specs.Progress.{Progress, progress, lineOf, readOn, resetOn}
+use Rattle.progress.specs.Progress.{Progress, progress, lineOf, readOn, resetOn, statusOn}
+use Rattle.progress.proofs.StatusLaws.{StatusLeft, status-leaves, status-keeps}
 use Rattle.progress.proofs.WordLaws.{line-kept}
 use Rattle.format_marks.proofs.KeepLaws.{marks-keep}
 use Rattle.format_erase.proofs.KeepLaws.{round-keeps}
@@ -43,8 +45,10 @@ use Rattle.mount.proofs.MountLaws.{mark-bit}
 use Rattle.format_marks.specs.Marks.{marksRead}
 use Rattle.format_erase.specs.Round.{Round, erasedTo}
 use Rattle.format_erase.proofs.RoundLaws.{round-stopped}
-use Rattle.fill_tables.specs.Tables.{Tabled, tabled}
-use Rattle.format.specs.Format.{firstState, tooFew, stopped, tablesOf, tablesRun, roundRun, marksRun, formatRun}
+use Rattle.fill_tables.specs.Tables.{Tabled, tabled, endOfRun}
+use Rattle.fill_tables.proofs.StatusLaws.{after-passed, after-stopped}
+use Rattle.format.specs.Format.{firstState, tooFew, stopped, tablesOf, tablesRun, roundRun, statusRun, marksRun, formatRun}
+use Rattle.damage.specs.Protect.{Unwritten}
 use Rattle.damage.specs.Run.{failedIn, failedCount, NoneFailed, Sound, Unchanged, Spent, readMost, blockOn, Slow, Failing, tableFillMost}
 use Rattle.damage.proofs.FailedLaws.{failed-least}
 use Rattle.damage.proofs.PlaceLaws.{page-erased}
@@ -54,24 +58,26 @@ use Rattle.format_laws.proofs.SettledLaws as settled
 use Rattle.format_laws.proofs.TablesLaws.{Ready, Done, Left, tables-leave}
 use Rattle.format_laws.proofs.RoundLaws.{Rounded, round-leaves}
 use Rattle.format_laws.proofs.CountLaws.{count-unfailed, none-unfailed, some-unfailed}
-use Rattle.format_laws.specs.Formatting.{Formatted, FormatAnswer, is-worn, is-silent, is-cut, unfailed, marksDone, roundFrom, roundDone, NumbersEnd, blockMost, formatMost}
+use Rattle.format_laws.specs.Formatting.{Formatted, FormatAnswer, is-worn, is-silent, is-cut, is-protected, unfailed, marksDone, statusDone, roundFrom, roundDone, NumbersEnd, blockMost, formatMost}
 use Rattle.bitmaps.proofs.BitmapLaws.{blank-bit}
 
 -- how a formatting of chip d ends that may send n cycles, whatever fails or is cut
-pub record FormatLeft (s : Setting) (d : Device) (n : ℕ) (t : Tabled) : Type 0 where
+pub record FormatLeft (s : Setting) (d : Device) (n : ℕ) (state : State) (t : Tabled) : Type 0 where
   pub legal : t .progress .line .chip .interface .illegal ≡ 0
   pub answers : FormatAnswer (t .answer)
   pub worn-by : t .answer ≡ 8 → (unfailed (s .geometry) (d .array) (roundDone s d n .started) (s .geometry .blocks) < s .geometry .logical + 2)
       ⊎ (unfailed (s .geometry) (d .array) (t .progress .started) (s .geometry .blocks) ≡ 0)
   pub worn-so : isPassed (roundDone s d n .outcome) ≡ true → unfailed (s .geometry) (d .array) (roundDone s d n .started) (s .geometry .blocks) < s .geometry .logical + 2 → t .answer ≡ 8
   pub worn-out : isPassed (roundDone s d n .outcome) ≡ true → unfailed (s .geometry) (d .array) (t .progress .started) (s .geometry .blocks) ≡ 0 → (t .answer ≡ 8) ⊎ (t .answer ≡ 9)
-  pub spent-exactly : (t .answer ≡ 9) ↔ NumbersEnd (s .geometry) (d .array) (roundFrom s (marksDone s d n)) (t .progress .started)
+  pub spent-exactly : (t .answer ≡ 9) ↔ NumbersEnd (s .geometry) (d .array) (roundFrom s (statusDone s d n)) (t .progress .started)
   pub spent-fails : t .answer ≡ 9 → Failing (s .fates)
   pub silent-by : t .answer ≡ 10 → Slow (s .fates)
   pub used-up : t .answer ≡ 11 → t .progress .line .left ≡ 0
   pub round-failed : (b : ℕ) → b < s .geometry .blocks → failedIn b (roundDone s d n .started) ≡ true → Failing (s .fates)
   pub failed-by : (b : ℕ) → b < s .geometry .blocks → failedIn b (t .progress .started) ≡ true → Failing (s .fates)
-  pub stopped-so : (t .answer ≡ 0 → ⊥) → t .state ≡ blank 2
+  pub stopped-so : (t .answer ≡ 0 → ⊥) → (t .answer ≡ 13 → ⊥) → t .state ≡ blank 2
+  pub protected-exactly : (t .answer ≡ 13) ↔ (isProtected (statusDone s d n .outcome) ≡ true)
+  pub unwritten : t .answer ≡ 13 → Unwritten d state (endOfRun n t)
   pub marked-kept : (b : ℕ) → b < s .geometry .blocks → isMarked (s .geometry) (blockIn (s .geometry) (d .array) b) ≡ true
       → blockIn (s .geometry) (t .progress .line .chip .array) b ≡ blockIn (s .geometry) (d .array) b
   pub marks : t .answer ≡ 0 → (b : ℕ) → b < s .geometry .blocks → isMarked (s .geometry) (blockIn (s .geometry) (t .progress .line .chip .array) b) ≡ isMarked (s .geometry) (blockIn (s .geometry) (d .array) b)
@@ -141,10 +147,14 @@ stop-least : (o : Outcome) → isReadEnd o ≡ true → isPassed o ≡ false →
 stop-least o r f =
     ⊎-elim (λ e. (subst FormatAnswer (sym e) is-silent, omega (arith, e))) (λ e. (subst FormatAnswer (sym e) is-cut, omega (arith, e))) (stop-answer o r f)
 
+stop-unlike : (o : Outcome) → isReadEnd o ≡ true → isPassed o ≡ false → stopAnswer o ≡ 13 → ⊥
+stop-unlike o r f z = ⊎-elim (λ e. omega (arith, e, z)) (λ e. omega (arith, e, z)) (stop-answer o r f)
+
 -- a formatting that led from p to t
 pub record Whole (s : Setting) (p : Progress) (t : Tabled) : Type 0 where
   pub sound : Sound s (t .progress)
   pub answers : FormatAnswer (t .answer)
+  pub unprotected : t .answer ≡ 13 → ⊥
   pub worn-by : t .answer ≡ 8 → (unfailed (s .geometry) (p .line .chip .array) (roundFrom s p .progress .started) (s .geometry .blocks) < s .geometry .logical + 2)
       ⊎ (unfailed (s .geometry) (p .line .chip .array) (t .progress .started) (s .geometry .blocks) ≡ 0)
   pub worn-so : isPassed (roundFrom s p .progress .outcome) ≡ true → unfailed (s .geometry) (p .line .chip .array) (roundFrom s p .progress .started) (s .geometry .blocks) < s .geometry .logical + 2
@@ -188,12 +198,13 @@ module _ (s : Setting) (v : Valid (s .geometry)) (mask-bytes : Bytes (s .mask)) 
   round-count = count-unfailed g (p .line .chip .array) (r .progress .started) marked (r .invalid) (g .blocks) (v .blocks-most) mark-is (rounded .failures)
 
   -- a run that ends with the first round
-  stops : (a : ℕ) → FormatAnswer a → (a ≡ 0 → ⊥) → (a ≡ 8 → unfailed-round < g .logical + 2) → (isPassed (r .progress .outcome) ≡ true → unfailed-round < g .logical + 2 → a ≡ 8) → (a ≡ 9 → ⊥)
+  stops : (a : ℕ) → FormatAnswer a → (a ≡ 13 → ⊥) → (a ≡ 0 → ⊥) → (a ≡ 8 → unfailed-round < g .logical + 2) → (isPassed (r .progress .outcome) ≡ true → unfailed-round < g .logical + 2 → a ≡ 8) → (a ≡ 9 → ⊥)
       → (isPassed (r .progress .outcome) ≡ true → unfailed-round < g .logical + 2) → (a ≡ 10 → Slow (s .fates)) → (a ≡ 11 → r .progress .line .left ≡ 0) → Whole s p (tabled (r .progress) a (blank 2))
-  stops a is not-done worn-by worn-so not-spent few silent-by used =
+  stops a is unprotected not-done worn-by worn-so not-spent few silent-by used =
       record {
         sound = rounded .sound;
         answers = is;
+        unprotected = unprotected;
         worn-by = λ z. inl (worn-by z);
         worn-so = worn-so;
         worn-out = λ y none. inl (worn-so y (omega (arith, none)));
@@ -365,12 +376,13 @@ module _ (s : Setting) (v : Valid (s .geometry)) (mask-bytes : Bytes (s .mask)) 
     tables-whole =
         cases (tooFew g marked (r .invalid))
         (λ few. subst (Whole s p) (sym (rw few))
-        (stops 8 is-worn (λ z. omega (arith, z)) (λ z. few-blocks few) (λ x less. refl) (λ z. omega (arith, z)) (λ x. few-blocks few) (λ z. absurd (omega (arith, z))) (λ z. absurd (omega (arith, z)))))
+        (stops 8 is-worn (λ z. omega (arith, z)) (λ z. omega (arith, z)) (λ z. few-blocks few) (λ x less. refl) (λ z. omega (arith, z)) (λ x. few-blocks few) (λ z. absurd (omega (arith, z))) (λ z. absurd (omega (arith, z)))))
         (λ enough.
         subst (Whole s p) (sym (rw enough))
         (record {
           sound = left .sound;
           answers = left .answers;
+          unprotected = left .unprotected;
           worn-by = λ z. inr (none-unfailed g (p .line .chip .array) (t .progress .started) (g .blocks) (worn-all z));
           worn-so = λ x less. absurd (omega (arith, less, enough-blocks enough));
           worn-out = λ x none. none-left none;
@@ -399,11 +411,33 @@ module _ (s : Setting) (v : Valid (s .geometry)) (mask-bytes : Bytes (s .mask)) 
       let stop = stop-least (r .progress .outcome) (rounded .ends) f in
       let least = stop .1 in
       subst (Whole s p) (sym (rw f))
-      (stops (stopAnswer (r .progress .outcome)) (stop .0) (λ z. omega (arith, z, least)) (λ z. absurd (omega (arith, z, least))) (λ y. absurd (false≢true (sym f ∙ y)))
+      (stops (stopAnswer (r .progress .outcome)) (stop .0) (stop-unlike (r .progress .outcome) (rounded .ends) f) (λ z. omega (arith, z, least)) (λ z. absurd (omega (arith, z, least))) (λ y. absurd (false≢true (sym f ∙ y)))
       (λ z. omega (arith, z, least)) (λ y. absurd (false≢true (sym f ∙ y))) (λ z. rounded .sound .silent-by (stop-silent (r .progress .outcome) z)) (λ z. rounded .sound .used-up (stop-cut (r .progress .outcome) z))))
 
+-- a status read after marks that did not pass is not sent
+pub status-same : (s : Setting) (d : Device) (n : ℕ) → isPassed (marksDone s d n .outcome) ≡ false → statusDone s d n ≡ marksDone s d n
+unfolding statusOn
+status-same s d n f = rw f
+
+-- the request by how its marks and its status read ended
+module _ (s : Setting) (d : Device) (n : ℕ) (state : State) where
+  pub unmarked-is : isPassed (marksDone s d n .outcome) ≡ false → formatRun s d n state ≡ stopped (marksDone s d n)
+  unfolding marksRun
+  unmarked-is f = rw f
+
+  module _ (y : isPassed (marksDone s d n .outcome) ≡ true) where
+    pub round-is : isPassed (statusDone s d n .outcome) ≡ true
+        → formatRun s d n state ≡ roundRun s (marksTo (s .geometry) (marksDone s d n .line .chip .array) (s .geometry .blocks)) (statusDone s d n)
+    unfolding marksRun statusRun
+    round-is z = rw y (after-passed state (statusDone s d n) _ z)
+
+    pub status-is : isPassed (statusDone s d n .outcome) ≡ false
+        → formatRun s d n state ≡ tabled (statusDone s d n) (statusAnswer (statusDone s d n .outcome)) (statusState (statusDone s d n .outcome) state)
+    unfolding marksRun statusRun
+    status-is f = rw y (after-stopped state (statusDone s d n) _ f)
+
 -- the request from its reset on
-module _ (s : Setting) (d : Device) (n : ℕ) (t : sizedFor s d ≡ true) (mask-bytes : Bytes (s .mask)) (high : callLine d n .chip .interface .protected ≡ 0) where
+module _ (s : Setting) (d : Device) (n : ℕ) (t : sizedFor s d ≡ true) where
   abbrev begun : Progress
   begun = resetOn s (progress (callLine d n) Passed [] [])
 
@@ -411,93 +445,201 @@ module _ (s : Setting) (d : Device) (n : ℕ) (t : sizedFor s d ≡ true) (mask-
   fitted = sizes (s .geometry) (length (d .array)) (length (d .register)) (length (d .history)) (length (s .mask)) t .chip-fits .is-valid
 
   abbrev q : Progress
-  q = marksRead s (s .geometry .blocks) begun
+  q = marksDone s d n
 
-  same : Unchanged s (d .array) (d .history) q
-  same = marks-unchanged s (d .array) (d .history) fitted (s .geometry .blocks) (omega arith) begun (reset-unchanged s d n t)
+  pub marks-left : Unchanged s (d .array) (d .history) q
+  marks-left = marks-unchanged s (d .array) (d .history) fitted (s .geometry .blocks) (omega arith) begun (reset-unchanged s d n t)
 
-  line-high : lineOf q ≡ 0
-  line-high =
-      marks-keep s (λ x. lineOf x ≡ 0) (line-kept s 0) (s .geometry .blocks) begun
-      (line-kept s 0 .reset (progress (callLine d n) Passed [] []) high)
+  pub marks-line : lineOf q ≡ d .interface .protected
+  marks-line =
+      let k = d .interface .protected in
+      marks-keep s (λ x. lineOf x ≡ k) (line-kept s k) (s .geometry .blocks) begun
+      (line-kept s k .reset (progress (callLine d n) Passed [] []) refl)
 
-  calm : (b : ℕ) → failedIn b (q .started) ≡ false
+  marks-none : (b : ℕ) → failedIn b (q .started) ≡ false
   unfolding resetOn isPassed failedIn
-  calm b = marks-calm s (d .array) (d .history) fitted (s .geometry .blocks) (omega arith) begun (reset-unchanged s d n t) b
+  marks-none b = marks-calm s (d .array) (d .history) fitted (s .geometry .blocks) (omega arith) begun (reset-unchanged s d n t) b
 
-  few : n ≤ q .line .left + (3 + s .geometry .blocks * (2 * readMost 1))
-  few = omega (arith, reset-spends s d n t, marks-spend s (d .array) (d .history) fitted (s .geometry .blocks) (omega arith) begun (reset-unchanged s d n t))
+  marks-few : n ≤ q .line .left + (3 + s .geometry .blocks * (2 * readMost 1))
+  marks-few = omega (arith, reset-spends s d n t, marks-spend s (d .array) (d .history) fitted (s .geometry .blocks) (omega arith) begun (reset-unchanged s d n t))
 
-  block-same : (b : ℕ) → blockOn s q b ≡ blockIn (s .geometry) (d .array) b
-  block-same b = ap (λ (a : List ℕ). blockIn (s .geometry) a b) (same .same-array)
+  -- after the status read
+  abbrev p : Progress
+  p = statusDone s d n
+
+  pub status-left : isPassed (q .outcome) ≡ true → StatusLeft s q p
+  status-left y = status-leaves s q y (marks-left .sound .called (passed-answered (q .outcome) y))
+
+  pub same-array : p .line .chip .array ≡ d .array
+  unfolding statusOn
+  same-array = cases (isPassed (q .outcome)) (λ y. status-left y .same-array) (λ f. rw f) ∙ marks-left .same-array
+
+  pub same-history : p .line .chip .history ≡ d .history
+  unfolding statusOn
+  same-history = cases (isPassed (q .outcome)) (λ y. status-left y .same-history) (λ f. rw f) ∙ marks-left .same-history
+
+  status-legal : p .line .chip .interface .illegal ≡ 0
+  unfolding statusOn
+  status-legal = cases (isPassed (q .outcome)) (λ y. status-left y .legal) (λ f. rw f (marks-left .sound .legal))
+
+  calm : (b : ℕ) → failedIn b (p .started) ≡ false
+  unfolding statusOn
+  calm b = cases (isPassed (q .outcome)) (λ y. rw y (marks-none b)) (λ f. rw f (marks-none b))
+
+  few : n ≤ p .line .left + (5 + s .geometry .blocks * (2 * readMost 1))
+  unfolding statusOn
+  few = cases (isPassed (q .outcome)) (λ y. omega (arith, marks-few, status-left y .left-is)) (λ f. rw f (omega (arith, marks-few)))
+
+  block-same : (b : ℕ) → blockOn s p b ≡ blockIn (s .geometry) (d .array) b
+  block-same b = ap (λ (a : List ℕ). blockIn (s .geometry) a b) same-array
 
   -- the count of blocks is that of the chip as it was handed in
-  unfailed-same : (trace : List ArrayOperation) → unfailed (s .geometry) (q .line .chip .array) trace (s .geometry .blocks) ≡ unfailed (s .geometry) (d .array) trace (s .geometry .blocks)
-  unfailed-same trace = ap (λ (a : List ℕ). unfailed (s .geometry) a trace (s .geometry .blocks)) (same .same-array)
+  unfailed-same : (trace : List ArrayOperation) → unfailed (s .geometry) (p .line .chip .array) trace (s .geometry .blocks) ≡ unfailed (s .geometry) (d .array) trace (s .geometry .blocks)
+  unfailed-same trace = ap (λ (a : List ℕ). unfailed (s .geometry) a trace (s .geometry .blocks)) same-array
 
-  -- what the marks led to
-  whole-run : (x : Tabled) → Whole s q x → FormatLeft s d n x
-  whole-run x w =
-      record {
-        legal = w .sound .legal;
-        answers = w .answers;
-        worn-by = λ z.
-            ⊎-elim (λ e. inl (subst (λ (k : ℕ). k < s .geometry .logical + 2) (unfailed-same (roundFrom s q .progress .started)) e)) (λ e. inr (sym (unfailed-same (x .progress .started)) ∙ e)) (w .worn-by z);
-        worn-so = λ y less. w .worn-so y (subst (λ (k : ℕ). k < s .geometry .logical + 2) (sym (unfailed-same (roundFrom s q .progress .started))) less);
-        worn-out = λ y none. w .worn-out y (unfailed-same (x .progress .started) ∙ none);
-        spent-exactly = subst (λ (a : List ℕ). (x .answer ≡ 9) ↔ NumbersEnd (s .geometry) a (roundFrom s q) (x .progress .started)) (same .same-array) (w .spent-exactly);
-        spent-fails = w .spent-fails;
-        silent-by = w .silent-by;
-        used-up = w .used-up;
-        round-failed = w .round-failed;
-        failed-by = w .failed-by;
-        stopped-so = w .stopped-so;
-        marked-kept = λ b h m. w .marked-kept b h (ap (isMarked (s .geometry)) (block-same b) ∙ m) ∙ block-same b;
-        marks = λ z b h. w .marks z b h ∙ ap (isMarked (s .geometry)) (block-same b);
-        called = w .called;
-        formatted = w .formatted;
-        failures = w .failures;
-        spent = omega (arith, w .spent, few);
-      }
+  -- how the status read ends
+  module _ (y : isPassed (q .outcome) ≡ true) where
+    pub status-cut : ltb (q .line .left) 2 ≡ true → p .outcome ≡ Cut
+    status-cut c = status-left y .outcome-is ∙ rw c
 
-  -- a round that does not begin erases nothing
-  none-erased : isPassed (q .outcome) ≡ false → roundFrom s q .progress ≡ q
-  unfolding erasedTo
-  none-erased f =
-      let marks : List ℕ = marksTo (s .geometry) (q .line .chip .array) (s .geometry .blocks) in
-      ap (λ (k : ℕ). erasedTo s marks k q .progress) (sym (add-zero (s .geometry .blocks))) ∙ round-stopped s marks 0 q f (s .geometry .blocks)
+    pub status-high : ltb (q .line .left) 2 ≡ false → eqb (lineOf q) 0 ≡ true → p .outcome ≡ Passed
+    status-high c h = status-left y .outcome-is ∙ rw (c, h)
 
-  stop-run : isPassed (q .outcome) ≡ false → FormatLeft s d n (stopped q)
-  stop-run f =
-      let stop = stop-least (q .outcome) (same .ends) f in
-      let least = stop .1 in
-      record {
-        legal = same .sound .legal;
-        answers = stop .0;
-        worn-by = λ z. absurd (omega (arith, z, least));
-        worn-so = λ y. absurd (false≢true (sym (ap (λ (x : Progress). isPassed (x .outcome)) (none-erased f) ∙ f) ∙ y));
-        worn-out = λ y. absurd (false≢true (sym (ap (λ (x : Progress). isPassed (x .outcome)) (none-erased f) ∙ f) ∙ y));
-        spent-exactly = (λ z. absurd (omega (arith, z, least)), λ e. absurd (false≢true (sym (ap (λ (x : Progress). isPassed (x .outcome)) (none-erased f) ∙ f) ∙ e .round-passed)));
-        spent-fails = λ z. absurd (omega (arith, z, least));
-        silent-by = λ z. same .sound .silent-by (stop-silent (q .outcome) z);
-        used-up = λ z. same .sound .used-up (stop-cut (q .outcome) z);
-        round-failed = λ b h y. absurd (false≢true (sym (ap (λ (x : Progress). failedIn b (x .started)) (none-erased f) ∙ calm b) ∙ y));
-        failed-by = λ b h y. absurd (false≢true (sym (calm b) ∙ y));
-        stopped-so = λ y. refl;
-        marked-kept = λ b h m. block-same b;
-        marks = λ z. absurd (omega (arith, z, least));
-        called = λ z. absurd (omega (arith, z, least));
-        formatted = λ z. absurd (omega (arith, z, least));
-        failures = λ z. absurd (omega (arith, z, least));
-        spent = omega (arith, few);
-      }
+    pub status-low : ltb (q .line .left) 2 ≡ false → eqb (lineOf q) 0 ≡ false → p .outcome ≡ Protected
+    status-low c h = status-left y .outcome-is ∙ rw (c, h)
 
-  abbrev rest : Tabled
-  rest = roundRun s (marksTo (s .geometry) (q .line .chip .array) (s .geometry .blocks)) q
+    status-sound : p .outcome ≡ Passed → Sound s p
+    unfolding isIllegal isProtected isCut isSilent isFailed
+    status-sound e =
+        record {
+          legal = status-legal;
+          known = ap isIllegal e;
+          unprotected = ap isProtected e;
+          used-up = λ x. absurd (false≢true (sym (ap isCut e) ∙ x));
+          silent-by = λ x. absurd (false≢true (sym (ap isSilent e) ∙ x));
+          failed-by = λ x. absurd (false≢true (sym (ap isFailed e) ∙ x));
+          called = status-left y .next-called;
+        }
 
-  pub format-leaves : FormatLeft s d n (formatRun s d n)
-  unfolding marksRun
-  format-leaves =
-      cases (isPassed (q .outcome))
-      (λ y. subst (FormatLeft s d n) {x = rest} (rw y) (whole-run rest (round-whole s fitted mask-bytes q (same .sound) (same .ends) calm line-high)))
-      (λ f. subst (FormatLeft s d n) {x = stopped q} (rw f) (stop-run f))
+  module _ (state : State) (mask-bytes : Bytes (s .mask)) where
+    -- what a status read that passed led to
+    whole-run : (x : Tabled) → isPassed (p .outcome) ≡ true → Whole s p x → FormatLeft s d n state x
+    unfolding isProtected
+    whole-run x z w =
+        record {
+          legal = w .sound .legal;
+          answers = w .answers;
+          worn-by = λ z.
+              ⊎-elim (λ e. inl (subst (λ (k : ℕ). k < s .geometry .logical + 2) (unfailed-same (roundFrom s p .progress .started)) e)) (λ e. inr (sym (unfailed-same (x .progress .started)) ∙ e)) (w .worn-by z);
+          worn-so = λ y less. w .worn-so y (subst (λ (k : ℕ). k < s .geometry .logical + 2) (sym (unfailed-same (roundFrom s p .progress .started))) less);
+          worn-out = λ y none. w .worn-out y (unfailed-same (x .progress .started) ∙ none);
+          spent-exactly = subst (λ (a : List ℕ). (x .answer ≡ 9) ↔ NumbersEnd (s .geometry) a (roundFrom s p) (x .progress .started)) same-array (w .spent-exactly);
+          spent-fails = w .spent-fails;
+          silent-by = w .silent-by;
+          used-up = w .used-up;
+          round-failed = w .round-failed;
+          failed-by = w .failed-by;
+          stopped-so = λ y u. w .stopped-so y;
+          protected-exactly = (λ u. absurd (w .unprotected u), λ e. absurd (false≢true (sym (ap isProtected (is-passed (p .outcome) z)) ∙ e)));
+          unwritten = λ u. absurd (w .unprotected u);
+          marked-kept = λ b h m. w .marked-kept b h (ap (isMarked (s .geometry)) (block-same b) ∙ m) ∙ block-same b;
+          marks = λ z b h. w .marks z b h ∙ ap (isMarked (s .geometry)) (block-same b);
+          called = w .called;
+          formatted = w .formatted;
+          failures = w .failures;
+          spent = omega (arith, w .spent, few);
+        }
+
+    -- a round that does not begin erases nothing
+    none-erased : isPassed (p .outcome) ≡ false → roundFrom s p .progress ≡ p
+    unfolding erasedTo
+    none-erased f =
+        let marks : List ℕ = marksTo (s .geometry) (p .line .chip .array) (s .geometry .blocks) in
+        ap (λ (k : ℕ). erasedTo s marks k p .progress) (sym (add-zero (s .geometry .blocks))) ∙ round-stopped s marks 0 p f (s .geometry .blocks)
+
+    -- a run that ends with the status read or before it
+    stop-run : (a : ℕ) (st : State) → isPassed (p .outcome) ≡ false → FormatAnswer a → 10 ≤ a → (a ≡ 10 → Slow (s .fates)) → (a ≡ 11 → p .line .left ≡ 0)
+        → ((a ≡ 13 → ⊥) → st ≡ blank 2) → (a ≡ 13) ↔ (isProtected (p .outcome) ≡ true) → (a ≡ 13 → Unwritten d state (endOfRun n (tabled p a st))) → FormatLeft s d n state (tabled p a st)
+    stop-run a st f is least silent-by used stopped-so protected unwritten =
+        record {
+          legal = status-legal;
+          answers = is;
+          worn-by = λ z. absurd (omega (arith, z, least));
+          worn-so = λ y. absurd (false≢true (sym (ap (λ (x : Progress). isPassed (x .outcome)) (none-erased f) ∙ f) ∙ y));
+          worn-out = λ y. absurd (false≢true (sym (ap (λ (x : Progress). isPassed (x .outcome)) (none-erased f) ∙ f) ∙ y));
+          spent-exactly = (λ z. absurd (omega (arith, z, least)), λ e. absurd (false≢true (sym (ap (λ (x : Progress). isPassed (x .outcome)) (none-erased f) ∙ f) ∙ e .round-passed)));
+          spent-fails = λ z. absurd (omega (arith, z, least));
+          silent-by = silent-by;
+          used-up = used;
+          round-failed = λ b h y. absurd (false≢true (sym (ap (λ (x : Progress). failedIn b (x .started)) (none-erased f) ∙ calm b) ∙ y));
+          failed-by = λ b h y. absurd (false≢true (sym (calm b) ∙ y));
+          stopped-so = λ y. stopped-so;
+          protected-exactly = protected;
+          unwritten = unwritten;
+          marked-kept = λ b h m. block-same b;
+          marks = λ z. absurd (omega (arith, z, least));
+          called = λ z. absurd (omega (arith, z, least));
+          formatted = λ z. absurd (omega (arith, z, least));
+          failures = λ z. absurd (omega (arith, z, least));
+          spent = omega (arith, few);
+        }
+
+    -- the marks did not pass
+    marks-stop : isPassed (q .outcome) ≡ false → FormatLeft s d n state (formatRun s d n state)
+    marks-stop f =
+        let e = status-same s d n f in
+        let o = ap (λ (x : Progress). x .outcome) e in
+        let stop = stop-least (q .outcome) (marks-left .ends) f in
+        let unlike = stop-unlike (q .outcome) (marks-left .ends) f in
+        subst (FormatLeft s d n state) {x = tabled p (stopAnswer (q .outcome)) (blank 2)}
+        (ap (λ (x : Progress). tabled x (stopAnswer (q .outcome)) (blank 2)) e ∙ sym (unmarked-is s d n state f))
+        (stop-run (stopAnswer (q .outcome)) (blank 2) (ap isPassed o ∙ f) (stop .0) (stop .1)
+        (λ z. marks-left .sound .silent-by (stop-silent (q .outcome) z))
+        (λ z. ap (λ (x : Progress). x .line .left) e ∙ marks-left .sound .used-up (stop-cut (q .outcome) z))
+        (λ u. refl)
+        (λ z. absurd (unlike z), λ x. absurd (false≢true (sym (marks-left .sound .unprotected) ∙ sym (ap isProtected o) ∙ x)))
+        (λ z. absurd (unlike z)))
+
+    -- the marks passed, and the status read was cut
+    cut-stop : isPassed (q .outcome) ≡ true → ltb (q .line .left) 2 ≡ true → FormatLeft s d n state (formatRun s d n state)
+    unfolding isPassed isProtected statusAnswer statusState stopAnswer isSilent isCut
+    cut-stop y c =
+        let o = status-cut y c in
+        subst (FormatLeft s d n state) {x = tabled p 11 (blank 2)}
+        ((λ i. tabled p (statusAnswer (sym o i)) (statusState (sym o i) state)) ∙ sym (status-is s d n state y (ap isPassed o)))
+        (stop-run 11 (blank 2) (ap isPassed o) is-cut (omega arith) (λ z. absurd (omega (arith, z)))
+        (λ z. omega (arith, status-left y .left-is, ltb-true (q .line .left) 2 c))
+        (λ u. refl)
+        (λ z. absurd (omega (arith, z)), λ x. absurd (false≢true (sym (ap isProtected o) ∙ x)))
+        (λ z. absurd (omega (arith, z))))
+
+    -- the line is low
+    low-stop : isPassed (q .outcome) ≡ true → ltb (q .line .left) 2 ≡ false → eqb (lineOf q) 0 ≡ false → FormatLeft s d n state (formatRun s d n state)
+    unfolding isPassed isProtected statusAnswer statusState
+    low-stop y c h =
+        let o = status-low y c h in
+        subst (FormatLeft s d n state) {x = tabled p 13 state}
+        ((λ i. tabled p (statusAnswer (sym o i)) (statusState (sym o i) state)) ∙ sym (status-is s d n state y (ap isPassed o)))
+        (stop-run 13 state (ap isPassed o) is-protected (omega arith) (λ z. absurd (omega (arith, z))) (λ z. absurd (omega (arith, z)))
+        (λ u. absurd (u refl))
+        (λ z. ap isProtected o, λ x. refl)
+        (λ z. record { low = λ e. eqb-false (lineOf q) 0 h (marks-line ∙ e); same-state = refl; same-array = same-array; same-history = same-history }))
+
+    -- and high
+    high-goes : isPassed (q .outcome) ≡ true → ltb (q .line .left) 2 ≡ false → eqb (lineOf q) 0 ≡ true → FormatLeft s d n state (formatRun s d n state)
+    unfolding isPassed isReadEnd
+    high-goes y c h =
+        let o = status-high y c h in
+        let passed : isPassed (p .outcome) ≡ true = ap isPassed o in
+        subst (FormatLeft s d n state) {x = roundRun s (marksTo (s .geometry) (p .line .chip .array) (s .geometry .blocks)) p}
+        (ap (λ (a : List ℕ). roundRun s (marksTo (s .geometry) a (s .geometry .blocks)) p) (status-left y .same-array) ∙ sym (round-is s d n state y passed))
+        (whole-run _ passed (round-whole s fitted mask-bytes p (status-sound y o) (ap isReadEnd o) calm (status-keeps s q ∙ eqb-true (lineOf q) 0 h)))
+
+    pub format-leaves : FormatLeft s d n state (formatRun s d n state)
+    format-leaves =
+        cases (isPassed (q .outcome))
+        (λ y.
+        cases (ltb (q .line .left) 2)
+        (λ c. cut-stop y c)
+        (λ c. cases (eqb (lineOf q) 0) (λ h. high-goes y c h) (λ h. low-stop y c h)))
+        (λ f. marks-stop f)

@@ -21,20 +21,22 @@ use Rattle.state.specs.State.{mounted}
 use Rattle.state.specs.declared.State.{State}
 use Rattle.scan_found.specs.Found.{marksTo}
 use Rattle.request.specs.Call.{sizedFor, callLine, resultOf}
-use Rattle.request.proofs.CallLaws.{sizes, called-sized, call-high}
-use Rattle.progress.specs.Progress.{Progress, progress, resetOn}
+use Rattle.request.proofs.CallLaws.{sizes, called-sized}
+use Rattle.progress.specs.Progress.{Progress, progress, resetOn, statusOn}
 use Rattle.progress.specs.Kept.{Kept}
 use Rattle.progress.proofs.CountLaws.{allowance-kept}
+use Rattle.progress.proofs.StatusLaws.{status-counts}
 use Rattle.format_marks.specs.Marks.{marksRead}
 use Rattle.format_erase.specs.Round.{erasedTo}
 use Rattle.fill_tables.proofs.KeepLaws.{tables-keep}
-use Rattle.format.specs.Format.{tooFew, tablesRun, roundRun, marksRun, formatRun, endOfRun, formatRequest, formatting}
+use Rattle.fill_tables.specs.Tables.{endOfRun, afterStatus}
+use Rattle.format.specs.Format.{tooFew, tablesRun, roundRun, statusRun, marksRun, formatRun, formatRequest, formatting}
 use Rattle.format_marks.proofs.KeepLaws.{marks-keep}
 use Rattle.format_erase.proofs.KeepLaws.{round-keeps}
 use Rattle.damage.specs.Replay.{Replayed}
-use Rattle.damage.proofs.ReplayLaws.{leads-first, leads-kept, replayed, lengths-sized}
+use Rattle.damage.proofs.ReplayLaws.{leads-first, leads-kept, leads-status, replayed, lengths-sized}
 use Rattle.damage.specs.Run.{readMost, Slow, Failing, failedIn, programMost, tableFillMost}
-use Rattle.format_laws.specs.Formatting.{blockMost, formatMost, Acknowledged, Formatting, unfailed, roundDone, FormatAnswer, is-done, is-worn, is-spent, is-silent, is-cut}
+use Rattle.format_laws.specs.Formatting.{blockMost, formatMost, Acknowledged, Formatting, unfailed, marksDone, roundDone, FormatAnswer, is-done, is-worn, is-spent, is-silent, is-cut, is-protected}
 use Rattle.format_laws.proofs.FormatLaws.{format-leaves, FormatLeft}
 use Rattle.mount_laws.proofs.StateLaws.{mounted-state}
 use Rattle.format_laws.proofs.CountLaws.{all-unfailed}
@@ -53,39 +55,50 @@ module _ (s : Setting) (P : Progress → Type 0) (k : Kept s P) where
       let here = round-keeps s P k marked (s .geometry .blocks) p h in
       cases (isPassed (r .progress .outcome)) (λ t. rw t (tables-run-keeps marked (r .invalid) (r .numbers .greatest) (r .progress) here)) (λ t. rw t here)
 
-  marks-run-keeps : (p : Progress) → P p → P (marksRun s p .progress)
+  status-run-keeps : (state : State) (marked : List ℕ) (p : Progress) → P (statusOn s p) → P (statusRun s state marked p .progress)
+  unfolding statusRun afterStatus
+  status-run-keeps state marked p h =
+      cases (isPassed (statusOn s p .outcome)) (λ t. rw t (round-run-keeps marked (statusOn s p) h)) (λ t. rw t h)
+
+  marks-run-keeps : (state : State) (p : Progress) → P p → (P (marksRead s (s .geometry .blocks) p) → P (statusOn s (marksRead s (s .geometry .blocks) p)))
+      → P (marksRun s state p .progress)
   unfolding marksRun
-  marks-run-keeps p h =
+  marks-run-keeps state p h shown =
       let q = marksRead s (s .geometry .blocks) p in
       let here = marks-keep s P k (s .geometry .blocks) p h in
-      cases (isPassed (q .outcome)) (λ t. rw t (round-run-keeps (marksTo (s .geometry) (q .line .chip .array) (s .geometry .blocks)) q here)) (λ t. rw t here)
+      cases (isPassed (q .outcome))
+      (λ t. rw t (status-run-keeps state (marksTo (s .geometry) (q .line .chip .array) (s .geometry .blocks)) q (shown here)))
+      (λ t. rw t here)
 
-  pub format-keeps : (d : Device) (n : ℕ) → P (progress (callLine d n) Passed [] []) → P (formatRun s d n .progress)
-  format-keeps d n h = marks-run-keeps (resetOn s (progress (callLine d n) Passed [] [])) (k .reset (progress (callLine d n) Passed [] []) h)
+  -- all of it, where its status read keeps it
+  pub format-keeps : (d : Device) (n : ℕ) (state : State) → P (progress (callLine d n) Passed [] []) → (P (marksDone s d n) → P (statusOn s (marksDone s d n)))
+      → P (formatRun s d n state .progress)
+  format-keeps d n state h shown =
+      marks-run-keeps state (resetOn s (progress (callLine d n) Passed [] [])) (k .reset (progress (callLine d n) Passed [] []) h) shown
 
-module _ (s : Setting) (d : Device) (n : ℕ) (mask-bytes : Bytes (s .mask)) (t : sizedFor s d ≡ true) where
-  counted : length (formatRun s d n .progress .cycles) + formatRun s d n .progress .line .left ≡ n
-  counted = format-keeps s _ (allowance-kept s n) d n (omega arith)
+module _ (s : Setting) (d : Device) (n : ℕ) (mask-bytes : Bytes (s .mask)) (t : sizedFor s d ≡ true) (state : State) where
+  counted : length (formatRun s d n state .progress .cycles) + formatRun s d n state .progress .line .left ≡ n
+  counted = format-keeps s _ (allowance-kept s n) d n state (omega arith) (λ e. status-counts s (marksDone s d n) ∙ e)
 
-  abbrev left : FormatLeft s d n (formatRun s d n)
-  left = format-leaves s d n t mask-bytes (call-high d n)
+  abbrev left : FormatLeft s d n state (formatRun s d n state)
+  left = format-leaves s d n t state mask-bytes
 
-  acknowledged : formatRun s d n .answer ≡ 0 → Acknowledged s (endOfRun n (formatRun s d n))
+  acknowledged : formatRun s d n state .answer ≡ 0 → Acknowledged s (endOfRun n (formatRun s d n state))
   acknowledged z =
       let c = left .called z in
       let f = left .formatted z in
       record {
         formatted = f;
         counts-mounted = ap (λ (st : State). mounted st (s .geometry .blocks) (s .geometry .logical)) (f .state-is)
-            ∙ mounted-state (s .geometry) (c .is-valid) (formatRun s d n .progress .line .chip .array) (c .array-long) (f .mounts);
-        still-sized = called-sized s (formatRun s d n .progress .line) c;
+            ∙ mounted-state (s .geometry) (c .is-valid) (formatRun s d n state .progress .line .chip .array) (c .array-long) (f .mounts);
+        still-sized = called-sized s (formatRun s d n state .progress .line) c;
         still-ready = c .ready;
       }
 
-  played : Replayed s (callLine d n .chip) (formatRun s d n .progress .line .chip) (formatRun s d n .progress .cycles)
-  played = replayed s (callLine d n .chip) (formatRun s d n .progress) (format-keeps s _ (leads-kept s (callLine d n .chip)) d n (leads-first s (callLine d n))) (left .legal)
+  played : Replayed s (callLine d n .chip) (formatRun s d n state .progress .line .chip) (formatRun s d n state .progress .cycles)
+  played = replayed s (callLine d n .chip) (formatRun s d n state .progress) (format-keeps s _ (leads-kept s (callLine d n .chip)) d n state (leads-first s (callLine d n)) (leads-status s (callLine d n .chip) (marksDone s d n))) (left .legal)
 
-  run-ends : Formatting s d n (endOfRun n (formatRun s d n))
+  run-ends : Formatting s d n state (endOfRun n (formatRun s d n state))
   run-ends =
       record {
         legal = left .legal;
@@ -106,11 +119,13 @@ module _ (s : Setting) (d : Device) (n : ℕ) (mask-bytes : Bytes (s .mask)) (t 
         sent-most = omega (arith, left .spent);
         cut-at = λ z. omega (arith, left .used-up z);
         stopped-so = left .stopped-so;
+        protected-exactly = left .protected-exactly;
+        unwritten = left .unwritten;
       }
 
-  pub format-ends : (state : State) → Formatting s d n (formatting s d n state)
+  pub format-ends : Formatting s d n state (formatting s d n state)
   unfolding resultOf formatRequest
-  format-ends state = subst (Formatting s d n) {x = endOfRun n (formatRun s d n)} (rw t) run-ends
+  format-ends = subst (Formatting s d n state) {x = endOfRun n (formatRun s d n state)} (rw t) run-ends
 
 -- sizes that do not go together
 pub format-refused : (s : Setting) (d : Device) (n : ℕ) (state : State) → sizedFor s d ≡ false → formatting s d n state .answer ≡ 1
@@ -125,7 +140,7 @@ format-acknowledged s d n state mask-bytes z =
     (λ f. absurd (omega (arith, z, format-refused s d n state f)))
 
 -- the largest geometry, every operation with 256 status reads
-pub format-fits : (g : Geometry) → Valid g → formatMost g ≤ 2424700931
+pub format-fits : (g : Geometry) → Valid g → formatMost g ≤ 2424700933
 format-fits g v =
     let size = page-size-most g v in
     let read : readMost (pageSize g) ≤ 4617 = omega (arith, size) in
@@ -159,6 +174,7 @@ not-one is-worn z = omega (arith, z)
 not-one is-spent z = omega (arith, z)
 not-one is-silent z = omega (arith, z)
 not-one is-cut z = omega (arith, z)
+not-one is-protected z = omega (arith, z)
 
 -- 1 comes exactly where they do not
 pub format-unsized : (s : Setting) (d : Device) (n : ℕ) (state : State) → Bytes (s .mask) → (formatting s d n state .answer ≡ 1) ↔ (sizedFor s d ≡ false)
@@ -172,14 +188,15 @@ format-silent s d n state mask-bytes z =
     (λ t. format-ends s d n mask-bytes t state .silent-by z)
     (λ f. absurd (omega (arith, z, format-refused s d n state f)))
 
-by-answer : {a : ℕ} → FormatAnswer a → (a ≡ 8 → ⊥) → (a ≡ 9 → ⊥) → (a ≡ 10 → ⊥) → (a ≡ 11 → ⊥) → a ≡ 0
-by-answer is-done x y z w = refl
-by-answer is-worn x y z w = absurd (x refl)
-by-answer is-spent x y z w = absurd (y refl)
-by-answer is-silent x y z w = absurd (z refl)
-by-answer is-cut x y z w = absurd (w refl)
+by-answer : {a : ℕ} → FormatAnswer a → (a ≡ 8 → ⊥) → (a ≡ 9 → ⊥) → (a ≡ 10 → ⊥) → (a ≡ 11 → ⊥) → (a ≡ 13 → ⊥) → a ≡ 0
+by-answer is-done x y z w u = refl
+by-answer is-worn x y z w u = absurd (x refl)
+by-answer is-spent x y z w u = absurd (y refl)
+by-answer is-silent x y z w u = absurd (z refl)
+by-answer is-cut x y z w u = absurd (w refl)
+by-answer is-protected x y z w u = absurd (u refl)
 
-module _ (s : Setting) (d : Device) (n : ℕ) (mask-bytes : Bytes (s .mask)) (t : sizedFor s d ≡ true) (passing : Failing (s .fates) → ⊥)
+module _ (s : Setting) (d : Device) (n : ℕ) (mask-bytes : Bytes (s .mask)) (t : sizedFor s d ≡ true) (state : State) (passing : Failing (s .fates) → ⊥)
     (enough : s .geometry .logical + 2 ≤ unfailed (s .geometry) (d .array) [] (s .geometry .blocks)) where
   -- where no fate word fails, all unmarked blocks are left
   all-left : (trace : List ArrayOperation) → ((b : ℕ) → b < s .geometry .blocks → failedIn b trace ≡ true → Failing (s .fates))
@@ -188,21 +205,21 @@ module _ (s : Setting) (d : Device) (n : ℕ) (mask-bytes : Bytes (s .mask)) (t 
       let none : (b : ℕ) → b < s .geometry .blocks → failedIn b trace ≡ false = λ b h. cases (failedIn b trace) (λ y. absurd (passing (by b h y))) (λ f. f) in
       omega (arith, enough, all-unfailed (s .geometry) (d .array) trace (s .geometry .blocks) none)
 
-  not-worn : formatRun s d n .answer ≡ 8 → ⊥
+  not-worn : formatRun s d n state .answer ≡ 8 → ⊥
   not-worn z =
-      let l = left s d n mask-bytes t in
+      let l = left s d n mask-bytes t state in
       ⊎-elim
       (λ less. omega (arith, less, all-left (roundDone s d n .started) (l .round-failed)))
-      (λ none. omega (arith, none, all-left (formatRun s d n .progress .started) (l .failed-by)))
+      (λ none. omega (arith, none, all-left (formatRun s d n state .progress .started) (l .failed-by)))
       (l .worn-by z)
 
--- with N + 2 unmarked blocks, no fate word that fails or is slow, and an allowance above the most that a formatting
+-- with the line high, N + 2 unmarked blocks, no fate word that fails or is slow, and an allowance above the most that a formatting
 -- sends, it is acknowledged
-pub format-done : (s : Setting) (d : Device) (n : ℕ) (state : State) → Bytes (s .mask) → sizedFor s d ≡ true → (Slow (s .fates) → ⊥) → (Failing (s .fates) → ⊥)
+pub format-done : (s : Setting) (d : Device) (n : ℕ) (state : State) → Bytes (s .mask) → sizedFor s d ≡ true → d .interface .protected ≡ 0 → (Slow (s .fates) → ⊥) → (Failing (s .fates) → ⊥)
     → s .geometry .logical + 2 ≤ unfailed (s .geometry) (d .array) [] (s .geometry .blocks) → formatMost (s .geometry) < n → formatting s d n state .answer ≡ 0
 unfolding resultOf formatRequest
-format-done s d n state mask-bytes t fast passing enough h =
-    let f = run-ends s d n mask-bytes t in
+format-done s d n state mask-bytes t high fast passing enough h =
+    let f = run-ends s d n mask-bytes t state in
     rw t
-    (by-answer (f .answers) (not-worn s d n mask-bytes t passing enough) (λ z. passing (f .spent-fails z)) (λ z. fast (f .silent-by z))
-    (λ z. omega (arith, f .cut-at z, f .sent-most, h)))
+    (by-answer (f .answers) (not-worn s d n mask-bytes t state passing enough) (λ z. passing (f .spent-fails z)) (λ z. fast (f .silent-by z))
+    (λ z. omega (arith, f .cut-at z, f .sent-most, h)) (λ z. f .unwritten z .low high))

@@ -5,3 +5,4 @@ pub mod TablesLaws
 pub mod RoundLaws
 pub mod FormatLaws
 pub mod FormattingLaws
+pub mod ProtectLaws

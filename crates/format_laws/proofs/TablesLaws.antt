@@ -92,6 +92,7 @@ pub record Unfailed (s : Setting) (marked : List ℕ) (p : Progress) : Type 0 wh
 pub record Left (s : Setting) (held : List ℕ) (st : State) (p : Progress) (t : Tabled) : Type 0 where
   pub sound : Sound s (t .progress)
   pub answers : FormatAnswer (t .answer)
+  pub unprotected : t .answer ≡ 13 → ⊥
   pub worn-by : t .answer ≡ 8 → (b : ℕ) → b < s .geometry .blocks → permitted (st .marked) (st .invalid) held b ≡ true → failedIn b (t .progress .started) ≡ true
   pub unworn : (t .answer ≡ 8 → ⊥) → (t .answer ≡ 9 → ⊥) → Unfailed s (st .marked) (t .progress)
   pub spent-by : t .answer ≡ 9 → numberEnd + failedCount (p .started) (s .geometry .blocks) ≤ nextNumber st + failedCount (t .progress .started) (s .geometry .blocks)
@@ -278,6 +279,11 @@ end-answers o k u f =
     cases (isPassed o) (λ t. rw t is-done)
     (λ y. rw y (⊎-elim (λ e. rw e is-silent) (λ e. rw e is-cut) (stop-answer o (unfailed-end o k f u) y)))
 
+end-unprotected : (o : Outcome) → isIllegal o ≡ false → isProtected o ≡ false → isFailed o ≡ false → answerFor o ≡ 13 → ⊥
+end-unprotected o k u f z =
+    cases (isPassed o) (λ t. omega (arith, rw t at z))
+    (λ y. ⊎-elim (λ e. omega (arith, e, rw y at z)) (λ e. omega (arith, e, rw y at z)) (stop-answer o (unfailed-end o k f u) y))
+
 -- 0, or 10 and more
 end-unlike : {P : Type 0} (o : Outcome) (a : ℕ) → 0 < a → a < 10 → answerFor o ≡ a → P
 end-unlike o a l h z =
@@ -311,6 +317,7 @@ module _ (s : Setting) (mask-bytes : Bytes (s .mask)) (held : List ℕ) where
         record {
           sound = r .sound;
           answers = is-worn;
+          unprotected = λ z. omega (arith, z);
           worn-by = λ z b h t. absurd (false≢true (sym (none b h) ∙ t));
           unworn = λ x y. absurd (x refl);
           spent-by = λ z. absurd (omega (arith, z));
@@ -400,6 +407,7 @@ module _ (s : Setting) (mask-bytes : Bytes (s .mask)) (held : List ℕ) where
           record {
             sound = x .sound;
             answers = x .answers;
+            unprotected = x .unprotected;
             worn-by = λ z c h y.
                 cases (eqb c b)
                 (λ e. subst (λ (k : ℕ). failedIn k (t .progress .started) ≡ true) (sym (eqb-true c b e)) (x .failed-kept b (failed-now w)))
@@ -436,6 +444,7 @@ module _ (s : Setting) (mask-bytes : Bytes (s .mask)) (held : List ℕ) where
           record {
             sound = block-left .sound;
             answers = end-answers (ended .outcome) (block-left .sound .known) (block-left .sound .unprotected) f;
+            unprotected = end-unprotected (ended .outcome) (block-left .sound .known) (block-left .sound .unprotected) f;
             worn-by = λ z. end-unlike (ended .outcome) 8 (omega arith) (omega arith) z;
             unworn = λ x y. record { block = b; below = below; unmarked = free .0; unfailed = unfailed-none p ended b f (block-left .failures) b ∙ r .failures b below ∙ free .1 };
             spent-by = λ z. end-unlike (ended .outcome) 9 (omega arith) (omega arith) z;
@@ -468,6 +477,7 @@ module _ (s : Setting) (mask-bytes : Bytes (s .mask)) (held : List ℕ) where
       record {
         sound = r .sound;
         answers = is-spent;
+        unprotected = λ z. omega (arith, z);
         worn-by = λ z. absurd (omega (arith, z));
         unworn = λ x y. absurd (y refl);
         spent-by = λ z. omega (arith, h);

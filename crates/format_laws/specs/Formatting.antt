@@ -16,17 +16,18 @@ use Rattle.copies.specs.Pick.{at}
 use Rattle.copies.specs.Table.{lists}
 use Rattle.scan_found.specs.Found.{marksTo}
 use Rattle.operations.specs.Trace.{ArrayOperation}
-use Rattle.bus_polling.specs.Outcomes.{isPassed}
+use Rattle.bus_polling.specs.Outcomes.{isPassed, isProtected}
 use Rattle.bus_polling.specs.declared.Outcome.the-variants.{Passed}
 use Rattle.state.specs.State.{blank, numberEnd, mounted}
 use Rattle.state.specs.declared.State.{State}
 use Rattle.request.specs.Call.{Result, sizedFor, callLine}
-use Rattle.progress.specs.Progress.{Progress, progress, resetOn}
+use Rattle.progress.specs.Progress.{Progress, progress, resetOn, statusOn}
 use Rattle.format_marks.specs.Marks.{marksRead}
 use Rattle.format_erase.specs.Round.{Round, erasedTo}
 use Rattle.fill.specs.Fill.{tableCopy, tableMain, copyPage}
 use Rattle.format.specs.Format.{formatRun}
 use Rattle.mount.specs.Mount.{mountedState}
+use Rattle.damage.specs.Protect.{Unwritten}
 use Rattle.damage.specs.Replay.{Replayed}
 use Rattle.damage.specs.Run.{failedIn, failedCount, Slow, Failing, readMost, eraseMost, tableFillMost}
 
@@ -53,7 +54,7 @@ abbrev pub blockMost : Geometry → ℕ
 blockMost g = eraseMost + g .pages * readMost (pageSize g)
 
 abbrev pub formatMost : Geometry → ℕ
-formatMost g = 3 + g .blocks * (2 * readMost 1) + (g .blocks * blockMost g + g .blocks * tableFillMost g)
+formatMost g = 5 + g .blocks * (2 * readMost 1) + (g .blocks * blockMost g + g .blocks * tableFillMost g)
 
 -- a formatting that was acknowledged: what demand 3 starts from, a state that counts as mounted, and a chip ready for
 -- the next call
@@ -69,15 +70,18 @@ unfailed g array trace zero = 0
 unfailed g array trace (suc n) =
     unfailed g array trace n + cond (isMarked g (blockIn g array n)) 0 (cond (failedIn n trace) 0 1)
 
--- a formatting up to its marks, and up to the end of its first round of erases
+-- a formatting up to its marks, up to its status read, and up to the end of its first round of erases
 abbrev pub marksDone : Setting → Device → ℕ → Progress
 marksDone s d n = marksRead s (s .geometry .blocks) (resetOn s (progress (callLine d n) Passed [] []))
+
+abbrev pub statusDone : Setting → Device → ℕ → Progress
+statusDone s d n = statusOn s (marksDone s d n)
 
 abbrev pub roundFrom : Setting → Progress → Round
 roundFrom s p = erasedTo s (marksTo (s .geometry) (p .line .chip .array) (s .geometry .blocks)) (s .geometry .blocks) p
 
 abbrev pub roundDone : Setting → Device → ℕ → Progress
-roundDone s d n = roundFrom s (marksDone s d n) .progress
+roundDone s d n = roundFrom s (statusDone s d n) .progress
 
 -- the number that the last table fill needed: one above the greatest on a whole page read in the first round, 1 if none, and one more for
 -- each block whose table fill failed; os is the trace of all
@@ -98,25 +102,27 @@ pub data FormatAnswer : ℕ → Type 0 where
   is-spent : FormatAnswer 9
   is-silent : FormatAnswer 10
   is-cut : FormatAnswer 11
+  is-protected : FormatAnswer 13
 
 -- a formatting of a chip whose sizes go together, whatever its state, fates, mask and allowance of n cycles: every
 -- cycle legal where it is sent, the sizes kept, blocks with a factory mark untouched, no more cycles than formatMost; if it is acknowledged, no
--- block has got a mark, and the table lists the blocks of which an erase or a program failed, and no others; if not, the state is stopped. It is worn where
--- under N + 2 unmarked blocks are unfailed after the first round of erases, and else only where none is in the end;
--- there it is worn, or spent before that. It is spent exactly where a table fill needs a number above the last, so only where a fate
--- word fails; silent only where one is slow, and cut only where all n cycles were sent
-pub record Formatting (s : Setting) (d : Device) (n : ℕ) (r : Result) : Type 0 where
+-- block has got a mark, and the table lists the blocks of which an erase or a program failed, and no others; if not, the state is stopped,
+-- but for an answer 13. It is worn where under N + 2 unmarked blocks are unfailed after the first round of erases, and else only where none is
+-- in the end; there it is worn, or spent before that. It is spent exactly where a table fill needs a number above the last, so only where a fate
+-- word fails; silent only where one is slow, and cut only where all n cycles were sent. It is protected exactly where its status read shows
+-- that the line is low: then nothing has changed, and the state is the one handed in
+pub record Formatting (s : Setting) (d : Device) (n : ℕ) (state : State) (r : Result) : Type 0 where
   pub legal : r .chip .interface .illegal ≡ 0
-  pub replayed : Replayed s (callLine d n .chip) (r .chip) (formatRun s d n .progress .cycles)
+  pub replayed : Replayed s (callLine d n .chip) (r .chip) (formatRun s d n state .progress .cycles)
   pub sizes-kept : sizedFor s (r .chip) ≡ true
   pub answers : FormatAnswer (r .answer)
   pub worn-by : r .answer ≡ 8 → (unfailed (s .geometry) (d .array) (roundDone s d n .started) (s .geometry .blocks) < s .geometry .logical + 2)
-      ⊎ (unfailed (s .geometry) (d .array) (formatRun s d n .progress .started) (s .geometry .blocks) ≡ 0)
+      ⊎ (unfailed (s .geometry) (d .array) (formatRun s d n state .progress .started) (s .geometry .blocks) ≡ 0)
   pub worn-so : isPassed (roundDone s d n .outcome) ≡ true → unfailed (s .geometry) (d .array) (roundDone s d n .started) (s .geometry .blocks) < s .geometry .logical + 2
       → r .answer ≡ 8
-  pub worn-out : isPassed (roundDone s d n .outcome) ≡ true → unfailed (s .geometry) (d .array) (formatRun s d n .progress .started) (s .geometry .blocks) ≡ 0
+  pub worn-out : isPassed (roundDone s d n .outcome) ≡ true → unfailed (s .geometry) (d .array) (formatRun s d n state .progress .started) (s .geometry .blocks) ≡ 0
       → (r .answer ≡ 8) ⊎ (r .answer ≡ 9)
-  pub spent-exactly : (r .answer ≡ 9) ↔ NumbersEnd (s .geometry) (d .array) (roundFrom s (marksDone s d n)) (formatRun s d n .progress .started)
+  pub spent-exactly : (r .answer ≡ 9) ↔ NumbersEnd (s .geometry) (d .array) (roundFrom s (statusDone s d n)) (formatRun s d n state .progress .started)
   pub spent-fails : r .answer ≡ 9 → Failing (s .fates)
   pub silent-by : r .answer ≡ 10 → Slow (s .fates)
   pub marked-kept : (b : ℕ) → b < s .geometry .blocks → isMarked (s .geometry) (blockIn (s .geometry) (d .array) b) ≡ true
@@ -124,8 +130,10 @@ pub record Formatting (s : Setting) (d : Device) (n : ℕ) (r : Result) : Type 0
   pub marks-same : r .answer ≡ 0 → (b : ℕ) → b < s .geometry .blocks
       → isMarked (s .geometry) (blockIn (s .geometry) (r .chip .array) b) ≡ isMarked (s .geometry) (blockIn (s .geometry) (d .array) b)
   pub acknowledged : r .answer ≡ 0 → Acknowledged s r
-  pub lists-failed : r .answer ≡ 0 → (b : ℕ) → b < s .geometry .blocks → failedIn b (formatRun s d n .progress .started) ≡ lists (s .geometry) (blockIn (s .geometry) (r .chip .array) (r .state .table)) b
-  pub sent-is : r .sent ≡ length (formatRun s d n .progress .cycles)
+  pub lists-failed : r .answer ≡ 0 → (b : ℕ) → b < s .geometry .blocks → failedIn b (formatRun s d n state .progress .started) ≡ lists (s .geometry) (blockIn (s .geometry) (r .chip .array) (r .state .table)) b
+  pub sent-is : r .sent ≡ length (formatRun s d n state .progress .cycles)
   pub sent-most : r .sent ≤ formatMost (s .geometry)
   pub cut-at : r .answer ≡ 11 → r .sent ≡ n
-  pub stopped-so : (r .answer ≡ 0 → ⊥) → r .state ≡ blank 2
+  pub stopped-so : (r .answer ≡ 0 → ⊥) → (r .answer ≡ 13 → ⊥) → r .state ≡ blank 2
+  pub protected-exactly : (r .answer ≡ 13) ↔ (isProtected (statusDone s d n .outcome) ≡ true)
+  pub unwritten : r .answer ≡ 13 → Unwritten d state r

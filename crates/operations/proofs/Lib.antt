@@ -8,6 +8,7 @@ pub mod ProgramLaws
 pub mod ReadLaws
 pub mod ReadyLaws
 pub mod ResetLaws
+pub mod StatusLaws
 pub mod TraceLaws
 pub mod UnreadyLaws
 pub mod UnstartedLaws

@@ -14,6 +14,7 @@ use Rattle.chip_array.specs.Device.{Setting, Device, illegalCycle}
 use Rattle.chip.specs.Chip.{Cycle}
 use Rattle.bus.specs.Line.{Line, sendAll, statusOut, uncutLine, cutLine}
 use Rattle.bus_polling.specs.Polling.{outcomeOf, answerOf, endedAs}
+use Rattle.bus_polling.specs.Outcomes.{isPassed}
 use Rattle.bus_sequences.specs.Cycles.{resetCycles, confirmCycles, whenReady, whenReadyOutcome, readCycles, readOutcome}
 use Rattle.bus_polling.specs.declared.Outcome.{Outcome}
 use Rattle.bus_polling.specs.declared.Outcome.the-variants.{Passed, Failed, Silent, Cut, Illegal, Protected}
@@ -255,6 +256,11 @@ endOfReset s l =
       left = sendAll s l resetCycles .left;
       fate = sendAll s l resetCycles .chip .interface .fate;
     }
+
+-- how a status read ended: whether the write-protect line is low
+unfoldable pub statusEnd : Line → Outcome
+statusEnd l =
+    cond (isPassed (endedAs l)) (cond (eqb (l .chip .interface .protected) 0) Passed Protected) (endedAs l)
 
 -- the byte of its status read, after FFh and 70h: 0 where it is not sent
 unfoldable pub resetStatus : Setting → Line → ℕ

@@ -1,4 +1,4 @@
-// The chip's operations as cycles on the bus: reset, read, program and erase.
+// The chip's operations as cycles on the bus: reset, status, read, program and erase.
 use bus::Bus;
 use bus_polling::Done;
 use bus_polling::Outcome;
@@ -9,8 +9,8 @@ ghost use Rattle.cells.specs.Cells.{over};
 ghost use Rattle.chip_array.specs.Device.{setting};
 ghost use Rattle.bus.specs.Line.{line, sendAll};
 ghost use Rattle.bus_polling.specs.Polling.{answerOf, endedAs};
-ghost use Rattle.bus_sequences.specs.Cycles.{resetCycles, readCycles, readOutcome, readOutputs, programCycles, eraseCycles};
-ghost use Rattle.operations.specs.Ends.{resetStatus};
+ghost use Rattle.bus_sequences.specs.Cycles.{resetCycles, statusCycles, readCycles, readOutcome, readOutputs, programCycles, eraseCycles};
+ghost use Rattle.operations.specs.Ends.{resetStatus, statusEnd};
 
 // The bus after a reset, how it ended, and the status byte read: 0 where it was not reached.
 pub struct ResetDone {
@@ -41,6 +41,29 @@ pub fn reset(
         bus: c,
         outcome: bus_polling::ended(c),
         status,
+    }
+}
+
+// 70h, one status read: bit 7 tells a protected chip, and no fate word is taken.
+pub fn read_status(
+    from: Bus,
+    g: Geometry,
+    array: &mut [u8],
+    register: &mut [u8],
+    history: &mut [u8],
+    mask: &[u8],
+    fates: &[u32],
+) -> Done
+    ensures { λ r. ⌜ line (r .bus) (now (array .exit)) (now (register .exit)) (now (history .exit)) ≡ sendAll (setting g (now (mask .entry)) (now (fates .entry))) (line from (now (array .entry)) (now (register .entry)) (now (history .entry))) statusCycles ⌝ }
+    ensures { λ r. ⌜ r .outcome ≡ statusEnd (line (r .bus) (now (array .exit)) (now (register .exit)) (now (history .exit))) ⌝ }
+{
+    let b = bus::command(from, g, array, register, history, mask, fates, 0x70);
+    let out = bus::status(b, g, array, register, history);
+    let c = out.bus;
+    let ended = bus_polling::ended(c);
+    Done {
+        bus: c,
+        outcome: bus_polling::answer(ended, out.byte),
     }
 }
 

@@ -7,7 +7,8 @@ use Rattle.chip.specs.Chip.{Cycle}
 use Rattle.bus.specs.Line.{Line, sendAll, sent}
 use Rattle.bus_polling.specs.Outcomes.{isPassed}
 use Rattle.bus_polling.specs.Polling.{endedAs}
-use Rattle.bus_sequences.specs.Cycles.{resetCycles, readCycles, readOutcome}
+use Rattle.bus_sequences.specs.Cycles.{resetCycles, statusCycles, readCycles, readOutcome}
+use Rattle.operations.specs.Ends.{statusEnd}
 use Rattle.bus_polling.specs.declared.Outcome.{Outcome}
 use Rattle.operations.specs.Trace.{ArrayOperation, readSends, readStarts}
 
@@ -44,5 +45,16 @@ resetOn s p =
     (sendAll s (p .line) resetCycles)
     (endedAs (sendAll s (p .line) resetCycles))
     (p .cycles ++ sent s (p .line) resetCycles)
+    (p .started))
+    p
+
+-- the chip is asked for its status, before a request changes anything
+unfoldable pub statusOn : Setting → Progress → Progress
+statusOn s p =
+    cond (isPassed (p .outcome))
+    (progress
+    (sendAll s (p .line) statusCycles)
+    (statusEnd (sendAll s (p .line) statusCycles))
+    (p .cycles ++ sent s (p .line) statusCycles)
     (p .started))
     p

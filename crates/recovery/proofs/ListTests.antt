@@ -17,7 +17,7 @@ use Rattle.chip_array.specs.Device.{device, setting, fitting, readStarted, prog
 use Rattle.chip.specs.Chip.{isConfirm, confirmed, confirmable, commanded, dataTaken, dataGiven, dataByte, finished, statusRead, exec}
 use Rattle.bus.specs.Line.{mayGo, cutAfter, send, byteOut, sendAll, sent, goesOn}
 use Rattle.bus_polling.specs.Polling.{waiting, polls, outcomeOf, endedAs}
-use Rattle.bus_polling.specs.Outcomes.{isPassed, isFailed, isSilent, isCut}
+use Rattle.bus_polling.specs.Outcomes.{isPassed, isFailed, isSilent, isCut, isProtected}
 use Rattle.bus_sequences.specs.Cycles.{readCycles, readOutcome, putOut, readOutputs}
 use Rattle.operations.specs.Trace.{ArrayOperation, startedBy}
 use Rattle.pages.specs.Check.{zeroBits}
@@ -30,17 +30,18 @@ use Rattle.copies.specs.Current.{currentTable, currentCopy, reading, sharesNumb
 use Rattle.state_choose.specs.Choose.{permitted, searchAfter}
 use Rattle.state.specs.State.{copyBits}
 use Rattle.state.specs.declared.State.{State}
-use Rattle.progress.specs.Progress.{readOn}
+use Rattle.operations.specs.Ends.{statusEnd}
+use Rattle.progress.specs.Progress.{readOn, statusOn}
 use Rattle.progress.specs.Steps.{eraseOn, programOn}
-use Rattle.request.specs.Call.{stopAnswer, startedIn}
+use Rattle.request.specs.Call.{stopAnswer, statusAnswer, statusState, startedIn}
 use Rattle.fill.specs.Fill.{mainOf, mainRead, pageFilled, pagesFilled, tableMain, dataSource, isGiven}
-use Rattle.fill_tables.specs.Tables.{Tabled, afterFill, tryBlock, tryTable, tablesFilled}
+use Rattle.fill_tables.specs.Tables.{Tabled, afterStatus, afterFill, tryBlock, tryTable, tablesFilled}
 use Rattle.write_changes.specs.Changes.{writeUpdate, afterTry, copyTried, copiesFilled, thenTable, changeCall}
 use Rattle.identify.proofs.SentLaws.{identify-starts}
 use Rattle.damage.specs.Run.{failedIn}
 use Rattle.recovery.specs.Book.{Change, write, entered, Account, blankAccount, changed, mounted, settled, fed}
 use Rattle.recovery.specs.Copy.{isDataProgram, sentPage, sentPages, hasCopy}
-use Rattle.recovery.specs.Calls.{Lent, toMount, toRead, toIdentify, Store, mountOn, traceOf, failedAfter, failedNext, step, unpowered}
+use Rattle.recovery.specs.Calls.{Lent, toMount, toRead, toIdentify, Store, mountOn, chipOf, traceOf, failedAfter, failedNext, step, unpowered}
 
 abbrev small : Geometry
 small = record { main = 32; spare = 16; pages = 4; blocks = 4; logical = 2 }
@@ -56,11 +57,11 @@ abbrev state : State
 state =
     record { status = 1; table = 0; last = 0; number = 2; marked = replicate 512 0; invalid = replicate 512 0; map = replicate 4096 65535 }
 
--- a write of logical block 0, page 0 that sends 235 cycles, cut before the last: its mask lets all or nothing of an operation
+-- a write of logical block 0, page 0 that sends 237 cycles, cut before the last: its mask lets all or nothing of an operation
 -- under way through
 abbrev cut : ℕ → ℕ → Tabled
 cut mask byte =
-    changeCall (setting small (replicate 192 mask) []) (device poweredOn formatted (replicate 48 255) (replicate 4 0)) 234 state (writeUpdate state 0 0 (replicate 32 byte))
+    changeCall (setting small (replicate 192 mask) []) (device poweredOn formatted (replicate 48 255) (replicate 4 0)) 236 state (writeUpdate state 0 0 (replicate 32 byte))
 
 abbrev arrayOf : Tabled → List ℕ
 arrayOf t = t .progress .line .chip .array
@@ -72,7 +73,7 @@ told t =
 
 -- a cut write that survives, one that does not, and one that would have changed no byte
 cut-writes : told (cut 255 165) ++ (told (cut 0 165) ++ told (cut 255 255)) ≡ 11 ∷ 1 ∷ 0 ∷ 165 ∷ 11 ∷ 0 ∷ 0 ∷ 255 ∷ 11 ∷ 1 ∷ 0 ∷ 255 ∷ []
-unfolding ones begun statusMode readMode plainCommand addressFits latched addressed fateWord nextFate started statusByte fitting readStarted programStarted eraseStarted completed isConfirm confirmed confirmable commanded dataTaken dataGiven dataByte finished statusRead exec programmed weakened raised put mayGo cutAfter send byteOut sendAll sent goesOn waiting polls outcomeOf isPassed endedAs readCycles readOutcome putOut readOutputs startedBy readOn stopAnswer isSilent isCut bitAt withBit zeroBits numberWidth bytesOf numberOf labelBytes encoded kindOf eraseOn programOn isFailed mainOf mainRead pageFilled pagesFilled tableMain permitted searchAfter afterFill tryBlock tryTable tablesFilled table.tablePage isDataKind isTableKind copyBits copyTried afterTry copiesFilled thenTable dataSource isGiven hasCopy sentPages sentPage isDataProgram someBelow better pick isMarked agrees completeTo isComplete isTable isData isCopyOf currentTable currentCopy current.pageOf sharesNumber clashesAt clashes judgeTable mountAnswer whole allOnes storedCheck countedCheck labelOf countBits clearFrom table.clearWhere table.rightFirst table.rightPage table.rightTo table.rightTable
+unfolding ones begun statusMode readMode plainCommand addressFits latched addressed fateWord nextFate started statusByte fitting readStarted programStarted eraseStarted completed isConfirm confirmed confirmable commanded dataTaken dataGiven dataByte finished statusRead exec programmed weakened raised put mayGo cutAfter send byteOut sendAll sent goesOn waiting polls outcomeOf isPassed endedAs readCycles readOutcome putOut readOutputs startedBy readOn statusOn statusEnd afterStatus statusAnswer statusState isProtected stopAnswer isSilent isCut bitAt withBit zeroBits numberWidth bytesOf numberOf labelBytes encoded kindOf eraseOn programOn isFailed mainOf mainRead pageFilled pagesFilled tableMain permitted searchAfter afterFill tryBlock tryTable tablesFilled table.tablePage isDataKind isTableKind copyBits copyTried afterTry copiesFilled thenTable dataSource isGiven hasCopy sentPages sentPage isDataProgram someBelow better pick isMarked agrees completeTo isComplete isTable isData isCopyOf currentTable currentCopy current.pageOf sharesNumber clashesAt clashes judgeTable mountAnswer whole allOnes storedCheck countedCheck labelOf countBits clearFrom table.clearWhere table.rightFirst table.rightPage table.rightTo table.rightTable
 cut-writes = refl
 
 -- the book after it, a silent mount and a mount answered 0: first byte of logical block 0, page 0
@@ -95,11 +96,16 @@ read-unbooked g a logical page buffer y = refl
 identify-unbooked : (g : Geometry) (a : Lent) (parameters : List ℕ) (logical : ℕ) (y : Store) → let z = step g (toIdentify a parameters logical) y in (z .account ≡ y .account) × (z .marked ≡ y .marked) × ((b : ℕ) → z .failed b ≡ y .failed b)
 unfolding startedIn step fed failedNext failedIn
 identify-unbooked g a parameters logical y =
-    (refl, refl, λ b. ap (λ (os : List ArrayOperation). failedAfter (y .failed) os b) (identify-starts (a .mask) (a .fates) (y .chip) (a .allowed) (y .state) parameters logical) ∙ or-none (y .failed b))
+    (refl, refl, λ b. ap (λ (os : List ArrayOperation). failedAfter (y .failed) os b) (identify-starts (a .mask) (a .fates) (chipOf a (y .chip)) (a .allowed) (y .state) parameters logical) ∙ or-none (y .failed b))
 
 refused-unbooked : (g : Geometry) (c : Change) (y : Account) → (fed g (changed c 1 []) y ≡ y) × (fed g (changed c 7 []) y ≡ y) × (fed g (changed c 2 []) y ≡ y) × (fed g (changed c 3 []) y ≡ y) × (fed g (mounted 1 false) y ≡ y)
 unfolding fed
 refused-unbooked g c y = (refl, refl, refl, refl, refl)
+
+-- nor does a write or an erase that a protected chip did not take
+protected-unbooked : (g : Geometry) (c : Change) (y : Account) → fed g (changed c 13 []) y ≡ y
+unfolding fed
+protected-unbooked g c y = refl
 
 -- a mount answered 0 starts the failed blocks anew, any other keeps them
 mount-clears : (g : Geometry) (a : Lent) (y : Store) (b : ℕ) → mountOn g a y .answer ≡ 0 → step g (toMount a) y .failed b ≡ false

@@ -11,7 +11,8 @@ use Rattle.geometry.specs.declared.Geometry.{Geometry}
 use Rattle.geometry.specs.Sizes.{pageSize}
 use Rattle.cells.specs.Bytes.{Bytes}
 use Rattle.chip_interface.specs.Interface.{poweredOn}
-use Rattle.chip_array.specs.Device.{Device, device, Setting, setting}
+use Rattle.chip_interface.specs.declared.Interface.{Interface}
+use Rattle.chip_array.specs.Device.{Device, device, Setting, setting, withInterface}
 use Rattle.chip.specs.Chip.{Cycle}
 use Rattle.operations.specs.Trace.{ArrayOperation}
 use Rattle.copies.specs.Blocks.{blockIn, isMarked}
@@ -28,11 +29,13 @@ use Rattle.damage.specs.Run.{failedIn}
 use Rattle.recovery.specs.Book.{write, erase, Note, Account, blankAccount, Entry, changed, mounted, unentered, fed}
 use Rattle.recovery.specs.Copy.{hasCopy}
 
--- what each call brings of its own beside its arguments: the mask, the fate words and the cycles allowed
+-- what each call brings of its own beside its arguments: the mask, the fate words, the cycles allowed, and the write-protect line, low where
+-- the word is not 0, which does not change during the call
 pub record Lent : Type 0 where
   pub mask : List ℕ
   pub fates : List ℕ
   pub allowed : ℕ
+  pub protected : ℕ
 
 -- a mount; a read of a logical page into a buffer; a write of a logical page; an erase of a logical block; the chip asked for its size,
 -- with the parameter page and the number of logical blocks
@@ -85,22 +88,31 @@ underWay y = y .account .noted
 abbrev pub settingOf : Geometry → Lent → Setting
 settingOf g a = setting g (a .mask) (a .fates)
 
+-- an interface with this word for the write-protect line
+abbrev pub withLine : ℕ → Interface → Interface
+withLine k i =
+    record { phase = i .phase; count = i .count; address = i .address; first = i .first; column = i .column; operation = i .operation; busy = i .busy; failed = i .failed; loaded = i .loaded; fate = i .fate; illegal = i .illegal; protected = k }
+
+-- a chip as a call finds it
+abbrev pub chipOf : Lent → Device → Device
+chipOf a d = withInterface (withLine (a .protected) (d .interface)) d
+
 -- what each call gives on a store
 abbrev pub mountOn : Geometry → Lent → Store → Result
-mountOn g a y = mounting (settingOf g a) (y .chip) (a .allowed) (y .state)
+mountOn g a y = mounting (settingOf g a) (chipOf a (y .chip)) (a .allowed) (y .state)
 
 abbrev pub readOf : Geometry → Lent → ℕ → ℕ → List ℕ → Store → ReadResult
-readOf g a logical page buffer y = readingPage (settingOf g a) (y .chip) (a .allowed) (y .state) logical page buffer
+readOf g a logical page buffer y = readingPage (settingOf g a) (chipOf a (y .chip)) (a .allowed) (y .state) logical page buffer
 
 abbrev pub writeOn : Geometry → Lent → ℕ → ℕ → List ℕ → Store → Result
-writeOn g a logical page bytes y = writing (settingOf g a) (y .chip) (a .allowed) (y .state) logical page bytes
+writeOn g a logical page bytes y = writing (settingOf g a) (chipOf a (y .chip)) (a .allowed) (y .state) logical page bytes
 
 abbrev pub eraseOf : Geometry → Lent → ℕ → Store → Result
-eraseOf g a logical y = erasingLogical (settingOf g a) (y .chip) (a .allowed) (y .state) logical
+eraseOf g a logical y = erasingLogical (settingOf g a) (chipOf a (y .chip)) (a .allowed) (y .state) logical
 
 abbrev pub identifyOf : Lent → List ℕ → ℕ → Store → Identified
 identifyOf a parameters logical y =
-    identifying (a .mask) (a .fates) (y .chip) (a .allowed) (y .state) parameters logical
+    identifying (a .mask) (a .fates) (chipOf a (y .chip)) (a .allowed) (y .state) parameters logical
 
 -- a call that hands back more than the result of every request
 abbrev pub returning : {A : Type 0} → (A → Result) → Performed A → Performed Result
@@ -108,14 +120,14 @@ returning f r = record { gives = f (resultOf r); cycles = sentIn r; started = st
 
 -- a call on a store, whole: its result, the cycles that it sends and the array operations that it starts
 abbrev pub runOf : Geometry → Call → Store → Performed Result
-runOf g (toMount a) y = mountRequest (settingOf g a) (y .chip) (a .allowed) (y .state)
+runOf g (toMount a) y = mountRequest (settingOf g a) (chipOf a (y .chip)) (a .allowed) (y .state)
 runOf g (toRead a logical page buffer) y =
-    returning (λ r. r .returned) (readRequest (settingOf g a) (y .chip) (a .allowed) (y .state) logical page buffer)
+    returning (λ r. r .returned) (readRequest (settingOf g a) (chipOf a (y .chip)) (a .allowed) (y .state) logical page buffer)
 runOf g (toWrite a logical page bytes) y =
-    writeRequest (settingOf g a) (y .chip) (a .allowed) (y .state) logical page bytes
-runOf g (toErase a logical) y = eraseRequest (settingOf g a) (y .chip) (a .allowed) (y .state) logical
+    writeRequest (settingOf g a) (chipOf a (y .chip)) (a .allowed) (y .state) logical page bytes
+runOf g (toErase a logical) y = eraseRequest (settingOf g a) (chipOf a (y .chip)) (a .allowed) (y .state) logical
 runOf g (toIdentify a parameters logical) y =
-    returning (λ r. r .returned) (identifyRequest (a .mask) (a .fates) (y .chip) (a .allowed) (y .state) parameters logical)
+    returning (λ r. r .returned) (identifyRequest (a .mask) (a .fates) (chipOf a (y .chip)) (a .allowed) (y .state) parameters logical)
 
 abbrev pub answerOf : Geometry → Call → Store → ℕ
 answerOf g c y = resultOf (runOf g c y) .answer
@@ -175,9 +187,9 @@ after g (e ∷ es) y = after g es (happens g e y)
 
 -- what a formatting leaves: an empty book, nothing under way, and the blocks that failed in it
 abbrev pub formatOn : Geometry → Lent → Device → State → Result
-formatOn g a d st = formatting (settingOf g a) d (a .allowed) st
+formatOn g a d st = formatting (settingOf g a) (chipOf a d) (a .allowed) st
 
 unfoldable pub begun : Geometry → Lent → Device → State → Store
 begun g a d st =
     let r = formatOn g a d st in
-    store (r .state) (r .chip) (blankAccount g) (λ b. isMarked g (blockIn g (d .array) b)) (λ b. failedIn b (startedIn (formatRequest (settingOf g a) d (a .allowed) st)))
+    store (r .state) (r .chip) (blankAccount g) (λ b. isMarked g (blockIn g (d .array) b)) (λ b. failedIn b (startedIn (formatRequest (settingOf g a) (chipOf a d) (a .allowed) st)))

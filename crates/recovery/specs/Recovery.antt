@@ -23,7 +23,7 @@ use Rattle.read_page.specs.Fetching.{ReadResult}
 use Rattle.read.specs.Reading.{readingPage}
 use Rattle.recovery.specs.Book.{Book, Same, Note, entered, fed}
 use Rattle.recovery.specs.Copy.{hasCopy}
-use Rattle.recovery.specs.Calls.{Lent, Call, Typed, Event, AllPossible, Store, underWay, settingOf, mountOn, readOf, traceOf, mountEntry, after, formatOn, begun}
+use Rattle.recovery.specs.Calls.{Lent, Call, Typed, Event, AllPossible, Store, underWay, settingOf, chipOf, mountOn, readOf, traceOf, mountEntry, after, formatOn, begun}
 
 -- a read of a logical page from the state and the chip that a request left, uncut and not silent
 abbrev pub plainRead : Geometry → Result → ℕ → ℕ → ReadResult
@@ -50,7 +50,7 @@ pub record Recovered (g : Geometry) (y : Store) (r : Result) : Type 0 where
   pub otherwise : (t : Note) → underWay y ≡ some t → (Unaffected g y → ⊥) → Same g (readingBy g r) (entered g (t .change) (y .account .book))
   pub leaves : Same g (readingBy g r) (fed g (mountEntry g y r) (y .account) .book)
   pub any-read : (a : Lent) (logical page : ℕ) (buffer : List ℕ) → logical < g .logical → page < g .pages → length (a .mask) ≡ blockSize g → length buffer ≡ g .main
-      → let q = readingPage (settingOf g a) (r .chip) (a .allowed) (r .state) logical page buffer in
+      → let q = readingPage (settingOf g a) (chipOf a (r .chip)) (a .allowed) (r .state) logical page buffer in
       (q .returned .answer ≡ 10 → ⊥) → (q .returned .answer ≡ 11 → ⊥) → (q .returned .answer ≡ 0) × (q .buffer ≡ readingBy g r logical page)
 
 -- what is said of a store that a list of calls, with power lost at any places between them, has come to, after every acknowledged

@@ -12,30 +12,31 @@ use lib.ListN.{getD, replicate}
 use Rattle.bools.proofs.BoolLaws.{clash}
 use Rattle.geometry.specs.declared.Geometry.{Geometry}
 use Rattle.chip_array.specs.Device.{Device, Setting}
-use Rattle.bus_polling.specs.Outcomes.{isPassed, isFailed, isSilent, isCut}
+use Rattle.bus_polling.specs.Outcomes.{isPassed, isFailed, isSilent, isCut, isProtected}
 use Rattle.bus_polling.specs.declared.Outcome.{Outcome}
+use Rattle.bus_polling.specs.declared.Outcome.the-variants.{Passed, Failed, Silent, Cut, Illegal, Protected}
 use Rattle.state_choose.specs.Choose.{chosen}
 use Rattle.state_choose.specs.declared.Choice.{Choice}
 use Rattle.state_choose.specs.declared.Choice.the-variants.{Block, Worn}
 use Rattle.state.specs.State.{none, numbersLeft, heldBits}
 use Rattle.state.specs.declared.State.{State}
-use Rattle.progress.specs.Progress.{Progress}
+use Rattle.progress.specs.Progress.{Progress, statusOn}
 use Rattle.progress.specs.Steps.{resumed}
-use Rattle.request.specs.Call.{Result, result, resultOf, sentIn, startedIn, unsent, performed, sizedFor, callLine, stopAnswer, answerFor}
+use Rattle.request.specs.Call.{Result, result, resultOf, sentIn, startedIn, unsent, performed, sizedFor, callLine, stopAnswer, answerFor, statusAnswer}
 use Rattle.request.proofs.CallLaws.{stop-silent, stop-least}
 use Rattle.request_refusals.specs.Refusals.{refusal, refusalOf}
 use Rattle.request_refusals.proofs.RefusalLaws.{by-refusal}
 use Rattle.scan_found.specs.Found.{marksTo}
-use Rattle.fill_tables.specs.Tables.{tryBlock, tryTable, tablesFilled}
-use Rattle.write_changes.specs.Changes.{Update, writeUpdate, eraseUpdate, copyFilled, Copied, afterTry, copyTried, copiesFilled, thenTable, changeRun, changeCall, changeRequest, writeRequest, eraseRequest}
+use Rattle.fill_tables.specs.Tables.{tryBlock, tryTable, tablesFilled, Tabled, afterStatus}
+use Rattle.write_changes.specs.Changes.{Update, writeUpdate, eraseUpdate, copyFilled, Copied, afterTry, copyTried, copiesFilled, thenTable, changeRun, changeCall, changeRequest, writeRequest, eraseRequest, changeFirst}
 use Rattle.format_marks.specs.Marks.{marksRead}
 use Rattle.format_erase.specs.Round.{erasedTo}
-use Rattle.format.specs.Format.{firstState, tooFew, tablesRun, roundRun, marksRun, formatRun, formatRequest}
+use Rattle.format.specs.Format.{firstState, tooFew, tablesRun, roundRun, marksRun, formatRun, formatRequest, statusRun}
 use Rattle.mount.specs.Mount.{mountRun, mountEnd, mountRequest}
 use Rattle.mount_laws.proofs.MountingLaws.{answer-judged}
 use Rattle.read_page.specs.Fetching.{pageProgress, readingBlock}
 use Rattle.read.specs.Reading.{copyRequest, readRequest}
-use Rattle.recovery.specs.Calls.{Lent, toMount, toRead, toWrite, toErase, toIdentify, Store, settingOf, runOf}
+use Rattle.recovery.specs.Calls.{Lent, toMount, toRead, toWrite, toErase, toIdentify, Store, settingOf, runOf, chipOf}
 use Rattle.recovery_cycles.specs.Starts.{startsIn}
 use Rattle.recovery_cycles.specs.Silent.{SlowLast, SilentExactly, SilentCalls}
 use Rattle.recovery_cycles.proofs.WaitLaws.{Stopped, stopped-unpassed}
@@ -56,6 +57,22 @@ told-passed answer o t x = record { by = λ e. absurd (x e); so = λ h. clash t 
 
 told-for : (o : Outcome) → Told (answerFor o) o
 told-for o = cases (isPassed o) (λ t. rw t (told-passed 0 o t (λ e. omega (arith, e)))) (λ t. rw t (told-stop o))
+
+-- a request that has read the status, by what follows
+status-stop : (o : Outcome) → isPassed o ≡ false → Told (statusAnswer o) o
+unfolding statusAnswer isProtected isPassed
+status-stop Passed f = clash refl f
+status-stop Failed f = told-stop Failed
+status-stop Silent f = told-stop Silent
+status-stop Cut f = told-stop Cut
+status-stop Illegal f = told-stop Illegal
+status-stop Protected f = record { by = λ e. absurd (omega (arith, e)); so = λ h. ⊎-elim (λ e. clash refl (ap isProtected e)) (λ e. clash refl (ap isProtected e)) h }
+
+status-told : (state : State) (p : Progress) (rest : Tabled) → (isPassed (p .outcome) ≡ true → Told (rest .answer) (rest .progress .outcome))
+    → Told (afterStatus state p rest .answer) (afterStatus state p rest .progress .outcome)
+unfolding afterStatus
+status-told state p rest h =
+    cases (isPassed (p .outcome)) (λ t. rw t (h t)) (λ f. rw f (status-stop (p .outcome) f))
 
 -- table fills
 worn-same : (s : Setting) (st : State) (p : Progress) (c : Choice) → eqb (tryBlock s st p c .worn) 0 ≡ false → tryBlock s st p c .progress ≡ p
@@ -113,6 +130,12 @@ module _ (s : Setting) where
       (λ f. rw (z, f) (told-passed 0 (c .progress .outcome) passed (λ e. omega (arith, e)))))
       (λ z. rw z (here .0))
 
+  -- with the status read before it
+  call-told : (d : Device) (n : ℕ) (st : State) (u : Update) → Told (changeCall s d n st u .answer) (changeCall s d n st u .progress .outcome)
+  call-told d n st u =
+      let p = changeFirst s d n in
+      status-told st p (changeRun s st u p) (change-told st u p)
+
   -- a formatting
   tables-run-told : (marked invalid : List ℕ) (greatest : ℕ) (p : Progress) → isPassed (p .outcome) ≡ true → Told (tablesRun s marked invalid greatest p .answer) (tablesRun s marked invalid greatest p .progress .outcome)
   unfolding tablesRun
@@ -130,12 +153,16 @@ module _ (s : Setting) where
       (λ t. rw t (tables-run-told marked (r .invalid) (r .numbers .greatest) (r .progress) t))
       (λ t. rw t (told-stop (r .progress .outcome)))
 
-  marks-run-told : (p : Progress) → Told (marksRun s p .answer) (marksRun s p .progress .outcome)
+  status-run-told : (state : State) (marked : List ℕ) (p : Progress) → Told (statusRun s state marked p .answer) (statusRun s state marked p .progress .outcome)
+  unfolding statusRun
+  status-run-told state marked p = status-told state (statusOn s p) (roundRun s marked (statusOn s p)) (λ t. round-run-told marked (statusOn s p))
+
+  marks-run-told : (state : State) (p : Progress) → Told (marksRun s state p .answer) (marksRun s state p .progress .outcome)
   unfolding marksRun
-  marks-run-told p =
+  marks-run-told state p =
       let q = marksRead s (s .geometry .blocks) p in
       cases (isPassed (q .outcome))
-      (λ t. rw t (round-run-told (marksTo (s .geometry) (q .line .chip .array) (s .geometry .blocks)) q))
+      (λ t. rw t (status-run-told state (marksTo (s .geometry) (q .line .chip .array) (s .geometry .blocks)) q))
       (λ t. rw t (told-stop (q .outcome)))
 
   -- a mount
@@ -171,31 +198,30 @@ module _ (g : Geometry) (y : Store) (a : Lent) where
   s = settingOf g a
 
   abbrev from : Device
-  from = callLine (y .chip) (a .allowed) .chip
+  from = callLine (chipOf a (y .chip)) (a .allowed) .chip
 
   mount-exactly : SilentExactly s from (runOf g (toMount a) y)
   unfolding mountRequest
   mount-exactly =
-      let p = mountRun s (callLine (y .chip) (a .allowed)) in
-      cases (sizedFor s (y .chip))
-      (λ t. rw t (exactly s from (mountEnd s (a .allowed) p) p (mount-heard s (y .chip) (a .allowed)) (mount-told s (a .allowed) p)))
+      let p = mountRun s (callLine (chipOf a (y .chip)) (a .allowed)) in
+      cases (sizedFor s (chipOf a (y .chip)))
+      (λ t. rw t (exactly s from (mountEnd s (a .allowed) p) p (mount-heard s (chipOf a (y .chip)) (a .allowed)) (mount-told s (a .allowed) p)))
       (λ f. rw f (unstarted-exactly s from _ (λ e. omega (arith, e))))
 
   read-exactly : (logical page : ℕ) (buffer : List ℕ) → SilentExactly s from (runOf g (toRead a logical page buffer) y)
   unfolding readRequest copyRequest readingBlock resultOf sentIn startedIn
   read-exactly logical page buffer =
       let block = getD (y .state .map) logical 0 in
-      let refused = refusalOf s (y .chip) (y .state) logical page buffer in
+      let refused = refusalOf s (chipOf a (y .chip)) (y .state) logical page buffer in
       cases (eqb refused 0)
-      (λ t. cases (eqb block none) (λ u. rw (t, u) (unstarted-exactly s from (result 0 (y .state) (y .chip) 0) (λ e. omega (arith, e))))
-      (λ u. rw (t, u) (exactly s from (readingBlock s (y .chip) (a .allowed) (y .state) block page buffer .returned) (pageProgress s (y .chip) (a .allowed) block page) (page-heard s (y .chip) (a .allowed) block page) (told-for _))))
-      (λ f. rw f (unstarted-exactly s from (result refused (y .state) (y .chip) 0) (refusal-other g _ (y .state) logical page _)))
+      (λ t. cases (eqb block none) (λ u. rw (t, u) (unstarted-exactly s from (result 0 (y .state) (chipOf a (y .chip)) 0) (λ e. omega (arith, e))))
+      (λ u. rw (t, u) (exactly s from (readingBlock s (chipOf a (y .chip)) (a .allowed) (y .state) block page buffer .returned) (pageProgress s (chipOf a (y .chip)) (a .allowed) block page) (page-heard s (chipOf a (y .chip)) (a .allowed) block page) (told-for _))))
+      (λ f. rw f (unstarted-exactly s from (result refused (y .state) (chipOf a (y .chip)) 0) (refusal-other g _ (y .state) logical page _)))
 
-  change-exactly : (refused : ℕ) (u : Update) → (refused ≡ 10 → ⊥) → SilentExactly s from (cond (eqb refused 0) (changeRequest s (y .chip) (a .allowed) (y .state) u) (unsent (result refused (y .state) (y .chip) 0)))
-  unfolding isPassed
+  change-exactly : (refused : ℕ) (u : Update) → (refused ≡ 10 → ⊥) → SilentExactly s from (cond (eqb refused 0) (changeRequest s (chipOf a (y .chip)) (a .allowed) (y .state) u) (unsent (result refused (y .state) (chipOf a (y .chip)) 0)))
   change-exactly refused u x =
       cases (eqb refused 0)
-      (λ t. rw t (exactly s from _ (changeCall s (y .chip) (a .allowed) (y .state) u .progress) (change-heard s (y .chip) (a .allowed) (y .state) u) (change-told s (y .state) u _ refl)))
+      (λ t. rw t (exactly s from _ (changeCall s (chipOf a (y .chip)) (a .allowed) (y .state) u .progress) (change-heard s (chipOf a (y .chip)) (a .allowed) (y .state) u) (call-told s (chipOf a (y .chip)) (a .allowed) (y .state) u)))
       (λ f. rw f (unstarted-exactly s from _ x))
 
 pub silent-exactly : (g : Geometry) (y : Store) → SilentCalls g y
@@ -213,5 +239,5 @@ pub format-exactly : (s : Setting) (d : Device) (n : ℕ) (st : State) → Silen
 unfolding formatRequest
 format-exactly s d n st =
     cases (sizedFor s d)
-    (λ t. rw t (exactly s _ _ (formatRun s d n .progress) (format-heard s d n) (marks-run-told s _)))
+    (λ t. rw t (exactly s _ _ (formatRun s d n st .progress) (format-heard s d n t st) (marks-run-told s st _)))
     (λ f. rw f (unstarted-exactly s _ _ (λ e. omega (arith, e))))

@@ -24,9 +24,10 @@ use Rattle.copies.specs.Current.{currentTable}
 use Rattle.copies.specs.Pick.{at}
 use Rattle.copies.specs.Table.{lists}
 use Rattle.state.specs.State.{none}
-use Rattle.request.specs.Call.{Result, Performed, sizedFor, callLine, sentIn, startedIn}
+use Rattle.state.specs.declared.State.{State}
+use Rattle.request.specs.Call.{Result, result, Performed, unsent, sizedFor, callLine, sentIn, startedIn}
 use Rattle.request_refusals.specs.Refusals.{refusalOf}
-use Rattle.write_changes.specs.Changes.{writeUpdate, eraseUpdate, eraseRefusal, writeRequest, eraseRequest}
+use Rattle.write_changes.specs.Changes.{Update, changeRequest, writeUpdate, eraseUpdate, writeRequest, eraseRequest, eraseRefusal}
 use Rattle.mount.specs.Mount.{mountRequest}
 use Rattle.read.specs.Reading.{copyRequest, readRequest}
 use Rattle.identify.proofs.SentLaws.{identify-starts}
@@ -34,16 +35,16 @@ use Rattle.damage.specs.Run.{failedIn}
 use Rattle.damage.specs.Touched.{Each, Some, first}
 use Rattle.damage.proofs.EachLaws.{each-left, each-right, some-append-right}
 use Rattle.damage.proofs.TraceLaws.{or-assoc}
-use Rattle.recovery.specs.Calls.{Lent, Call, toMount, toRead, toWrite, toErase, toIdentify, Typed, Store, settingOf, cyclesOf, traceOf, failedAfter}
+use Rattle.recovery.specs.Calls.{Lent, Call, toMount, toRead, toWrite, toErase, toIdentify, Typed, Store, settingOf, cyclesOf, traceOf, failedAfter, chipOf, after, begun}
 use Rattle.recovery_proof.specs.Sent.{Sends, SendsLegally}
 use Rattle.recovery.specs.Recovery.{Always, SparesBad, SparedBy, Spared, Spares}
 use Rattle.recovery_proof.proofs.RecoveryLaws.{spares}
 use Rattle.recovery_proof.proofs.SentLaws.{sends-legally}
 use Rattle.recovery_cycles.specs.Starts.{takes, failsNext, start, Start, startsAt, startsIn, kindOf, StartedAt, Traced, Divided, TracedAt, failedRead, OnChip, Changes, ChangeOn, TracesEach}
-use Rattle.recovery_cycles.specs.Spared.{OnlyReads, NamesGood, TracesCycles, SparesEach, startsOf, SparesCycles, FailsRead}
+use Rattle.recovery_cycles.specs.Spared.{OnlyReads, NamesGood, TracesCycles, SparesEach, startsOf, SparesCycles, FailsRead, ProtectedSends}
 use Rattle.recovery_cycles.proofs.StartLaws.{starts-append}
 use Rattle.recovery_cycles.proofs.TraceLaws.{change-traced, mount-traced, page-traced}
-use Rattle.recovery_cycles.proofs.ReadOnlyLaws.{mount-only-reads, page-only-reads, changes-confirm, identify-only-reads, identify-starts-none}
+use Rattle.recovery_cycles.proofs.ReadOnlyLaws.{mount-only-reads, page-only-reads, changes-confirm, identify-only-reads, identify-starts-none, change-only-reads}
 
 divided : (g : Geometry) (ts us : List Start) (t : Start) (os : List ArrayOperation) → Traced g (ts ++ (t ∷ us)) os → Divided g ts t os
 unfolding Traced
@@ -195,44 +196,63 @@ none-there (x ∷ xs) ys c e = absurd (let n : 0 ≡ suc (length (xs ++ (c ∷ y
 pub call-traced : (g : Geometry) (c : Call) (y : Store) → Traced g (startsOf g c y) (traceOf g c y)
 unfolding sentIn startedIn mountRequest readRequest copyRequest writeRequest eraseRequest startsIn Traced
 call-traced g (toMount a) y =
-    cases (sizedFor (settingOf g a) (y .chip)) (λ t. rw t (mount-traced (settingOf g a) (y .chip) (a .allowed))) (λ f. rw f tt)
+    cases (sizedFor (settingOf g a) (chipOf a (y .chip))) (λ t. rw t (mount-traced (settingOf g a) (chipOf a (y .chip)) (a .allowed))) (λ f. rw f tt)
 call-traced g (toRead a logical page buffer) y =
-    cases (eqb (refusalOf (settingOf g a) (y .chip) (y .state) logical page buffer) 0)
+    cases (eqb (refusalOf (settingOf g a) (chipOf a (y .chip)) (y .state) logical page buffer) 0)
     (λ t. cases (eqb (getD (y .state .map) logical 0) none) (λ u. rw (t, u) tt)
-    (λ u. rw (t, u) (page-traced (settingOf g a) (y .chip) (a .allowed) (getD (y .state .map) logical 0) page)))
+    (λ u. rw (t, u) (page-traced (settingOf g a) (chipOf a (y .chip)) (a .allowed) (getD (y .state .map) logical 0) page)))
     (λ f. rw f tt)
 call-traced g (toWrite a logical page bytes) y =
-    cases (eqb (refusalOf (settingOf g a) (y .chip) (y .state) logical page bytes) 0)
-    (λ t. rw t (change-traced (settingOf g a) (y .chip) (a .allowed) (y .state) (writeUpdate (y .state) logical page bytes)))
+    cases (eqb (refusalOf (settingOf g a) (chipOf a (y .chip)) (y .state) logical page bytes) 0)
+    (λ t. rw t (change-traced (settingOf g a) (chipOf a (y .chip)) (a .allowed) (y .state) (writeUpdate (y .state) logical page bytes)))
     (λ f. rw f tt)
 call-traced g (toErase a logical) y =
-    cases (eqb (eraseRefusal (settingOf g a) (y .chip) (y .state) logical) 0)
-    (λ t. rw t (change-traced (settingOf g a) (y .chip) (a .allowed) (y .state) (eraseUpdate logical)))
+    cases (eqb (eraseRefusal (settingOf g a) (chipOf a (y .chip)) (y .state) logical) 0)
+    (λ t. rw t (change-traced (settingOf g a) (chipOf a (y .chip)) (a .allowed) (y .state) (eraseUpdate logical)))
     (λ f. rw f tt)
 call-traced g (toIdentify a parameters logical) y =
-    rw (identify-starts-none (a .mask) (a .fates) (y .chip) (a .allowed) (y .state) parameters logical (settingOf g a) (callLine (y .chip) (a .allowed) .chip), identify-starts (a .mask) (a .fates) (y .chip) (a .allowed) (y .state) parameters logical) tt
+    rw (identify-starts-none (a .mask) (a .fates) (chipOf a (y .chip)) (a .allowed) (y .state) parameters logical (settingOf g a) (callLine (chipOf a (y .chip)) (a .allowed) .chip), identify-starts (a .mask) (a .fates) (chipOf a (y .chip)) (a .allowed) (y .state) parameters logical) tt
 
--- mounts, reads and calls that ask for the chip's size, of any store, send no 10h and no D0h
+-- mounts, reads and calls that ask for the chip's size, of any store, send no 80h, 60h, 10h or D0h
 pub mount-sends : (g : Geometry) (y : Store) (a : Lent) → OnlyReads (cyclesOf g (toMount a) y)
 unfolding sentIn mountRequest
 mount-sends g y a xs ys code e k =
-    cases (sizedFor (settingOf g a) (y .chip))
-    (λ t. mount-only-reads (settingOf g a) (callLine (y .chip) (a .allowed)) xs ys code (rw t at e) k)
+    cases (sizedFor (settingOf g a) (chipOf a (y .chip)))
+    (λ t. mount-only-reads (settingOf g a) (callLine (chipOf a (y .chip)) (a .allowed)) xs ys code (rw t at e) k)
     (λ f. none-there xs ys (command code) (rw f at e))
 
 pub read-sends : (g : Geometry) (y : Store) (a : Lent) (logical page : ℕ) (buffer : List ℕ) → OnlyReads (cyclesOf g (toRead a logical page buffer) y)
 unfolding sentIn readRequest copyRequest
 read-sends g y a logical page buffer xs ys code e k =
     let s = settingOf g a in
-    cases (eqb (refusalOf s (y .chip) (y .state) logical page buffer) 0)
+    cases (eqb (refusalOf s (chipOf a (y .chip)) (y .state) logical page buffer) 0)
     (λ t. cases (eqb (getD (y .state .map) logical 0) none)
     (λ u. none-there xs ys (command code) (rw (t, u) at e))
-    (λ u. page-only-reads s (y .chip) (a .allowed) (getD (y .state .map) logical 0) page xs ys code (rw (t, u) at e) k))
+    (λ u. page-only-reads s (chipOf a (y .chip)) (a .allowed) (getD (y .state .map) logical 0) page xs ys code (rw (t, u) at e) k))
     (λ f. none-there xs ys (command code) (rw f at e))
 
 pub identify-sends : (g : Geometry) (y : Store) (a : Lent) (parameters : List ℕ) (logical : ℕ) → OnlyReads (cyclesOf g (toIdentify a parameters logical) y)
 unfolding sentIn
-identify-sends g y a parameters logical = identify-only-reads (a .mask) (a .fates) (y .chip) (a .allowed) (y .state) parameters logical
+identify-sends g y a parameters logical = identify-only-reads (a .mask) (a .fates) (chipOf a (y .chip)) (a .allowed) (y .state) parameters logical
+
+-- nor does a write or an erase with the write-protect line low
+change-sends : (s : Setting) (d : Device) (n : ℕ) (st : State) (u : Update) (refused : ℕ) → (d .interface .protected ≡ 0 → ⊥)
+    → OnlyReads (sentIn (cond (eqb refused 0) (changeRequest s d n st u) (unsent (result refused st d 0))))
+unfolding sentIn
+change-sends s d n st u refused low xs ys code e k =
+    cases (eqb refused 0)
+    (λ t. change-only-reads s d n low st u xs ys code (rw t at e) k)
+    (λ f. none-there xs ys (command code) (rw f at e))
+
+pub protected-sends : (g : Geometry) (y : Store) → ProtectedSends g y
+unfolding writeRequest eraseRequest
+protected-sends g y (toMount a) low = mount-sends g y a
+protected-sends g y (toRead a logical page buffer) low = read-sends g y a logical page buffer
+protected-sends g y (toWrite a logical page bytes) low =
+    change-sends (settingOf g a) (chipOf a (y .chip)) (a .allowed) (y .state) (writeUpdate (y .state) logical page bytes) (refusalOf (settingOf g a) (chipOf a (y .chip)) (y .state) logical page bytes) low
+protected-sends g y (toErase a logical) low =
+    change-sends (settingOf g a) (chipOf a (y .chip)) (a .allowed) (y .state) (eraseUpdate logical) (eraseRefusal (settingOf g a) (chipOf a (y .chip)) (y .state) logical) low
+protected-sends g y (toIdentify a parameters logical) low = identify-sends g y a parameters logical
 
 -- each cycle of a call is legal
 sends-legal : {s : Setting} {d : Device} {n : ℕ} {r : Performed Result} → Sends s d n r → Legal s (callLine d n .chip) (sentIn r)
@@ -241,26 +261,26 @@ sends-legal {s} {d} {n} x =
 
 module _ (g : Geometry) (y : Store) where
   calls-spare : Spares g y → SendsLegally g y → SparesCycles g y
-  calls-spare sp w (toMount a) t = λ xs ys code e k. absurd (mount-sends g y a xs ys code e k)
-  calls-spare sp w (toRead a logical page buffer) t = λ xs ys code e k. absurd (read-sends g y a logical page buffer xs ys code e k)
+  calls-spare sp w (toMount a) t = λ xs ys code e k. absurd (mount-sends g y a xs ys code e (inr (inr k)))
+  calls-spare sp w (toRead a logical page buffer) t = λ xs ys code e k. absurd (read-sends g y a logical page buffer xs ys code e (inr (inr k)))
   calls-spare sp w (toWrite a logical page bytes) t =
-      spares-each (settingOf g a) (y .marked) (y .failed) (callLine (y .chip) (a .allowed) .chip) (cyclesOf g (toWrite a logical page bytes) y) (traceOf g (toWrite a logical page bytes) y)
+      spares-each (settingOf g a) (y .marked) (y .failed) (callLine (chipOf a (y .chip)) (a .allowed) .chip) (cyclesOf g (toWrite a logical page bytes) y) (traceOf g (toWrite a logical page bytes) y)
       (call-traced g (toWrite a logical page bytes) y) (sends-legal (w (toWrite a logical page bytes) t)) (sp (toWrite a logical page bytes) t)
   calls-spare sp w (toErase a logical) t =
-      spares-each (settingOf g a) (y .marked) (y .failed) (callLine (y .chip) (a .allowed) .chip) (cyclesOf g (toErase a logical) y) (traceOf g (toErase a logical) y)
+      spares-each (settingOf g a) (y .marked) (y .failed) (callLine (chipOf a (y .chip)) (a .allowed) .chip) (cyclesOf g (toErase a logical) y) (traceOf g (toErase a logical) y)
       (call-traced g (toErase a logical) y) (sends-legal (w (toErase a logical) t)) (sp (toErase a logical) t)
-  calls-spare sp w (toIdentify a parameters logical) t = λ xs ys code e k. absurd (identify-sends g y a parameters logical xs ys code e k)
+  calls-spare sp w (toIdentify a parameters logical) t = λ xs ys code e k. absurd (identify-sends g y a parameters logical xs ys code e (inr (inr k)))
 
   calls-trace : Spares g y → SendsLegally g y → TracesCycles g y
-  calls-trace sp w (toMount a) t = λ xs ys code e k. absurd (mount-sends g y a xs ys code e k)
-  calls-trace sp w (toRead a logical page buffer) t = λ xs ys code e k. absurd (read-sends g y a logical page buffer xs ys code e k)
+  calls-trace sp w (toMount a) t = λ xs ys code e k. absurd (mount-sends g y a xs ys code e (inr (inr k)))
+  calls-trace sp w (toRead a logical page buffer) t = λ xs ys code e k. absurd (read-sends g y a logical page buffer xs ys code e (inr (inr k)))
   calls-trace sp w (toWrite a logical page bytes) t =
       let c = toWrite a logical page bytes in
-      traces-each (settingOf g a) (callLine (y .chip) (a .allowed) .chip) (cyclesOf g c y) (traceOf g c y) (call-traced g c y) (sends-legal (w (toWrite a logical page bytes) t)) (spared-on-chip g (y .marked) (y .failed) (traceOf g c y) (sp c t))
+      traces-each (settingOf g a) (callLine (chipOf a (y .chip)) (a .allowed) .chip) (cyclesOf g c y) (traceOf g c y) (call-traced g c y) (sends-legal (w (toWrite a logical page bytes) t)) (spared-on-chip g (y .marked) (y .failed) (traceOf g c y) (sp c t))
   calls-trace sp w (toErase a logical) t =
       let c = toErase a logical in
-      traces-each (settingOf g a) (callLine (y .chip) (a .allowed) .chip) (cyclesOf g c y) (traceOf g c y) (call-traced g c y) (sends-legal (w (toErase a logical) t)) (spared-on-chip g (y .marked) (y .failed) (traceOf g c y) (sp c t))
-  calls-trace sp w (toIdentify a parameters logical) t = λ xs ys code e k. absurd (identify-sends g y a parameters logical xs ys code e k)
+      traces-each (settingOf g a) (callLine (chipOf a (y .chip)) (a .allowed) .chip) (cyclesOf g c y) (traceOf g c y) (call-traced g c y) (sends-legal (w (toErase a logical) t)) (spared-on-chip g (y .marked) (y .failed) (traceOf g c y) (sp c t))
+  calls-trace sp w (toIdentify a parameters logical) t = λ xs ys code e k. absurd (identify-sends g y a parameters logical xs ys code e (inr (inr k)))
 
 pub traces-cycles : Always TracesCycles
 traces-cycles g a d st m z es t =
@@ -269,6 +289,9 @@ traces-cycles g a d st m z es t =
 pub spares-cycles : Always SparesCycles
 spares-cycles g a d st m z es t =
     calls-spare g _ (spares g a d st m z es t) (sends-legally g a d st m z es t)
+
+pub sends-no-change : Always ProtectedSends
+sends-no-change g a d st m z es t = protected-sends g (after g es (begun g a d st))
 
 pub fails-read : Always FailsRead
 fails-read g a d st m z es t c typed b =

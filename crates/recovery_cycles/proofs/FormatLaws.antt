@@ -23,7 +23,7 @@ use Rattle.bus_polling.specs.Outcomes.{isPassed, isFailed}
 use Rattle.bus_polling.specs.declared.Outcome.{Outcome}
 use Rattle.bus_polling.specs.declared.Outcome.the-variants.{Passed}
 use Rattle.operations.specs.Trace.{ArrayOperation, startedBy, readStarts, programStarts, eraseStarts}
-use Rattle.progress.specs.Progress.{Progress, progress, readOn, resetOn}
+use Rattle.progress.specs.Progress.{Progress, progress, readOn, resetOn, statusOn}
 use Rattle.progress.specs.Steps.{eraseOn, programOn, resumed}
 use Rattle.bitmaps.specs.Bitmap.{bitAt}
 use Rattle.state_choose.specs.Choose.{nextBlock, searchAfter, chosen}
@@ -37,10 +37,10 @@ use Rattle.request.specs.Call.{sizedFor, callLine}
 use Rattle.request.proofs.CallLaws.{sizes}
 use Rattle.scan_block.specs.Pages.{pagesRead}
 use Rattle.fill.specs.Fill.{Copy, Source, given, kept, mainRead, pageFilled, pagesFilled, filled, tableCopy, tableSource}
-use Rattle.fill_tables.specs.Tables.{afterFill, tryBlock, tryTable, tablesFilled}
+use Rattle.fill_tables.specs.Tables.{afterFill, tryBlock, tryTable, tablesFilled, afterStatus}
 use Rattle.format_marks.specs.Marks.{marksRead}
 use Rattle.format_erase.specs.Round.{afterErase, blockErased, erasedTo}
-use Rattle.format.specs.Format.{firstState, tooFew, tablesRun, roundRun, marksRun, formatRun}
+use Rattle.format.specs.Format.{firstState, tooFew, tablesRun, roundRun, marksRun, formatRun, statusRun}
 use Rattle.format_laws.proofs.FormattingLaws.{format-ends}
 use Rattle.damage.specs.Run.{failedIn}
 use Rattle.damage.specs.Touched.{Each}
@@ -188,25 +188,36 @@ module _ (s : Setting) (v : Valid (s .geometry)) where
       let here = round-stays marked (s .geometry .blocks) (le-refl (s .geometry .blocks)) p h in
       cases (isPassed (r .progress .outcome)) (λ t. rw t (tables-run-stays marked (r .invalid) (r .numbers .greatest) (r .progress) here)) (λ t. rw t here)
 
-  marks-run-stays : (p : Progress) → Stays p → Stays (marksRun s p .progress)
+  status-stays : (p : Progress) → Stays p → Stays (statusOn s p)
+  unfolding statusOn
+  status-stays p h = cases (isPassed (p .outcome)) (λ t. rw t h) (λ t. rw t h)
+
+  status-run-stays : (state : State) (marked : List ℕ) (p : Progress) → Stays p → Stays (statusRun s state marked p .progress)
+  unfolding statusRun afterStatus
+  status-run-stays state marked p h =
+      let q = statusOn s p in
+      let here = status-stays p h in
+      cases (isPassed (q .outcome)) (λ t. rw t (round-run-stays marked q here)) (λ t. rw t here)
+
+  marks-run-stays : (state : State) (p : Progress) → Stays p → Stays (marksRun s state p .progress)
   unfolding marksRun
-  marks-run-stays p h =
+  marks-run-stays state p h =
       let q = marksRead s (s .geometry .blocks) p in
       let here = marks-stay (s .geometry .blocks) p h in
-      cases (isPassed (q .outcome)) (λ t. rw t (round-run-stays (marksTo (s .geometry) (q .line .chip .array) (s .geometry .blocks)) q here)) (λ t. rw t here)
+      cases (isPassed (q .outcome)) (λ t. rw t (status-run-stays state (marksTo (s .geometry) (q .line .chip .array) (s .geometry .blocks)) q here)) (λ t. rw t here)
 
-  pub format-on-chip : (d : Device) (n : ℕ) → Each (OnChip (s .geometry)) (formatRun s d n .progress .started)
+  pub format-on-chip : (d : Device) (n : ℕ) (state : State) → Each (OnChip (s .geometry)) (formatRun s d n state .progress .started)
   unfolding Each
-  format-on-chip d n = marks-run-stays (resetOn s (progress (callLine d n) Passed [] [])) (reset-stays (progress (callLine d n) Passed [] []) tt)
+  format-on-chip d n state = marks-run-stays state (resetOn s (progress (callLine d n) Passed [] [])) (reset-stays (progress (callLine d n) Passed [] []) tt)
 
   -- the blocks that fail in it are those for which it reads E1h
-  pub format-fails : (d : Device) (n b : ℕ) → failedIn b (formatRun s d n .progress .started) ≡ failedRead (s .geometry) b (startsIn s (callLine d n .chip) (formatRun s d n .progress .cycles))
-  format-fails d n b =
-      sym (failed-traced (s .geometry) (startsIn s (callLine d n .chip) (formatRun s d n .progress .cycles)) (formatRun s d n .progress .started) (format-traced s d n) (format-on-chip d n) b)
+  pub format-fails : (d : Device) (n : ℕ) (state : State) (b : ℕ) → failedIn b (formatRun s d n state .progress .started) ≡ failedRead (s .geometry) b (startsIn s (callLine d n .chip) (formatRun s d n state .progress .cycles))
+  format-fails d n state b =
+      sym (failed-traced (s .geometry) (startsIn s (callLine d n .chip) (formatRun s d n state .progress .cycles)) (formatRun s d n state .progress .started) (format-traced s d n state) (format-on-chip d n state) b)
 
 -- each 10h and each D0h cycle of a formatting has its operation in the trace
-pub format-traces : (s : Setting) (d : Device) (n : ℕ) → Bytes (s .mask) → sizedFor s d ≡ true → TracesEach s (callLine d n .chip) (formatRun s d n .progress .cycles) (formatRun s d n .progress .started)
-format-traces s d n mask-bytes t =
-    traces-each s (callLine d n .chip) (formatRun s d n .progress .cycles) (formatRun s d n .progress .started) (format-traced s d n)
-    (format-ends s d n mask-bytes t (blank 0) .replayed .each-legal)
-    (format-on-chip s (sizes (s .geometry) (length (d .array)) (length (d .register)) (length (d .history)) (length (s .mask)) t .chip-fits .is-valid) d n)
+pub format-traces : (s : Setting) (d : Device) (n : ℕ) (state : State) → Bytes (s .mask) → sizedFor s d ≡ true → TracesEach s (callLine d n .chip) (formatRun s d n state .progress .cycles) (formatRun s d n state .progress .started)
+format-traces s d n state mask-bytes t =
+    traces-each s (callLine d n .chip) (formatRun s d n state .progress .cycles) (formatRun s d n state .progress .started) (format-traced s d n state)
+    (format-ends s d n mask-bytes t state .replayed .each-legal)
+    (format-on-chip s (sizes (s .geometry) (length (d .array)) (length (d .register)) (length (d .history)) (length (s .mask)) t .chip-fits .is-valid) d n state)

@@ -2,6 +2,7 @@ pub mod LatchLaws
 pub mod AllLaws
 pub mod FailLaws
 pub mod StartLaws
+pub mod UnfailedLaws
 pub mod TraceLaws
 pub mod ReadOnlyLaws
 pub mod CycleLaws

@@ -17,17 +17,18 @@ use Rattle.bus_polling.specs.Polling.{waiting, polls, outcomeOf, endedAs}
 use Rattle.bus_polling.specs.Outcomes.{isPassed, isFailed, isSilent, isCut}
 use Rattle.bus_sequences.specs.Cycles.{readCycles, readOutcome, putOut, readOutputs}
 use Rattle.operations.specs.Trace.{startedBy}
+use Rattle.operations.specs.Ends.{statusEnd}
 use Rattle.pages.specs.Check.{zeroBits}
 use Rattle.pages.specs.Layout.{numberWidth, isDataKind, isTableKind, bytesOf, numberOf, labelBytes, encoded, kindOf}
 use Rattle.copies.specs.Table as table
 use Rattle.state_choose.specs.Choose.{permitted, searchAfter}
 use Rattle.state.specs.State.{copyBits}
 use Rattle.state.specs.declared.State.{State}
-use Rattle.progress.specs.Progress.{readOn, progress}
+use Rattle.progress.specs.Progress.{readOn, progress, statusOn}
 use Rattle.progress.specs.Steps.{eraseOn, programOn}
 use Rattle.request.specs.Call.{stopAnswer, callLine}
 use Rattle.fill.specs.Fill.{mainOf, mainRead, pageFilled, pagesFilled, tableMain, dataSource, isGiven}
-use Rattle.fill_tables.specs.Tables.{afterFill, tryBlock, tryTable, tablesFilled}
+use Rattle.fill_tables.specs.Tables.{afterFill, tryBlock, tryTable, tablesFilled, afterStatus}
 use Rattle.write_changes.specs.Changes.{writeUpdate, afterTry, copyTried, copiesFilled, thenTable, changeCall}
 use mathlib.Core.Bool.{cond}
 use Rattle.bus_polling.specs.declared.Outcome.the-variants.{Passed}
@@ -57,5 +58,5 @@ told t = t .code ∷ blockAt small (t .chip .interface) ∷ cond (t .failed) 1 0
 write-starts : map told (startsIn call (callLine chip 10000 .chip) (changeCall call chip 10000 state (writeUpdate state 0 0 (replicate 32 165)) .progress .cycles))
     ≡ (208 ∷ 2 ∷ 1 ∷ []) ∷ (208 ∷ 3 ∷ 0 ∷ []) ∷ (16 ∷ 3 ∷ 0 ∷ []) ∷ (48 ∷ 1 ∷ 0 ∷ []) ∷ (16 ∷ 3 ∷ 0 ∷ []) ∷ (48 ∷ 1 ∷ 0 ∷ []) ∷ (16 ∷ 3 ∷ 0 ∷ []) ∷ (48 ∷ 1 ∷ 0 ∷ []) ∷ (16 ∷ 3 ∷ 0 ∷ [])
     ∷ (208 ∷ 1 ∷ 0 ∷ []) ∷ (16 ∷ 1 ∷ 0 ∷ []) ∷ (16 ∷ 1 ∷ 0 ∷ []) ∷ (16 ∷ 1 ∷ 0 ∷ []) ∷ (16 ∷ 1 ∷ 0 ∷ []) ∷ []
-unfolding ones begun statusMode readMode plainCommand addressFits latched addressed fateWord nextFate started statusByte fitting readStarted programStarted eraseStarted completed isConfirm confirmed confirmable commanded dataTaken dataGiven dataByte finished statusRead exec programmed weakened raised put mayGo cutAfter send byteOut sendAll sent goesOn waiting polls outcomeOf isPassed endedAs readCycles readOutcome putOut readOutputs startedBy readOn stopAnswer isSilent isCut bitAt withBit zeroBits numberWidth bytesOf numberOf labelBytes encoded kindOf eraseOn programOn isFailed mainOf mainRead pageFilled pagesFilled tableMain permitted searchAfter afterFill tryBlock tryTable tablesFilled table.tablePage isDataKind isTableKind copyBits copyTried afterTry copiesFilled thenTable dataSource isGiven statusShown takes givesFailed failsNext startsAt startsIn
+unfolding ones begun statusMode readMode plainCommand addressFits latched addressed fateWord nextFate started statusByte fitting readStarted programStarted eraseStarted completed isConfirm confirmed confirmable commanded dataTaken dataGiven dataByte finished statusRead exec programmed weakened raised put mayGo cutAfter send byteOut sendAll sent goesOn waiting polls outcomeOf isPassed endedAs readCycles readOutcome putOut readOutputs startedBy readOn statusOn statusEnd afterStatus stopAnswer isSilent isCut bitAt withBit zeroBits numberWidth bytesOf numberOf labelBytes encoded kindOf eraseOn programOn isFailed mainOf mainRead pageFilled pagesFilled tableMain permitted searchAfter afterFill tryBlock tryTable tablesFilled table.tablePage isDataKind isTableKind copyBits copyTried afterTry copiesFilled thenTable dataSource isGiven statusShown takes givesFailed failsNext startsAt startsIn
 write-starts = refl

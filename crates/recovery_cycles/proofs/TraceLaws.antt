@@ -17,9 +17,9 @@ use Rattle.bus.proofs.StepLaws.{reset-command, status-ready}
 use Rattle.bus_polling.specs.Outcomes.{isPassed}
 use Rattle.bus_polling.specs.declared.Outcome.the-variants.{Passed}
 use Rattle.bus_polling.specs.Polling.{outcomeOf, statusReads}
-use Rattle.bus_sequences.specs.Cycles.{addressCycles, resetCycles, confirmCycles, readAddress, programData, eraseAddress, pageLine, readCycles, programCycles, eraseCycles}
+use Rattle.bus_sequences.specs.Cycles.{addressCycles, resetCycles, confirmCycles, readAddress, programData, eraseAddress, pageLine, readCycles, programCycles, eraseCycles, statusCycles}
 use Rattle.operations.specs.Trace.{ArrayOperation, readStarts, programStarts, eraseStarts}
-use Rattle.progress.specs.Progress.{Progress, progress, readOn, resetOn}
+use Rattle.progress.specs.Progress.{Progress, progress, readOn, resetOn, statusOn}
 use Rattle.progress.specs.Steps.{eraseOn, programOn}
 use Rattle.progress.specs.Kept.{Kept}
 use Rattle.state.specs.declared.State.{State}
@@ -28,14 +28,16 @@ use Rattle.read_page.specs.Fetching.{pageProgress}
 use Rattle.mount.specs.Mount.{mountRun}
 use Rattle.mount_laws.proofs.MountingLaws.{mount-keeps}
 use Rattle.format.specs.Format.{formatRun}
+use Rattle.format_laws.specs.Formatting.{marksDone}
 use Rattle.format_laws.proofs.FormattingLaws.{format-keeps}
-use Rattle.write_changes.specs.Changes.{Update, changeCall}
-use Rattle.write_changes.proofs.KeepLaws.{change-keeps}
-use Rattle.damage.proofs.ReplayLaws.{Leads, leads-first, leads-kept}
+use Rattle.write_changes.specs.Changes.{Update, changeCall, changeFirst}
+use Rattle.write_changes.proofs.KeepLaws.{call-keeps}
+use Rattle.damage.proofs.ReplayLaws.{Leads, leads-first, leads-kept, leads-status}
 use Rattle.recovery_cycles.specs.Starts.{Start, failsNext, startsIn, kindOf, Traced, TracedFrom}
 use Rattle.recovery_cycles.proofs.AllLaws.{All, all-append, all-mapped, all-repeated, all-sent}
 use Rattle.recovery_cycles.proofs.LatchLaws.{erase-row, program-row, program-bytes}
 use Rattle.recovery_cycles.proofs.FailLaws.{polls-pass}
+use Rattle.recovery_cycles.proofs.UnfailedLaws.{shown-failed, marks-unfailed}
 use Rattle.recovery_cycles.proofs.StartLaws.{Idle, Plain, starts-append, plain-command, plain-address, plain-in, plain-out, idle-status, idle-starts, operation-passes, operation-traced}
 
 traced-append : (g : Geometry) (ts us : List Start) (os ps : List ArrayOperation) → Traced g ts os → Traced g us ps → Traced g (ts ++ us) (os ++ ps)
@@ -90,6 +92,24 @@ module _ (s : Setting) (l : Line) where
             (λ u. rw (t, u, back .0 s d, back .1 d)))
             (λ t. rw t),
         subst (λ (ts : List Start). Traced (s .geometry) ts []) (sym (idle-starts s d (sent s l resetCycles) (all-sent Idle s l resetCycles (back .0, (asked .0, (idle-status, tt)))))) tt,
+      )
+
+  -- a status read starts nothing
+  pub status-starts : (d : Device) → startsIn s d (sent s l statusCycles) ≡ []
+  unfolding isConfirm
+  status-starts d =
+      idle-starts s d (sent s l statusCycles) (all-sent Idle s l statusCycles (plain-command 112 refl .0, (idle-status, tt)))
+
+  -- nor does it read E1h, where the operation before it did not fail
+  pub status-adds : l .chip .interface .failed ≡ 0 → Adds s l statusCycles []
+  unfolding isConfirm sent failsNext Traced
+  status-adds z =
+      let d = l .chip in
+      let asked = plain-command 112 refl in (
+        cases (admits l)
+            (λ t. rw (t, asked .0 s d, asked .1 d) (polls-pass s 1 (send s l (command 112)) (exec s d (command 112)) (shown-failed s d ∙ z)))
+            (λ t. rw t),
+        subst (λ (ts : List Start). Traced (s .geometry) ts []) (sym (status-starts d)) tt,
       )
 
   erase-adds : (row : ℕ) → Adds s l (eraseCycles s l row) (eraseStarts s l row)
@@ -216,20 +236,41 @@ module _ (s : Setting) (d : Device) where
 
 -- so every request has it, on any chip, however it ends
 module _ (s : Setting) (d : Device) (n : ℕ) where
-  begun : Leads s (callLine d n .chip) (progress (callLine d n) Passed [] []) × TracedFrom s (callLine d n .chip) (progress (callLine d n) Passed [] [])
+  abbrev from : Device
+  from = callLine d n .chip
+
+  begun : Leads s from (progress (callLine d n) Passed [] []) × TracedFrom s from (progress (callLine d n) Passed [] [])
   unfolding startsIn Traced
   begun = (leads-first s (callLine d n), tt)
 
-  pub change-traced : (st : State) (u : Update) → TracedFrom s (callLine d n .chip) (changeCall s d n st u .progress)
-  change-traced st u =
-      change-keeps s _ (traced-kept s (callLine d n .chip)) st u (progress (callLine d n) Passed [] []) begun .1
+  -- the status read that a write or an erase begins with
+  first-traced : Leads s from (changeFirst s d n) × TracedFrom s from (changeFirst s d n)
+  unfolding statusOn isPassed Traced
+  first-traced = (
+    leads-status s from (progress (callLine d n) Passed [] []) (begun .0),
+    subst (λ (ts : List Start). Traced (s .geometry) ts []) (sym (status-starts s (callLine d n) from)) tt,
+  )
 
-  pub format-traced : TracedFrom s (callLine d n .chip) (formatRun s d n .progress)
-  format-traced = format-keeps s _ (traced-kept s (callLine d n .chip)) d n begun .1
+  pub change-traced : (st : State) (u : Update) → TracedFrom s from (changeCall s d n st u .progress)
+  change-traced st u = call-keeps s _ (traced-kept s from) d n st u first-traced .1
 
-  pub mount-traced : TracedFrom s (callLine d n .chip) (mountRun s (callLine d n))
-  mount-traced = mount-keeps s _ (traced-kept s (callLine d n .chip)) (callLine d n) begun .1
+  -- the one after the marks of a formatting
+  status-traced : (p : Progress) → (isPassed (p .outcome) ≡ true → p .line .chip .interface .failed ≡ 0) → Leads s from p × TracedFrom s from p → Leads s from (statusOn s p) × TracedFrom s from (statusOn s p)
+  unfolding statusOn
+  status-traced p unfailed b = (
+    leads-status s from p (b .0),
+    cases (isPassed (p .outcome))
+        (λ t. rw t (subst (λ (os : List ArrayOperation). Traced (s .geometry) (startsIn s from (p .cycles ++ sent s (p .line) statusCycles)) os) (append-nil (p .started)) (sent-traced s from p (b .0) (b .1) statusCycles [] (status-adds s (p .line) (unfailed t)))))
+        (λ t. rw t (b .1)),
+  )
 
-  pub page-traced : (block page : ℕ) → TracedFrom s (callLine d n .chip) (pageProgress s d n block page)
+  pub format-traced : (state : State) → TracedFrom s from (formatRun s d n state .progress)
+  format-traced state =
+      format-keeps s _ (traced-kept s from) d n state begun (status-traced (marksDone s d n) (marks-unfailed s d n)) .1
+
+  pub mount-traced : TracedFrom s from (mountRun s (callLine d n))
+  mount-traced = mount-keeps s _ (traced-kept s from) (callLine d n) begun .1
+
+  pub page-traced : (block page : ℕ) → TracedFrom s from (pageProgress s d n block page)
   page-traced block page =
-      traced-kept s (callLine d n .chip) .read (rowOf (s .geometry) block page) 0 (s .geometry .main) (progress (callLine d n) Passed [] []) begun .1
+      traced-kept s from .read (rowOf (s .geometry) block page) 0 (s .geometry .main) (progress (callLine d n) Passed [] []) begun .1

@@ -118,7 +118,7 @@ module _ (s : Setting) where
       ap (λ (x : Line). outcomeOf (sendAll s x (replicate k status))) (send-off s l status f) ∙ ap outcomeOf (sendAll-stopped s (blocked l) (replicate k status) (blocked-stops l)) ∙ blocked-cut l g in
       record { by = λ e. clash e (ap isSilent cut); so = λ h. inr cut })
 
--- a confirm cycle that is taken, with the write-protect line high, leaves the chip busy by the next fate word
+-- a confirm cycle that is taken, of a read or with the write-protect line high, leaves the chip busy by the next fate word
 record Worded (fates : List ℕ) (d e : Device) : Type 0 where
   told : e .interface .illegal ≡ 0 → (e .interface .phase ≡ 7) × (e .interface .busy ≡ busyOf (fateWord fates (d .interface .fate)))
 
@@ -148,13 +148,19 @@ module _ (s : Setting) (d : Device) where
     unfolding eraseStarted
     erase-worded = rw (eq-eqb _ _ high) (search (worded-arms, worded-refused, worded-started) depth 9)
 
-    confirmed-worded : (code : ℕ) → Worded (s .fates) d (confirmed code s d)
-    unfolding confirmed
-    confirmed-worded code = search (worded-arms, worded-refused, read-worded, program-worded, erase-worded) depth 9
+  confirmed-worded : (code : ℕ) → (code ≡ 48) ⊎ (d .interface .protected ≡ 0) → Worded (s .fates) d (confirmed code s d)
+  unfolding confirmed
+  confirmed-worded code how =
+      cases (eqb code 48)
+      (λ t. rw t read-worded)
+      (λ t.
+      let high : d .interface .protected ≡ 0 = ⊎-elim (λ e. absurd (eqb-false code 48 t e)) (λ e. e) how in
+      rw t (worded-arms (s .fates) d (eqb code 16) _ _ (program-worded high) (erase-worded high)))
 
-    confirm-worded : (code : ℕ) → isConfirm code ≡ true → Worded (s .fates) d (exec s d (command code))
-    unfolding exec commanded
-    confirm-worded code c = rw c (worded-arms (s .fates) d (confirmable s d) _ _ (confirmed-worded code) (worded-refused (s .fates) d))
+  confirm-worded : (code : ℕ) → isConfirm code ≡ true → (code ≡ 48) ⊎ (d .interface .protected ≡ 0) → Worded (s .fates) d (exec s d (command code))
+  unfolding exec commanded
+  confirm-worded code c how =
+      rw c (worded-arms (s .fates) d (confirmable s d) _ _ (confirmed-worded code how) (worded-refused (s .fates) d))
 
 -- the confirm cycles that a request has sent, and how its last operation ended
 pub record Heard (fates : List ℕ) (starts : List Start) (o : Outcome) : Type 0 where
@@ -166,7 +172,8 @@ unfolding SlowLast
 unstarted-heard fates o h = record { by = λ e. clash e h; so = λ x. absurd x }
 
 -- an operation: the cycles before its confirm cycle, that, 70h, the status reads, and others after them
-module _ (s : Setting) (l : Line) (before out : List Cycle) (code : ℕ) (confirms : isConfirm code ≡ true) (plain-before : All Plain before) (plain-end : All Plain out) (high : l .chip .interface .protected ≡ 0) where
+module _ (s : Setting) (l : Line) (before out : List Cycle) (code : ℕ) (confirms : isConfirm code ≡ true) (plain-before : All Plain before) (plain-end : All Plain out)
+    (how : goesOn (send s (sendAll s l before) (command code)) ≡ true → (code ≡ 48) ⊎ (l .chip .interface .protected ≡ 0)) where
   abbrev reached : Line
   reached = sendAll s l before
 
@@ -199,7 +206,8 @@ module _ (s : Setting) (l : Line) (before out : List Cycle) (code : ℕ) (confir
   started-ends h =
       let g = going left h in
       let chip : left .chip ≡ exec s (reached .chip) (command code) = chip-on s reached (command code) h in
-      let word = confirm-worded s (reached .chip) (all-line s l before ∙ high) code confirms .told (sym (ap (λ (x : Device). x .interface .illegal) chip) ∙ g .legal) in
+      let kind : (code ≡ 48) ⊎ (reached .chip .interface .protected ≡ 0) = ⊎-elim inl (λ e. inr (all-line s l before ∙ e)) (how h) in
+      let word = confirm-worded s (reached .chip) code confirms kind .told (sym (ap (λ (x : Device). x .interface .illegal) chip) ∙ g .legal) in
       let phase : left .chip .interface .phase ≡ 7 = ap (λ (x : Device). x .interface .phase) chip ∙ word .0 in
       let busy : left .chip .interface .busy ≡ busyOf (fateWord (s .fates) (reached .chip .interface .fate)) = ap (λ (x : Device). x .interface .busy) chip ∙ word .1 in
       subst (λ (x : Line). Waits 256 (busyOf (fateWord (s .fates) (reached .chip .interface .fate))) (outcomeOf x)) (sym ended-is)

@@ -16,11 +16,11 @@ use Rattle.copies.specs.Table.{lists}
 use Rattle.recovery.specs.Calls.{Call, Typed, Store, settingOf, cyclesOf, traceOf}
 use Rattle.recovery_proof.specs.Sent.{lentFor, chipFor}
 use Rattle.damage.specs.Run.{failedIn}
-use Rattle.recovery_cycles.specs.Starts.{Start, startsIn, failedRead, Changes, TracesEach}
+use Rattle.recovery_cycles.specs.Starts.{Start, startsIn, failedRead, Changes, TracesEach, Modifies}
 
--- a list of cycles without 10h and D0h
+-- a list of cycles without 80h, 60h, 10h and D0h
 abbrev pub OnlyReads : List Cycle → Type 0
-OnlyReads cycles = (xs ys : List Cycle) (code : ℕ) → cycles ≡ xs ++ (command code ∷ ys) → Changes code → ⊥
+OnlyReads cycles = (xs ys : List Cycle) (code : ℕ) → cycles ≡ xs ++ (command code ∷ ys) → Modifies code → ⊥
 
 -- the address register of a chip names a block that bears no factory mark, that the table current on the chip does not
 -- list, and that has not failed
@@ -56,3 +56,7 @@ SparesCycles g y =
 -- the blocks that fail in the trace of a further call are those for which it reads E1h
 abbrev pub FailsRead : Geometry → Store → Type 0
 FailsRead g y = (c : Call) → Typed c → (b : ℕ) → failedIn b (traceOf g c y) ≡ failedRead g b (startsOf g c y)
+
+-- a further call with the write-protect line low sends none of them
+abbrev pub ProtectedSends : Geometry → Store → Type 0
+ProtectedSends g y = (c : Call) → (lentFor c .protected ≡ 0 → ⊥) → OnlyReads (cyclesOf g c y)

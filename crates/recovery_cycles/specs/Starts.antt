@@ -6,7 +6,7 @@ use mathlib.Core.Logic.{_⊎_}
 use mathlib.Core.Path.{_≡_}
 use lib.Dec.{eqb}
 use Rattle.geometry.specs.declared.Geometry.{Geometry}
-use Rattle.chip_interface.specs.Interface.{readConfirm, programConfirm, eraseConfirm}
+use Rattle.chip_interface.specs.Interface.{readConfirm, programConfirm, eraseConfirm, programCode, eraseCode}
 use Rattle.chip_array.specs.Device.{Device, Setting, blockAt, pageAt}
 use Rattle.chip.specs.Chip.{Cycle, exec, isConfirm, statusShown}
 use Rattle.chip.specs.Chip.Cycle.{command, address, dataIn, dataOut, status, parameterAddress, parameterOut}
@@ -118,7 +118,11 @@ OnChip g o = (o .kind ≡ 1) ⊎ (o .block < g .blocks)
 abbrev pub Changes : ℕ → Type 0
 Changes code = (code ≡ programConfirm) ⊎ (code ≡ eraseConfirm)
 
--- the program or erase that such a cycle starts on a chip
+-- 80h, 60h, 10h and D0h: the commands of a program and of an erase
+abbrev pub Modifies : ℕ → Type 0
+Modifies code = (code ≡ programCode) ⊎ ((code ≡ eraseCode) ⊎ Changes code)
+
+-- the program or erase that a 10h or D0h cycle starts on a chip
 pub record ChangeOn (g : Geometry) (code : ℕ) (d : Device) (o : ArrayOperation) : Type 0 where
   pub kind-is : o .kind ≡ kindOf code
   pub before-is : o .before ≡ d .array

@@ -20,8 +20,9 @@ use Rattle.chip_array.specs.Device.{Device, device, fitting, readStarted, progr
 use Rattle.chip.specs.Chip.{isConfirm, confirmed, confirmable, commanded, dataTaken, dataGiven, dataByte, finished, statusRead, exec}
 use Rattle.bus.specs.Line.{mayGo, cutAfter, send, byteOut, sendAll, sent, goesOn}
 use Rattle.bus_polling.specs.Polling.{waiting, polls, outcomeOf, endedAs}
-use Rattle.bus_polling.specs.Outcomes.{isPassed, isFailed, isSilent, isCut}
+use Rattle.bus_polling.specs.Outcomes.{isPassed, isFailed, isSilent, isCut, isProtected}
 use Rattle.bus_sequences.specs.Cycles.{readCycles, readOutcome, putOut, readOutputs}
+use Rattle.operations.specs.Ends.{statusEnd}
 use Rattle.operations.specs.Trace.{ArrayOperation, startedBy}
 use Rattle.pages.specs.Check.{zeroBits}
 use Rattle.pages.specs.Layout.{tableKind, label, whole, allOnes, storedCheck, countedCheck, kindOf, numberWidth, isDataKind, isTableKind, labelOf, numberOf, bytesOf, labelBytes, encoded}
@@ -34,25 +35,25 @@ use Rattle.scan_found.specs.Found.{marksTo}
 use Rattle.state_choose.specs.Choose.{permitted, searchAfter, countPermitted}
 use Rattle.state.specs.State.{blank, mounted, copyBits}
 use Rattle.state.specs.declared.State.{State}
-use Rattle.progress.specs.Progress.{readOn, resetOn}
+use Rattle.progress.specs.Progress.{readOn, resetOn, statusOn}
 use Rattle.progress.specs.Steps.{eraseOn, programOn}
-use Rattle.request.specs.Call.{Result, result, resultOf, startedIn, sized, stopAnswer, endAt}
+use Rattle.request.specs.Call.{Result, result, resultOf, startedIn, sized, stopAnswer, endAt, statusAnswer, statusState}
 use Rattle.request_refusals.specs.Refusals.{refusal, refusalOf}
 use Rattle.scan_block.specs.Pages.{pagesRead}
 use Rattle.scan.specs.Scan.{blocksRead}
 use Rattle.fill.specs.Fill.{mainOf, mainRead, pageFilled, pagesFilled, tableMain, dataSource, isGiven}
-use Rattle.fill_tables.specs.Tables.{Tabled, afterFill, tryBlock, tryTable, tablesFilled}
+use Rattle.fill_tables.specs.Tables.{Tabled, afterFill, tryBlock, tryTable, tablesFilled, afterStatus}
 use Rattle.write_changes.specs.Changes.{writeUpdate, afterTry, copyTried, copiesFilled, thenTable, changeCall, writeRequest}
 use Rattle.format_marks.specs.Marks.{marksRead}
 use Rattle.format_erase.specs.Round.{afterErase, blockErased, failedAt, joined, numbersAt, erasedTo}
-use Rattle.format.specs.Format.{firstState, tooFew, tablesRun, roundRun, marksRun, formatRequest}
+use Rattle.format.specs.Format.{firstState, tooFew, tablesRun, roundRun, marksRun, formatRequest, statusRun}
 use Rattle.format_laws.specs.Formatting.{Acknowledged}
 use Rattle.format_laws.proofs.FormattingLaws.{format-acknowledged}
 use Rattle.damage.specs.Run.{failedIn}
 use Rattle.recovery.specs.Book.{Change, write, entered, Note, note, Account, account, blankBook, blankAccount, changed, fed}
 use Rattle.recovery.specs.Copy.{isDataProgram, sentPage, sentPages, hasCopy}
 use Rattle.recovery.specs.Calls as calls
-use Rattle.recovery.specs.Calls.{Lent, toWrite, Event, called, powerLost, AllPossible, Store, store, underWay, settingOf, mountOn, copyOfNote, failedAfter, failedNext, step, unpowered, after, formatOn}
+use Rattle.recovery.specs.Calls.{Lent, toWrite, Event, called, powerLost, AllPossible, Store, store, underWay, settingOf, mountOn, copyOfNote, failedAfter, failedNext, step, unpowered, after, formatOn, chipOf}
 use Rattle.recovery.specs.Recovery.{readingBy, Unaffected, none-under-way, no-copy, no-byte}
 use Rattle.recovery_proof.proofs.RecoveryLaws.{recovers}
 use Rattle.recovery_proof.proofs.AnswerLaws.{comes-back}
@@ -62,7 +63,7 @@ small = record { main = 32; spare = 16; pages = 4; blocks = 4; logical = 2 }
 
 -- nothing fails; what is cut takes effect on every bit
 abbrev lent : ℕ → Lent
-lent allowed = record { mask = replicate 192 255; fates = []; allowed = allowed }
+lent allowed = record { mask = replicate 192 255; fates = []; allowed = allowed; protected = 0 }
 
 abbrev erased : Device
 erased = device poweredOn (replicate 768 255) (replicate 48 255) (replicate 4 0)
@@ -80,23 +81,23 @@ chip =
     device (record { phase = 1; count = 5; address = 196608; first = 0; column = 48; operation = 2; busy = 0; failed = 0; loaded = 0; fate = 0; illegal = 0; protected = 0 })
     (tablePages 0 ++ (tablePages 1 ++ (tablePages 2 ++ (tablePages 3 ++ replicate 576 255)))) (tablePages 3) (4 ∷ 0 ∷ 0 ∷ 0 ∷ [])
 
-format-is : formatOn small (lent 10000) erased (blank 0) ≡ result 0 state chip 354
-unfolding ones begun statusMode readMode plainCommand addressFits latched addressed fateWord nextFate started statusByte fitting readStarted programStarted eraseStarted completed isConfirm confirmed confirmable commanded dataTaken dataGiven dataByte finished statusRead exec programmed weakened raised put mayGo cutAfter send byteOut sendAll sent goesOn waiting polls outcomeOf isPassed endedAs readCycles readOutcome putOut readOutputs startedBy readOn resetOn pagesRead blocksRead sized stopAnswer isSilent isCut bitAt withBit countBits zeroBits numberWidth bytesOf numberOf labelBytes encoded kindOf labelOf allOnes storedCheck countedCheck whole isMarked marksTo marksRead afterErase blockErased failedAt erasedTo eraseOn programOn isFailed mainOf mainRead pageFilled pagesFilled tableMain permitted searchAfter countPermitted afterFill tryBlock tryTable tablesFilled firstState tooFew tablesRun roundRun marksRun table.tablePage isDataKind isTableKind anyTo greatest joined numbersAt greatestBelow greatestTo hasNumber resultOf formatRequest
+format-is : formatOn small (lent 10000) erased (blank 0) ≡ result 0 state chip 356
+unfolding ones begun statusMode readMode plainCommand addressFits latched addressed fateWord nextFate started statusByte fitting readStarted programStarted eraseStarted completed isConfirm confirmed confirmable commanded dataTaken dataGiven dataByte finished statusRead exec programmed weakened raised put mayGo cutAfter send byteOut sendAll sent goesOn waiting polls outcomeOf isPassed endedAs readCycles readOutcome putOut readOutputs startedBy readOn statusOn statusEnd afterStatus statusAnswer statusState isProtected resetOn pagesRead blocksRead sized stopAnswer isSilent isCut bitAt withBit countBits zeroBits numberWidth bytesOf numberOf labelBytes encoded kindOf labelOf allOnes storedCheck countedCheck whole isMarked marksTo marksRead afterErase blockErased failedAt erasedTo eraseOn programOn isFailed mainOf mainRead pageFilled pagesFilled tableMain permitted searchAfter countPermitted afterFill tryBlock tryTable tablesFilled firstState tooFew tablesRun roundRun marksRun statusRun table.tablePage isDataKind isTableKind anyTo greatest joined numbersAt greatestBelow greatestTo hasNumber resultOf formatRequest
 format-is = refl
 
--- the write of logical block 0, page 0 that sends 235 cycles, cut before the last, which would read its last program's status
+-- the write of logical block 0, page 0 that sends 237 cycles, cut before the last, which would read its last program's status
 abbrev page : List ℕ
 page = replicate 32 165
 
 abbrev cut : Tabled
-cut = changeCall (settingOf small (lent 234)) chip 234 state (writeUpdate state 0 0 page)
+cut = changeCall (settingOf small (lent 236)) chip 236 state (writeUpdate state 0 0 page)
 
 abbrev arrayOf : Tabled → List ℕ
 arrayOf t = t .progress .line .chip .array
 
 -- its answer, whether it has a complete copy, the answer of a mount, and what page 0 of logical block 0 then reads
 pub cut-told : cut .answer ∷ cond (hasCopy small (arrayOf cut) (cut .progress .started)) 1 0 ∷ mountAnswer small (arrayOf cut) ∷ reading small (arrayOf cut) 0 0 0 ≡ 11 ∷ 1 ∷ 0 ∷ page
-unfolding ones begun statusMode readMode plainCommand addressFits latched addressed fateWord nextFate started statusByte fitting readStarted programStarted eraseStarted completed isConfirm confirmed confirmable commanded dataTaken dataGiven dataByte finished statusRead exec programmed weakened raised put mayGo cutAfter send byteOut sendAll sent goesOn waiting polls outcomeOf isPassed endedAs readCycles readOutcome putOut readOutputs startedBy readOn stopAnswer isSilent isCut bitAt withBit zeroBits numberWidth bytesOf numberOf labelBytes encoded kindOf eraseOn programOn isFailed mainOf mainRead pageFilled pagesFilled tableMain permitted searchAfter afterFill tryBlock tryTable tablesFilled table.tablePage isDataKind isTableKind copyBits copyTried afterTry copiesFilled thenTable dataSource isGiven hasCopy sentPages sentPage isDataProgram someBelow better pick isMarked agrees completeTo isComplete isData isCopyOf currentCopy current.pageOf whole allOnes storedCheck countedCheck labelOf countBits clearFrom isTable currentTable sharesNumber clashesAt clashes judgeTable mountAnswer table.clearWhere table.rightFirst table.rightPage table.rightTo table.rightTable
+unfolding ones begun statusMode readMode plainCommand addressFits latched addressed fateWord nextFate started statusByte fitting readStarted programStarted eraseStarted completed isConfirm confirmed confirmable commanded dataTaken dataGiven dataByte finished statusRead exec programmed weakened raised put mayGo cutAfter send byteOut sendAll sent goesOn waiting polls outcomeOf isPassed endedAs readCycles readOutcome putOut readOutputs startedBy readOn statusOn statusEnd afterStatus statusAnswer statusState isProtected stopAnswer isSilent isCut bitAt withBit zeroBits numberWidth bytesOf numberOf labelBytes encoded kindOf eraseOn programOn isFailed mainOf mainRead pageFilled pagesFilled tableMain permitted searchAfter afterFill tryBlock tryTable tablesFilled table.tablePage isDataKind isTableKind copyBits copyTried afterTry copiesFilled thenTable dataSource isGiven hasCopy sentPages sentPage isDataProgram someBelow better pick isMarked agrees completeTo isComplete isData isCopyOf currentCopy current.pageOf whole allOnes storedCheck countedCheck labelOf countBits clearFrom isTable currentTable sharesNumber clashesAt clashes judgeTable mountAnswer table.clearWhere table.rightFirst table.rightPage table.rightTo table.rightTable
 cut-told = refl
 
 cut-answer : cut .answer ≡ 11
@@ -120,7 +121,7 @@ before = calls.begun small (lent 10000) erased (blank 0)
 
 -- power is lost, and memory comes back as zeros
 abbrev list : List Event
-list = called (toWrite (lent 234) 0 0 page) ∷ powerLost (blank 0) (replicate 48 0) ∷ []
+list = called (toWrite (lent 236) 0 0 page) ∷ powerLost (blank 0) (replicate 48 0) ∷ []
 
 abbrev stored : Store
 stored = after small list before
@@ -130,16 +131,16 @@ abbrev afterCut : Geometry → Store → Change → Result → List ArrayOperati
 afterCut g y c r os =
     store (r .state) (r .chip) (fed g (changed c (r .answer) os) (y .account)) (y .marked) (failedAfter (y .failed) os)
 
-write-steps : (g : Geometry) (a : Lent) (l p : ℕ) (bytes : List ℕ) (y : Store) → refusalOf (settingOf g a) (y .chip) (y .state) l p bytes ≡ 0
-    → let t = changeCall (settingOf g a) (y .chip) (a .allowed) (y .state) (writeUpdate (y .state) l p bytes) in
+write-steps : (g : Geometry) (a : Lent) (l p : ℕ) (bytes : List ℕ) (y : Store) → refusalOf (settingOf g a) (chipOf a (y .chip)) (y .state) l p bytes ≡ 0
+    → let t = changeCall (settingOf g a) (chipOf a (y .chip)) (a .allowed) (y .state) (writeUpdate (y .state) l p bytes) in
     step g (toWrite a l p bytes) y ≡ afterCut g y (write l p bytes) (endAt (a .allowed) (t .answer) (t .state) (t .progress .line)) (t .progress .started)
 unfolding resultOf startedIn step writeRequest failedNext
-write-steps g a l p bytes y z = rw (eq-eqb (refusalOf (settingOf g a) (y .chip) (y .state) l p bytes) 0 z, calls.answerOf)
+write-steps g a l p bytes y z = rw (eq-eqb (refusalOf (settingOf g a) (chipOf a (y .chip)) (y .state) l p bytes) 0 z, calls.answerOf)
 
 format-done : formatOn small (lent 10000) erased (blank 0) .answer ≡ 0
 format-done = ap (λ (r : Result). r .answer) format-is
 
-unrefused : refusalOf (settingOf small (lent 234)) chip state 0 0 page ≡ 0
+unrefused : refusalOf (settingOf small (lent 236)) chip state 0 0 page ≡ 0
 unfolding refusal
 unrefused =
     let a = subst (Acknowledged (settingOf small (lent 10000))) format-is (format-acknowledged (settingOf small (lent 10000)) erased 10000 (blank 0) (bytes-same 192 255 (omega arith)) format-done) in
@@ -161,7 +162,7 @@ begun-is = ap (λ (r : Result). store (r .state) (r .chip) (blankAccount small) 
 stored-is : stored ≡ unpowered (blank 0) (replicate 48 0) (afterCut small start (write 0 0 page) (endAt 234 (cut .answer) (cut .state) (cut .progress .line)) (cut .progress .started))
 unfolding after
 stored-is =
-    ap (unpowered (blank 0) (replicate 48 0)) (ap (step small (toWrite (lent 234) 0 0 page)) begun-is ∙ write-steps small (lent 234) 0 0 page start unrefused)
+    ap (unpowered (blank 0) (replicate 48 0)) (ap (step small (toWrite (lent 236) 0 0 page)) begun-is ∙ write-steps small (lent 236) 0 0 page start unrefused)
 
 -- a request answered 11 is noted, and no page changes
 fed-cut : (c : Change) (k : ℕ) (os : List ArrayOperation) → k ≡ 11 → fed small (changed c k os) (blankAccount small) ≡ account (blankBook small) (some (note c os))

@@ -6,7 +6,7 @@ use Rattle.bools.proofs.BoolLaws.{clash}
 use Rattle.mount_laws.proofs.MountingLaws.{mount-unsized, mount-heard}
 use Rattle.state.specs.State.{mounted}
 use Rattle.request.specs.Call.{resultOf}
-use Rattle.recovery.specs.Calls.{Call, toMount, toRead, toWrite, toErase, toIdentify, Typed, Store, settingOf, answerOf, step}
+use Rattle.recovery.specs.Calls.{Call, toMount, toRead, toWrite, toErase, toIdentify, Typed, Store, settingOf, answerOf, step, chipOf}
 use Rattle.recovery.specs.Recovery.{Always}
 use Rattle.recovery_proof.specs.Answers.{RightlyCalled, ComesBack, ReadsAnswered, WritesAnswered, ErasesAnswered}
 use Rattle.recovery_proof.specs.Acknowledged.{OfMounted, DoneReads}
@@ -23,14 +23,14 @@ rightly-called =
     by-inv RightlyCalled
     (λ g y i a long z.
     let s = settingOf g a in
-    clash (fit-sizes s (y .chip) (i .fits) long) (mount-unsized s (y .chip) (a .allowed) (y .state) .0 z))
+    clash (fit-sizes s (chipOf a (y .chip)) (i .fits) long) (mount-unsized s (chipOf a (y .chip)) (a .allowed) (y .state) .0 z))
 
 pub comes-back : Always ComesBack
 comes-back =
     by-inv ComesBack
     (λ g y i a long fast h.
     let s = settingOf g a in
-    mount-heard s (y .chip) (a .allowed) (y .state) (fit-sizes s (y .chip) (i .fits) long) fast h ∙ i .stored .mounts)
+    mount-heard s (chipOf a (y .chip)) (a .allowed) (y .state) (fit-sizes s (chipOf a (y .chip)) (i .fits) long) fast h ∙ i .stored .mounts)
 
 pub reads-answered : Always ReadsAnswered
 reads-answered = by-inv ReadsAnswered read-told

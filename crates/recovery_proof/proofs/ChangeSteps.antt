@@ -20,24 +20,24 @@ use Rattle.copies.specs.Current.{reading}
 use Rattle.state.specs.State.{mounted}
 use Rattle.state.specs.declared.State.{State}
 use Rattle.request.specs.Call.{Result, result, Performed, unsent, sizedFor, callLine, resultOf, sentIn, startedIn}
-use Rattle.request.proofs.CallLaws.{sizes, call-high}
+use Rattle.request.proofs.CallLaws.{sizes}
 use Rattle.request_refusals.specs.Refusals.{refusal, refusalOf}
 use Rattle.request_refusals.proofs.RefusalLaws.{by-refusal, accepts}
 use Rattle.fill_tables.specs.Tables.{Tabled}
 use Rattle.write_changes.specs.Changes.{changeCall, changing, changeRequest, writeRequest, eraseRefusal, eraseRequest}
 use Rattle.damage.proofs.ReplayLaws.{replayed}
 use Rattle.recovery.specs.Book.{Book, Same, Change, write, erase, entered, note, Account, account, changed, isUnderWay, settled, fed}
-use Rattle.recovery.specs.Calls.{Lent, toWrite, toErase, Store, store, settingOf, writeOn, eraseOf, runOf, traceOf, copyOfNote, failedAfter, failedNext, step}
+use Rattle.recovery.specs.Calls.{Lent, toWrite, toErase, Store, store, settingOf, writeOn, eraseOf, runOf, traceOf, copyOfNote, failedAfter, failedNext, step, chipOf}
 use Rattle.recovery_proof.specs.Sent.{Sends}
 use Rattle.recovery.specs.Recovery.{Spared}
-use Rattle.write_laws.specs.Changing.{ChangeAnswer, is-done, is-worn, is-spent, is-silent, is-cut}
+use Rattle.write_laws.specs.Changing.{ChangeAnswer, is-done, is-worn, is-spent, is-silent, is-cut, is-protected}
 use Rattle.recovery_write.specs.Changed.{Agrees, Proper, updateOf, arrayOf, Changed}
 use Rattle.recovery_write.proofs.ChangeLaws.{change-ends}
 use Rattle.recovery_stored.proofs.KnowsLaws.{knows-mounted}
 use Rattle.recovery_proof.specs.Answers as answers
 use Rattle.recovery_proof.specs.Answers.{AnyChangeAnswer, ChangeAnswered, is-geometry, is-address, is-length, is-unmounted}
 use Rattle.recovery_proof.specs.Invariant.{dueOf, Up, Inv}
-use Rattle.recovery_proof.proofs.InvariantLaws.{up-inv, stopped-unmounted, is-up, failed-none}
+use Rattle.recovery_proof.proofs.InvariantLaws.{up-inv, foundBy, found-inv, stopped-unmounted, is-up, failed-none}
 use Rattle.recovery_proof.proofs.SizeLaws.{change-leads, change-counts, change-lengths}
 
 -- the book after a write or an erase, by its answer
@@ -48,6 +48,10 @@ fed-done g c answer os y z = rw (eq-eqb answer 0 z)
 fed-noted : (g : Geometry) (c : Change) (answer : ℕ) (os : List ArrayOperation) (y : Account) → (answer ≡ 0 → ⊥) → isUnderWay answer ≡ true → fed g (changed c answer os) y ≡ account (y .book) (some (note c os))
 unfolding fed
 fed-noted g c answer os y x t = rw (ne-eqb answer 0 x, t)
+
+pub fed-protected : (g : Geometry) (c : Change) (answer : ℕ) (os : List ArrayOperation) (y : Account) → answer ≡ 13 → fed g (changed c answer os) y ≡ y
+unfolding fed
+fed-protected g c answer os y z = ap (λ (k : ℕ). fed g (changed c k os) y) z
 
 fed-refused : (g : Geometry) (c : Change) (answer : ℕ) (y : Account) → (answer ≡ 0 → ⊥) → answer < 8 → fed g (changed c answer []) y ≡ y
 unfolding fed
@@ -70,13 +74,15 @@ any-answer is-worn = answers.is-worn
 any-answer is-spent = answers.is-spent
 any-answer is-silent = answers.is-silent
 any-answer is-cut = answers.is-cut
+any-answer is-protected = answers.is-protected
 
-not-done : (answer : ℕ) → ChangeAnswer answer → (answer ≡ 0 → ⊥) → isUnderWay answer ≡ true
-not-done answer is-done x = absurd (x refl)
-not-done answer is-worn x = refl
-not-done answer is-spent x = refl
-not-done answer is-silent x = refl
-not-done answer is-cut x = refl
+not-done : (answer : ℕ) → ChangeAnswer answer → (answer ≡ 0 → ⊥) → (answer ≡ 13 → ⊥) → isUnderWay answer ≡ true
+not-done answer is-done x x' = absurd (x refl)
+not-done answer is-worn x x' = refl
+not-done answer is-spent x x' = refl
+not-done answer is-silent x x' = refl
+not-done answer is-cut x x' = refl
+not-done answer is-protected x x' = absurd (x' refl)
 
 -- the store after it
 abbrev afterChange : Geometry → Store → Change → Result → List ArrayOperation → Store
@@ -84,20 +90,20 @@ afterChange g y c r os =
     store (r .state) (r .chip) (fed g (changed c (r .answer) os) (y .account)) (y .marked) (failedAfter (y .failed) os)
 
 -- a request that is not refused
-module _ (g : Geometry) (y : Store) (i : Inv g y) (u : Up g y) (a : Lent) (mask-bytes : Bytes (a .mask)) (t : sizedFor (settingOf g a) (y .chip) ≡ true) (c : Change) (proper : Proper g c) where
+module _ (g : Geometry) (y : Store) (i : Inv g y) (u : Up g y) (a : Lent) (mask-bytes : Bytes (a .mask)) (t : sizedFor (settingOf g a) (chipOf a (y .chip)) ≡ true) (c : Change) (proper : Proper g c) where
   abbrev s : Setting
   s = settingOf g a
 
   abbrev run : Tabled
-  run = changeCall s (y .chip) (a .allowed) (y .state) (updateOf (y .state) c)
+  run = changeCall s (chipOf a (y .chip)) (a .allowed) (y .state) (updateOf (y .state) c)
 
   abbrev os : List ArrayOperation
   os = run .progress .started
 
   abbrev r : Result
-  r = changing s (y .chip) (a .allowed) (y .state) (updateOf (y .state) c)
+  r = changing s (chipOf a (y .chip)) (a .allowed) (y .state) (updateOf (y .state) c)
 
-  called : Called s (callLine (y .chip) (a .allowed))
+  called : Called s (callLine (chipOf a (y .chip)) (a .allowed))
   called =
       let z = sizes g (length (y .chip .array)) (length (y .chip .register)) (length (y .chip .history)) (length (a .mask)) t in
       record {
@@ -113,10 +119,10 @@ module _ (g : Geometry) (y : Store) (i : Inv g y) (u : Up g y) (a : Lent) (mask-
 
   pub change-is : Changed s c (y .account .book) (y .marked) (y .failed) run
   change-is =
-      change-ends s (y .chip) (a .allowed) (y .state) c (y .account .book) (y .marked) (y .failed) mask-bytes called (call-high (y .chip) (a .allowed)) (i .marks) (u .agrees) proper
+      change-ends s (chipOf a (y .chip)) (a .allowed) (y .state) c (y .account .book) (y .marked) (y .failed) mask-bytes called (i .marks) (u .agrees) proper
 
   still-fits : lengthsFit g (r .chip) ≡ true
-  still-fits = lengths-fit g (change-lengths s (y .chip) (a .allowed) (y .state) (updateOf (y .state) c)) ∙ i .fits
+  still-fits = lengths-fit g (change-lengths s (chipOf a (y .chip)) (a .allowed) (y .state) (updateOf (y .state) c)) ∙ i .fits
 
   abbrev next : Account
   next = fed g (changed c (run .answer) os) (y .account)
@@ -132,11 +138,22 @@ module _ (g : Geometry) (y : Store) (i : Inv g y) (u : Up g y) (a : Lent) (mask-
         quiet = ap (λ (x : Account). x .noted) next-is ∙ u .quiet;
       })
 
+  -- not taken by a protected chip
+  untaken : run .answer ≡ 13 → Inv g (afterChange g y c r os)
+  untaken z =
+      let next-is = fed-protected g c (run .answer) os (y .account) z in
+      up-inv g (afterChange g y c r os) still-fits (change-is .marks)
+      (record {
+        agrees = subst (λ (b : Book). Agrees g (arrayOf run) (run .state) b (failedAfter (y .failed) os)) (sym (ap (λ (x : Account). x .book) next-is)) (change-is .kept z);
+        ready = change-is .kept-ready z;
+        quiet = ap (λ (x : Account). x .noted) next-is ∙ u .quiet;
+      })
+
   -- under way
-  stops : (run .answer ≡ 0 → ⊥) → Inv g (afterChange g y c r os)
+  stops : (run .answer ≡ 0 → ⊥) → (run .answer ≡ 13 → ⊥) → Inv g (afterChange g y c r os)
   unfolding settled copyOfNote
-  stops x =
-      let next-is = fed-noted g c (run .answer) os (y .account) x (not-done (run .answer) (change-is .answers) x) in
+  stops x x' =
+      let next-is = fed-noted g c (run .answer) os (y .account) x (not-done (run .answer) (change-is .answers) x x') in
       record {
         fits = still-fits;
         marks = change-is .marks;
@@ -144,27 +161,32 @@ module _ (g : Geometry) (y : Store) (i : Inv g y) (u : Up g y) (a : Lent) (mask-
         table = change-is .table;
         table-is = change-is .table-is;
         reads = subst (λ (n : Account). Same g (reading g (arrayOf run) (change-is .table)) (dueOf g (arrayOf run) n)) (sym next-is) (change-is .reads x);
-        is = inr (stopped-unmounted g (run .state) (change-is .stopped x));
+        is = inr (stopped-unmounted g (run .state) (change-is .stopped x x'));
       }
 
   pub change-inv : Inv g (afterChange g y c r os)
   change-inv =
-      cases (eqb (run .answer) 0) (λ z. done (eqb-true (run .answer) 0 z)) (λ z. stops (eqb-false (run .answer) 0 z))
+      cases (eqb (run .answer) 0)
+      (λ z. done (eqb-true (run .answer) 0 z))
+      (λ z.
+      cases (eqb (run .answer) 13)
+      (λ w. untaken (eqb-true (run .answer) 13 w))
+      (λ w. stops (eqb-false (run .answer) 0 z) (eqb-false (run .answer) 13 w)))
 
 -- what a request brings that is not refused
 record Admitted (g : Geometry) (y : Store) (a : Lent) (c : Change) : Type 0 where
-  sizes-fit : sizedFor (settingOf g a) (y .chip) ≡ true
+  sizes-fit : sizedFor (settingOf g a) (chipOf a (y .chip)) ≡ true
   is-mounted : mounted (y .state) (g .blocks) (g .logical) ≡ true
   proper : Proper g c
 
 -- a request whose refusal is k, 0 for none
 module _ (g : Geometry) (y : Store) (i : Inv g y) (a : Lent) (mask-bytes : Bytes (a .mask)) (c : Change) (k : ℕ) (small : k < 8) (told : AnyChangeAnswer k) (admitted : k ≡ 0 → Admitted g y a c) where
   abbrev whole : Tabled
-  whole = changeCall (settingOf g a) (y .chip) (a .allowed) (y .state) (updateOf (y .state) c)
+  whole = changeCall (settingOf g a) (chipOf a (y .chip)) (a .allowed) (y .state) (updateOf (y .state) c)
 
   abbrev request : Performed Result
   request =
-      cond (eqb k 0) (changeRequest (settingOf g a) (y .chip) (a .allowed) (y .state) (updateOf (y .state) c)) (unsent (result k (y .state) (y .chip) 0))
+      cond (eqb k 0) (changeRequest (settingOf g a) (chipOf a (y .chip)) (a .allowed) (y .state) (updateOf (y .state) c)) (unsent (result k (y .state) (chipOf a (y .chip)) 0))
 
   abbrev answered : Result
   answered = resultOf request
@@ -172,10 +194,10 @@ module _ (g : Geometry) (y : Store) (i : Inv g y) (a : Lent) (mask-bytes : Bytes
   abbrev trace : List ArrayOperation
   trace = startedIn request
 
-  refused : eqb k 0 ≡ false → afterChange g y c answered trace ≡ y
+  refused : eqb k 0 ≡ false → afterChange g y c answered trace ≡ foundBy a y
   unfolding resultOf startedIn
   refused f =
-      rw f (λ j. store (y .state) (y .chip) (fed-refused g c k (y .account) (eqb-false k 0 f) small j) (y .marked) (failed-none (y .failed) j))
+      rw f (λ j. store (y .state) (chipOf a (y .chip)) (fed-refused g c k (y .account) (eqb-false k 0 f) small j) (y .marked) (failed-none (y .failed) j))
 
   module _ (t : eqb k 0 ≡ true) where
     adm : Admitted g y a c
@@ -192,7 +214,7 @@ module _ (g : Geometry) (y : Store) (i : Inv g y) (a : Lent) (mask-bytes : Bytes
     ends = change-is g y i up a mask-bytes (adm .sizes-fit) c (adm .proper)
 
   call-step : Inv g (afterChange g y c answered trace)
-  call-step = cases (eqb k 0) accepted (λ f. subst (Inv g) (sym (refused f)) i)
+  call-step = cases (eqb k 0) accepted (λ f. subst (Inv g) (sym (refused f)) (found-inv g a y i))
 
   call-spared : Spared g (y .marked) (y .failed) trace
   unfolding startedIn Spared
@@ -207,7 +229,7 @@ module _ (g : Geometry) (y : Store) (i : Inv g y) (a : Lent) (mask-bytes : Bytes
       rw t (record { answers = any-answer (e .answers); silent-by = e .silent-by; cut-at = λ z. omega (arith, e .used-up z) }))
       (λ f. rw f (record { answers = told; silent-by = λ z. absurd (omega (arith, z, small)); cut-at = λ z. absurd (omega (arith, z, small)) }))
 
-  call-sent : Sends (settingOf g a) (y .chip) (a .allowed) request
+  call-sent : Sends (settingOf g a) (chipOf a (y .chip)) (a .allowed) request
   unfolding resultOf sentIn
   call-sent =
       let s = settingOf g a in
@@ -216,8 +238,8 @@ module _ (g : Geometry) (y : Store) (i : Inv g y) (a : Lent) (mask-bytes : Bytes
       (λ t.
       rw t
       (record {
-        leads = inr (replayed s (callLine (y .chip) (a .allowed) .chip) (whole .progress) (change-leads s (y .chip) (a .allowed) (y .state) u) (ends t .legal));
-        counted = change-counts s (y .chip) (a .allowed) (y .state) u;
+        leads = inr (replayed s (callLine (chipOf a (y .chip)) (a .allowed) .chip) (whole .progress) (change-leads s (chipOf a (y .chip)) (a .allowed) (y .state) u) (ends t .legal));
+        counted = change-counts s (chipOf a (y .chip)) (a .allowed) (y .state) u;
       }))
       (λ f. rw f (record { leads = inl (refl, refl); counted = refl }))
 
@@ -235,11 +257,11 @@ module _ (g : Geometry) (y : Store) (i : Inv g y) (a : Lent) (mask-bytes : Bytes
 
 module _ (g : Geometry) (y : Store) (i : Inv g y) (a : Lent) (mask-bytes : Bytes (a .mask)) where
   abbrev fits : Bool
-  fits = sizedFor (settingOf g a) (y .chip)
+  fits = sizedFor (settingOf g a) (chipOf a (y .chip))
 
   module _ (logical page : ℕ) (bytes : List ℕ) (are-bytes : Bytes bytes) where
     abbrev writeRefused : ℕ
-    writeRefused = refusalOf (settingOf g a) (y .chip) (y .state) logical page bytes
+    writeRefused = refusalOf (settingOf g a) (chipOf a (y .chip)) (y .state) logical page bytes
 
     write-small : writeRefused < 8
     write-small = refusal-small g fits (y .state) logical page (length bytes)
@@ -264,7 +286,7 @@ module _ (g : Geometry) (y : Store) (i : Inv g y) (a : Lent) (mask-bytes : Bytes
     unfolding writeRequest updateOf
     write-answers = call-answers g y i a mask-bytes (write logical page bytes) writeRefused write-small write-told write-admitted
 
-    pub write-sent : Sends (settingOf g a) (y .chip) (a .allowed) (runOf g (toWrite a logical page bytes) y)
+    pub write-sent : Sends (settingOf g a) (chipOf a (y .chip)) (a .allowed) (runOf g (toWrite a logical page bytes) y)
     unfolding writeRequest updateOf
     write-sent = call-sent g y i a mask-bytes (write logical page bytes) writeRefused write-small write-told write-admitted
 
@@ -274,7 +296,7 @@ module _ (g : Geometry) (y : Store) (i : Inv g y) (a : Lent) (mask-bytes : Bytes
 
   module _ (logical : ℕ) where
     abbrev eraseRefused : ℕ
-    eraseRefused = eraseRefusal (settingOf g a) (y .chip) (y .state) logical
+    eraseRefused = eraseRefusal (settingOf g a) (chipOf a (y .chip)) (y .state) logical
 
     erase-small : eraseRefused < 8
     erase-small = refusal-small g fits (y .state) logical 0 (g .main)
@@ -299,7 +321,7 @@ module _ (g : Geometry) (y : Store) (i : Inv g y) (a : Lent) (mask-bytes : Bytes
     unfolding eraseRequest updateOf
     erase-answers = call-answers g y i a mask-bytes (erase logical) eraseRefused erase-small erase-told erase-admitted
 
-    pub erase-sent : Sends (settingOf g a) (y .chip) (a .allowed) (runOf g (toErase a logical) y)
+    pub erase-sent : Sends (settingOf g a) (chipOf a (y .chip)) (a .allowed) (runOf g (toErase a logical) y)
     unfolding eraseRequest updateOf
     erase-sent = call-sent g y i a mask-bytes (erase logical) eraseRefused erase-small erase-told erase-admitted
 

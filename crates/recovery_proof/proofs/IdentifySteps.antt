@@ -18,11 +18,11 @@ use Rattle.identify.proofs.EndLaws.{identify-ends}
 use Rattle.identify.proofs.SentLaws.{identify-sent, identify-starts}
 use Rattle.identify.proofs.AnswerLaws.{Ends, identify-so, identify-keeps}
 use Rattle.identify.proofs.AnswerLaws.Ends.{unfit, cut, silent, tells}
-use Rattle.recovery.specs.Calls.{Lent, toIdentify, Store, store, identifyOf, traceOf, failedAfter, failedNext, step}
+use Rattle.recovery.specs.Calls.{Lent, toIdentify, Store, store, identifyOf, traceOf, failedAfter, failedNext, step, chipOf}
 use Rattle.recovery.specs.Book.{fed}
 use Rattle.recovery.specs.Recovery.{Spared}
 use Rattle.recovery_proof.specs.Invariant.{Inv}
-use Rattle.recovery_proof.proofs.InvariantLaws.{agrees-moved, up-inv, unmounted-inv, stopped-unmounted, failed-none}
+use Rattle.recovery_proof.proofs.InvariantLaws.{agrees-moved, up-inv, unmounted-inv, stopped-unmounted, failed-none, foundBy, found-inv}
 
 module _ (g : Geometry) (y : Store) (a : Lent) (parameters : List ℕ) (logical : ℕ) where
   abbrev q : Identified
@@ -30,15 +30,15 @@ module _ (g : Geometry) (y : Store) (a : Lent) (parameters : List ℕ) (logical 
 
   pub identify-array : q .returned .chip .array ≡ y .chip .array
   identify-array =
-      identify-ends (a .mask) (a .fates) (y .chip) (a .allowed) (y .state) parameters logical .same-array
+      identify-ends (a .mask) (a .fates) (chipOf a (y .chip)) (a .allowed) (y .state) parameters logical .same-array
 
-  still-fits : lengthsFit g (q .returned .chip) ≡ lengthsFit g (y .chip)
+  still-fits : lengthsFit g (q .returned .chip) ≡ lengthsFit g (chipOf a (y .chip))
   still-fits =
-      lengths-fit g (identify-sent (a .mask) (a .fates) (y .chip) (a .allowed) (y .state) parameters logical .same-lengths)
+      lengths-fit g (identify-sent (a .mask) (a .fates) (chipOf a (y .chip)) (a .allowed) (y .state) parameters logical .same-lengths)
 
   pub trace-none : traceOf g (toIdentify a parameters logical) y ≡ []
   unfolding startedIn
-  trace-none = identify-starts (a .mask) (a .fates) (y .chip) (a .allowed) (y .state) parameters logical
+  trace-none = identify-starts (a .mask) (a .fates) (chipOf a (y .chip)) (a .allowed) (y .state) parameters logical
 
   failed-kept : step g (toIdentify a parameters logical) y .failed ≡ y .failed
   unfolding step failedNext
@@ -46,12 +46,12 @@ module _ (g : Geometry) (y : Store) (a : Lent) (parameters : List ℕ) (logical 
 
   module _ (i : Inv g y) where
     -- it leaves everything, stops the state, or leaves it with the chip ready for a command
-    refused : q .returned .state ≡ y .state → q .returned .chip ≡ y .chip → Inv g (step g (toIdentify a parameters logical) y)
+    refused : q .returned .state ≡ y .state → q .returned .chip ≡ chipOf a (y .chip) → Inv g (step g (toIdentify a parameters logical) y)
     unfolding resultOf step fed
     refused s c =
-        let same : y ≡ step g (toIdentify a parameters logical) y =
+        let same : foundBy a y ≡ step g (toIdentify a parameters logical) y =
         λ k. store (sym s k) (sym c k) (y .account) (y .marked) (sym failed-kept k) in
-        subst (Inv g) same i
+        subst (Inv g) same (found-inv g a y i)
 
     stops : mounted (q .returned .state) (g .blocks) (g .logical) ≡ false → Inv g (step g (toIdentify a parameters logical) y)
     unfolding resultOf step fed
@@ -70,9 +70,9 @@ module _ (g : Geometry) (y : Store) (a : Lent) (parameters : List ℕ) (logical 
         (i .is)
 
     pub identify-step : Inv g (step g (toIdentify a parameters logical) y)
-    identify-step = by-end (identify-so (a .mask) (a .fates) (y .chip) (a .allowed) (y .state) parameters logical)
+    identify-step = by-end (identify-so (a .mask) (a .fates) (chipOf a (y .chip)) (a .allowed) (y .state) parameters logical)
       where
-        by-end : Ends (a .mask) (a .fates) (y .chip) (a .allowed) (y .state) parameters logical → Inv g (step g (toIdentify a parameters logical) y)
+        by-end : Ends (a .mask) (a .fates) (chipOf a (y .chip)) (a .allowed) (y .state) parameters logical → Inv g (step g (toIdentify a parameters logical) y)
         by-end (unfit n s z c) = refused s c
         by-end (cut n s z) = stops (stopped-unmounted g (q .returned .state) s)
         by-end (silent n s z) = stops (stopped-unmounted g (q .returned .state) s)
@@ -86,5 +86,5 @@ module _ (g : Geometry) (y : Store) (a : Lent) (parameters : List ℕ) (logical 
   pub identify-mounted : mounted (y .state) (g .blocks) (g .logical) ≡ true → q .returned .answer ≡ 0 → mounted (q .returned .state) (g .blocks) (g .logical) ≡ true
   identify-mounted m z =
       ap (λ (x : State). mounted x (g .blocks) (g .logical))
-      (identify-keeps (a .mask) (a .fates) (y .chip) (a .allowed) (y .state) parameters logical (λ e. omega (arith, e, z)) (λ e. omega (arith, e, z)))
+      (identify-keeps (a .mask) (a .fates) (chipOf a (y .chip)) (a .allowed) (y .state) parameters logical (λ e. omega (arith, e, z)) (λ e. omega (arith, e, z)))
       ∙ m

@@ -20,7 +20,7 @@ use Rattle.recovery_stored.specs.Stored.{Stored}
 use Rattle.copies.specs.Blocks.{blockIn, isMarked}
 use Rattle.recovery_write.specs.Changed.{Agrees, MarkedBy}
 use Rattle.recovery.specs.Book.{Book, Same, Note, Account, settled}
-use Rattle.recovery.specs.Calls.{Store, copyOfNote, failedAfter}
+use Rattle.recovery.specs.Calls.{Lent, Store, store, chipOf, copyOfNote, failedAfter}
 use Rattle.recovery_proof.specs.Invariant.{dueOf, Up, Inv}
 
 -- sizes for a call: those of the chip, and the mask's
@@ -63,6 +63,22 @@ unmounted-inv g y i z f a b m s =
       reads = subst (λ (x : List ℕ). Same g (reading g x (i .table)) (dueOf g x (z .account))) (sym a)
           (subst (λ (x : Account). Same g (reading g (y .chip .array) (i .table)) (dueOf g (y .chip .array) x)) (sym b) (i .reads));
       is = inr s;
+    }
+
+-- a store as a call finds it: its write-protect line is the call's
+abbrev pub foundBy : Lent → Store → Store
+foundBy a y = store (y .state) (chipOf a (y .chip)) (y .account) (y .marked) (y .failed)
+
+pub found-inv : (g : Geometry) (a : Lent) (y : Store) → Inv g y → Inv g (foundBy a y)
+found-inv g a y i =
+    record {
+      fits = i .fits;
+      marks = i .marks;
+      stored = i .stored;
+      table = i .table;
+      table-is = i .table-is;
+      reads = i .reads;
+      is = ⊎-elim (λ u. inl (record { agrees = u .agrees; ready = u .ready; quiet = u .quiet })) inr (i .is);
     }
 
 -- a stopped state does not count as mounted

@@ -11,3 +11,4 @@ pub mod RecoveryLaws
 pub mod AnswerLaws
 pub mod SentLaws
 pub mod ToldLaws
+pub mod ProtectLaws

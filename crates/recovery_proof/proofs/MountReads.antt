@@ -12,18 +12,19 @@ use Rattle.geometry.specs.Sizes.{blockSize}
 use Rattle.chip_interface.specs.Interface.{fateWord}
 use Rattle.chip_array.specs.Device.{Setting, setting}
 use Rattle.copies.specs.Current.{reading}
-use Rattle.request.specs.Call.{Result, sizedFor}
+use Rattle.request.specs.Call.{Result, sizedFor, resultOf}
 use Rattle.mount_laws.proofs.MountingLaws.{mount-ends, mount-refused}
 use Rattle.read.proofs.ReadingLaws.{Gives}
 use Rattle.request_laws.specs.Reads.{ReadsAs, MountRead}
 use Rattle.request_laws.proofs.JoinedLaws.{mount-then-read}
 use Rattle.recovery.specs.Book.{Book, Same, Note, Account, entered, settled, fed}
 use Rattle.recovery.specs.Copy.{hasCopy}
-use Rattle.recovery.specs.Calls.{Lent, Store, underWay, settingOf, mountOn, copyOfNote, mountEntry}
+use Rattle.recovery.specs.Calls.{Lent, toMount, Store, underWay, settingOf, mountOn, copyOfNote, mountEntry, chipOf, step}
 use Rattle.recovery.specs.Recovery.{plainRead, readingBy, Unaffected, none-under-way, no-copy, no-byte, Recovered}
 use Rattle.recovery_proof.specs.Invariant.{dueOf, Inv}
 use Rattle.recovery_proof.proofs.InvariantLaws.{due-quiet}
-use Rattle.recovery_proof.proofs.MountSteps.{same-at, fed-done, mount-done}
+use Rattle.recovery_proof.proofs.MountSteps.{same-at, fed-done, mount-done, mount-step, mount-mounted}
+use Rattle.recovery_proof.proofs.ReadSteps.{reads-back}
 
 -- the note of a store, by its cases
 by-note : {P : Type 0} (o : Option Note) → (o ≡ none → P) → ((t : Note) → o ≡ some t → P) → P
@@ -54,14 +55,14 @@ module _ (g : Geometry) (y : Store) (i : Inv g y) (a : Lent) (x₁ : mountOn g a
   abbrev array : List ℕ
   array = y .chip .array
 
-  fits : sizedFor s (y .chip) ≡ true
-  fits = cases (sizedFor s (y .chip)) (λ t. t) (λ f. absurd (x₁ (mount-refused s (y .chip) (a .allowed) (y .state) f)))
+  fits : sizedFor s (chipOf a (y .chip)) ≡ true
+  fits = cases (sizedFor s (chipOf a (y .chip))) (λ t. t) (λ f. absurd (x₁ (mount-refused s (chipOf a (y .chip)) (a .allowed) (y .state) f)))
 
   done : r .answer ≡ 0
   done = mount-done g y i a fits x₁₀ x₁₁
 
   joined : MountRead g array r
-  joined = mount-then-read s (y .chip) (a .allowed) (y .state) done
+  joined = mount-then-read s (chipOf a (y .chip)) (a .allowed) (y .state) done
 
   -- a read that is uncut and not silent
   abbrev plainSetting : Setting
@@ -111,10 +112,11 @@ module _ (g : Geometry) (y : Store) (i : Inv g y) (a : Lent) (x₁ : mountOn g a
   leaves-due : Same g (readingBy g r) (fed g (mountEntry g y r) (y .account) .book)
   leaves-due =
       due-is
-      (ap (λ (x : List ℕ). dueOf g x (y .account)) (sym (mount-ends s (y .chip) (a .allowed) fits (y .state) .same-array))
+      (ap (λ (x : List ℕ). dueOf g x (y .account)) (sym (mount-ends s (chipOf a (y .chip)) (a .allowed) fits (y .state) .same-array))
       ∙ sym (ap (λ (x : Account). x .book) (fed-done g (r .answer) (copyOfNote g (r .chip .array) (underWay y)) (y .account) done)))
 
   pub inv-recovered : Recovered g y r
+  unfolding step resultOf
   inv-recovered =
       record {
         done = done;
@@ -123,6 +125,6 @@ module _ (g : Geometry) (y : Store) (i : Inv g y) (a : Lent) (x₁ : mountOn g a
         otherwise = affected;
         leaves = leaves-due;
         any-read = λ b l p buffer h k mask-long buffer-long x x'.
-            let gives = joined .reads (b .mask) (b .fates) (b .allowed) l p buffer mask-long h k buffer-long .gives x x' in
-            (gives .done, gives .bytes-are ∙ sym (plain-gives l p h k .bytes-are));
+            let gives = reads-back g (step g (toMount a) y) (mount-step g y i a) (mount-mounted g y i a done) b l p buffer mask-long h k buffer-long .gives x x' in
+            (gives .done, gives .bytes-are ∙ sym (leaves-due l p h k));
       }

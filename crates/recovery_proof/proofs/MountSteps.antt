@@ -25,10 +25,10 @@ use Rattle.recovery_stored.specs.Knows.{Knows}
 use Rattle.recovery_stored.proofs.KnowsLaws.{mounted-knows}
 use Rattle.copies.specs.Blocks.{blockIn, isMarked}
 use Rattle.recovery.specs.Book.{Book, Same, Note, Account, mounted, settled, fed}
-use Rattle.recovery.specs.Calls.{Lent, toMount, Store, store, underWay, settingOf, mountOn, traceOf, copyOfNote, mountEntry, failedNext, step}
+use Rattle.recovery.specs.Calls.{Lent, toMount, Store, store, underWay, settingOf, mountOn, traceOf, copyOfNote, mountEntry, failedNext, step, chipOf}
 use Rattle.recovery_write.specs.Changed.{Agrees}
 use Rattle.recovery_proof.specs.Invariant.{dueOf, Inv}
-use Rattle.recovery_proof.proofs.InvariantLaws.{sizes-fit, up-inv, stopped-inv, failed-none}
+use Rattle.recovery_proof.proofs.InvariantLaws.{sizes-fit, up-inv, foundBy, found-inv, stopped-inv, failed-none}
 
 pub same-at : {a b : ℕ} → at a ≡ at b → a ≡ b
 same-at e = cc
@@ -58,13 +58,13 @@ module _ (g : Geometry) (y : Store) (i : Inv g y) (a : Lent) where
   abbrev array : List ℕ
   array = y .chip .array
 
-  refused : sizedFor s (y .chip) ≡ false → step g (toMount a) y ≡ y
+  refused : sizedFor s (chipOf a (y .chip)) ≡ false → step g (toMount a) y ≡ foundBy a y
   unfolding resultOf startedIn step mountRequest fed failedNext
-  refused f = rw f (ap (store (y .state) (y .chip) (y .account) (y .marked)) (failed-none (y .failed)))
+  refused f = rw f (ap (store (y .state) (chipOf a (y .chip)) (y .account) (y .marked)) (failed-none (y .failed)))
 
-  module _ (t : sizedFor s (y .chip) ≡ true) where
-    m : Mounting s (y .chip) (a .allowed) r
-    m = mount-ends s (y .chip) (a .allowed) t (y .state)
+  module _ (t : sizedFor s (chipOf a (y .chip)) ≡ true) where
+    m : Mounting s (chipOf a (y .chip)) (a .allowed) r
+    m = mount-ends s (chipOf a (y .chip)) (a .allowed) t (y .state)
 
     -- neither silent nor cut it is answered 0: what the store leaves always mounts
     pub mount-done : (r .answer ≡ 10 → ⊥) → (r .answer ≡ 11 → ⊥) → r .answer ≡ 0
@@ -124,7 +124,7 @@ module _ (g : Geometry) (y : Store) (i : Inv g y) (a : Lent) where
 
   pub mount-step : Inv g (step g (toMount a) y)
   mount-step =
-      cases (sizedFor s (y .chip))
+      cases (sizedFor s (chipOf a (y .chip)))
       (λ t.
       cases (eqb (r .answer) 10)
       (λ e. stops t (inl (eqb-true (r .answer) 10 e)) (λ z. omega (arith, z, eqb-true (r .answer) 10 e)))
@@ -132,11 +132,11 @@ module _ (g : Geometry) (y : Store) (i : Inv g y) (a : Lent) where
       cases (eqb (r .answer) 11)
       (λ e'. stops t (inr (eqb-true (r .answer) 11 e')) (λ z. omega (arith, z, eqb-true (r .answer) 11 e')))
       (λ e'. mounts t (mount-done t (eqb-false (r .answer) 10 e) (eqb-false (r .answer) 11 e')))))
-      (λ f. subst (Inv g) (sym (refused f)) i)
+      (λ f. subst (Inv g) (sym (refused f)) (found-inv g a y i))
 
   -- answered 0 it leaves a state that counts as mounted
   pub mount-mounted : r .answer ≡ 0 → state.mounted (r .state) (g .blocks) (g .logical) ≡ true
   mount-mounted z =
-      cases (sizedFor s (y .chip))
+      cases (sizedFor s (chipOf a (y .chip)))
       (λ t. m t .counts-mounted z)
-      (λ f. absurd (omega (arith, z, mount-refused s (y .chip) (a .allowed) (y .state) f)))
+      (λ f. absurd (omega (arith, z, mount-refused s (chipOf a (y .chip)) (a .allowed) (y .state) f)))

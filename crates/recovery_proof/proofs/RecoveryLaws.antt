@@ -9,7 +9,7 @@ use Rattle.chip_array.proofs.DeviceLaws.{fits}
 use Rattle.operations.proofs.CallLaws.{fitting-holds}
 use Rattle.state.specs.declared.State.{State}
 use Rattle.read.proofs.ReadingLaws.{read-keeps}
-use Rattle.recovery.specs.Calls.{Call, toMount, toRead, toWrite, toErase, toIdentify, Typed, Event, called, powerLost, Possible, AllPossible, Store, settingOf, step, unpowered, happens, after, begun}
+use Rattle.recovery.specs.Calls.{Call, toMount, toRead, toWrite, toErase, toIdentify, Typed, Event, called, powerLost, Possible, AllPossible, Store, settingOf, step, unpowered, happens, after, begun, chipOf}
 use Rattle.recovery.specs.Recovery.{Always, Recovers, ReadsRight, Spares}
 use Rattle.recovery_proof.specs.Invariant.{Inv}
 use Rattle.recovery_proof.proofs.InvariantLaws.{unmounted-inv}
@@ -62,7 +62,7 @@ read-right =
     (λ g y i a logical page buffer.
     record {
       gives = read-gives-book g y i a logical page buffer;
-      keeps = read-keeps (settingOf g a) (y .chip) (a .allowed) (y .state) logical page buffer;
+      keeps = read-keeps (settingOf g a) (chipOf a (y .chip)) (a .allowed) (y .state) logical page buffer;
     })
 
 spared-by : (g : Geometry) (y : Store) → Inv g y → Spares g y

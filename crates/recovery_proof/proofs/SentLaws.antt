@@ -22,7 +22,7 @@ use Rattle.request_laws.proofs.PageReadLaws.{read-replayed}
 use Rattle.identify.specs.Identify.{unknown}
 use Rattle.identify.specs.Ends.{SentSo}
 use Rattle.identify.proofs.SentLaws.{identify-sent}
-use Rattle.recovery.specs.Calls.{Lent, Call, toMount, toRead, toWrite, toErase, toIdentify, Typed, Store, settingOf, runOf}
+use Rattle.recovery.specs.Calls.{Lent, Call, toMount, toRead, toWrite, toErase, toIdentify, Typed, Store, settingOf, runOf, chipOf}
 use Rattle.recovery.specs.Recovery.{Always}
 use Rattle.recovery_proof.specs.Sent.{Sends, SendsLegally}
 use Rattle.recovery_proof.specs.Invariant.{Inv}
@@ -34,34 +34,34 @@ module _ (g : Geometry) (y : Store) (a : Lent) where
   abbrev s : Setting
   s = settingOf g a
 
-  mount-sends : Sends s (y .chip) (a .allowed) (runOf g (toMount a) y)
+  mount-sends : Sends s (chipOf a (y .chip)) (a .allowed) (runOf g (toMount a) y)
   unfolding resultOf sentIn mountRequest
   mount-sends =
-      cases (sizedFor s (y .chip))
+      cases (sizedFor s (chipOf a (y .chip)))
       (λ t.
-      let m = mount-ends s (y .chip) (a .allowed) t (y .state) in
+      let m = mount-ends s (chipOf a (y .chip)) (a .allowed) t (y .state) in
       record { leads = inr (rw t (rw t at m .replayed)); counted = rw t (rw t at m .sent-is) })
       (λ f. rw f (record { leads = inl (refl, refl); counted = refl }))
 
   module _ (i : Inv g y) (logical page : ℕ) (buffer : List ℕ) where
-    read-sends : Sends s (y .chip) (a .allowed) (runOf g (toRead a logical page buffer) y)
+    read-sends : Sends s (chipOf a (y .chip)) (a .allowed) (runOf g (toRead a logical page buffer) y)
     unfolding resultOf sentIn readRequest copyRequest
     read-sends =
-        cases (eqb (refusalOf s (y .chip) (y .state) logical page buffer) 0)
+        cases (eqb (refusalOf s (chipOf a (y .chip)) (y .state) logical page buffer) 0)
         (λ z. cases (eqb (getD (y .state .map) logical 0) none)
         (λ u. rw (z, u) (record { leads = inl (refl, refl); counted = refl }))
         (λ u.
-        let acc : Accepted g (sizedFor s (y .chip)) (y .state) logical page (length buffer) =
-        accepts g (sizedFor s (y .chip)) (y .state) logical page (length buffer) (eqb-true _ _ z) in
-        let q = read-replayed s (y .chip) (a .allowed) (y .state) logical page buffer acc (is-up g y i (acc .is-mounted) .ready) (eqb-false _ _ u) in
-        let n = read-sent s (y .chip) (a .allowed) (y .state) logical page buffer acc (eqb-false _ _ u) in
+        let acc : Accepted g (sizedFor s (chipOf a (y .chip))) (y .state) logical page (length buffer) =
+        accepts g (sizedFor s (chipOf a (y .chip))) (y .state) logical page (length buffer) (eqb-true _ _ z) in
+        let q = read-replayed s (chipOf a (y .chip)) (a .allowed) (y .state) logical page buffer acc (is-up g y i (acc .is-mounted) .ready) (eqb-false _ _ u) in
+        let n = read-sent s (chipOf a (y .chip)) (a .allowed) (y .state) logical page buffer acc (eqb-false _ _ u) in
         record { leads = inr (rw (z, u) (rw (z, u) at q)); counted = rw (z, u) (rw (z, u) at n) }))
         (λ z. rw z (record { leads = inl (refl, refl); counted = refl }))
 
-  identify-sends : (parameters : List ℕ) (logical : ℕ) → Sends (setting unknown (a .mask) (a .fates)) (y .chip) (a .allowed) (runOf g (toIdentify a parameters logical) y)
+  identify-sends : (parameters : List ℕ) (logical : ℕ) → Sends (setting unknown (a .mask) (a .fates)) (chipOf a (y .chip)) (a .allowed) (runOf g (toIdentify a parameters logical) y)
   unfolding resultOf sentIn
   identify-sends parameters logical =
-      let q = identify-sent (a .mask) (a .fates) (y .chip) (a .allowed) (y .state) parameters logical in
+      let q = identify-sent (a .mask) (a .fates) (chipOf a (y .chip)) (a .allowed) (y .state) parameters logical in
       cases (eqb (length parameters) 768)
       (λ u. record { leads = inr (record { leads = q .leads (eqb-true _ _ u); each-legal = q .each-legal; same-lengths = record { array = q .same-lengths .array; register = q .same-lengths .register; history = q .same-lengths .history } }); counted = q .sent-is })
       (λ u. record { leads = inl (q .none-sent (eqb-false _ _ u)); counted = q .sent-is })

@@ -1,7 +1,7 @@
 -- The cycles of writes and erases, and that they keep all sizes, on any chip, from any state and however they end. Assumes nothing.
 use Prim.Native.Nat.{ℕ}
 use mathlib.Core.List.{List, []}
-use mathlib.Core.Path.{_≡_, refl, subst}
+use mathlib.Core.Path.{_≡_, refl, subst, _∙_}
 use native.Mathlib.Omega.{arith}
 use borrow.Table.Steps.{cases}
 use lib.Dec.{eqb}
@@ -12,12 +12,13 @@ use Rattle.chip_laws.proofs.LengthLaws.{run-lengths}
 use Rattle.bus_polling.specs.declared.Outcome.the-variants.{Passed}
 use Rattle.progress.specs.Progress.{progress}
 use Rattle.progress.proofs.CountLaws.{allowance-kept}
+use Rattle.progress.proofs.StatusLaws.{status-counts}
 use Rattle.state.specs.declared.State.{State}
 use Rattle.request.specs.Call.{sizedFor, callLine, resultOf}
 use Rattle.request_refusals.specs.Refusals.{refusalOf}
 use Rattle.write_changes.specs.Changes.{Update, changeCall, changing, writeRequest, writing, eraseRefusal, eraseRequest, erasingLogical}
-use Rattle.write_changes.proofs.KeepLaws.{change-keeps}
-use Rattle.damage.proofs.ReplayLaws.{Leads, leads-first, leads-kept, lengths-sized}
+use Rattle.write_changes.proofs.KeepLaws.{call-keeps}
+use Rattle.damage.proofs.ReplayLaws.{Leads, leads-first, leads-status, leads-kept, lengths-sized}
 
 same : (d : Device) → SameLengths d d
 same d = record { array = refl; register = refl; history = refl }
@@ -26,11 +27,11 @@ module _ (s : Setting) (d : Device) (n : ℕ) (st : State) where
   -- the cycles lead to the chip that is left, and are counted
   pub change-leads : (u : Update) → Leads s (callLine d n .chip) (changeCall s d n st u .progress)
   change-leads u =
-      change-keeps s (Leads s (callLine d n .chip)) (leads-kept s (callLine d n .chip)) st u (progress (callLine d n) Passed [] []) (leads-first s (callLine d n))
+      call-keeps s (Leads s (callLine d n .chip)) (leads-kept s (callLine d n .chip)) d n st u (leads-status s (callLine d n .chip) (progress (callLine d n) Passed [] []) (leads-first s (callLine d n)))
 
   pub change-counts : (u : Update) → changing s d n st u .sent ≡ length (changeCall s d n st u .progress .cycles)
   change-counts u =
-      omega (arith, change-keeps s _ (allowance-kept s n) st u (progress (callLine d n) Passed [] []) (omega arith))
+      omega (arith, call-keeps s _ (allowance-kept s n) d n st u (status-counts s (progress (callLine d n) Passed [] []) ∙ omega arith))
 
   pub change-lengths : (u : Update) → SameLengths d (changing s d n st u .chip)
   change-lengths u =

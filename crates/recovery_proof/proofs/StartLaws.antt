@@ -18,7 +18,7 @@ use Rattle.recovery_stored.specs.Stored.{Stored}
 use Rattle.recovery_stored.specs.Knows.{Knows}
 use Rattle.recovery_stored.proofs.StoredLaws.{acknowledged-stored}
 use Rattle.recovery_stored.proofs.KnowsLaws.{mounted-knows}
-use Rattle.recovery.specs.Calls.{Lent, settingOf, formatOn, begun}
+use Rattle.recovery.specs.Calls.{Lent, settingOf, formatOn, begun, chipOf}
 use Rattle.recovery_proof.specs.Invariant.{Inv}
 use Rattle.recovery_proof.proofs.InvariantLaws.{sizes-fit, up-inv}
 
@@ -29,11 +29,11 @@ module _ (g : Geometry) (a : Lent) (d : Device) (st : State) (mask-bytes : Bytes
   abbrev r : Result
   r = formatOn g a d st
 
-  fits : sizedFor s d ≡ true
-  fits = cases (sizedFor s d) (λ t. t) (λ f. absurd (omega (arith, z, format-refused s d (a .allowed) st f)))
+  fits : sizedFor s (chipOf a d) ≡ true
+  fits = cases (sizedFor s (chipOf a d)) (λ t. t) (λ f. absurd (omega (arith, z, format-refused s (chipOf a d) (a .allowed) st f)))
 
-  ends : Formatting s d (a .allowed) r
-  ends = format-ends s d (a .allowed) mask-bytes fits st
+  ends : Formatting s (chipOf a d) (a .allowed) st r
+  ends = format-ends s (chipOf a d) (a .allowed) mask-bytes fits st
 
   done : Acknowledged s r
   done = ends .acknowledged z
@@ -49,11 +49,11 @@ module _ (g : Geometry) (a : Lent) (d : Device) (st : State) (mask-bytes : Bytes
       subst (Knows g (r .chip .array)) (sym (f .state-is))
       (mounted-knows g (stored .is-valid) (r .chip .array) (stored .array-long) (f .mounts))
 
-  trace-is : startedIn (formatRequest s d (a .allowed) st) ≡ formatRun s d (a .allowed) .progress .started
+  trace-is : startedIn (formatRequest s (chipOf a d) (a .allowed) st) ≡ formatRun s (chipOf a d) (a .allowed) st .progress .started
   unfolding startedIn formatRequest
   trace-is = rw fits
 
-  failed-listed : (b : ℕ) → b < g .blocks → failedIn b (startedIn (formatRequest s d (a .allowed) st)) ≡ true → bitAt (r .state .invalid) b ≡ true
+  failed-listed : (b : ℕ) → b < g .blocks → failedIn b (startedIn (formatRequest s (chipOf a d) (a .allowed) st)) ≡ true → bitAt (r .state .invalid) b ≡ true
   failed-listed b h e = sym (f .lists-are b h) ∙ sym (ends .lists-failed z b h) ∙ ap (failedIn b) (sym trace-is) ∙ e
 
   pub start-inv : Inv g (begun g a d st)

@@ -26,7 +26,7 @@ use Rattle.write_changes.specs.Changes.{Update, writeUpdate, eraseUpdate, chang
 use Rattle.write_laws.specs.Changing.{InRange}
 use Rattle.write_laws.proofs.ChangingLaws.{write-ends, erase-ends}
 use Rattle.recovery_stored.proofs.KnowsLaws.{knows-bits}
-use Rattle.recovery.specs.Calls.{Lent, Call, toMount, toRead, toWrite, toErase, toIdentify, Typed, Event, called, powerLost, Possible, AllPossible, Store, settingOf, formatOn, step, unpowered, happens, after, begun}
+use Rattle.recovery.specs.Calls.{Lent, Call, toMount, toRead, toWrite, toErase, toIdentify, Typed, Event, called, powerLost, Possible, AllPossible, Store, settingOf, formatOn, step, unpowered, happens, after, begun, chipOf}
 use Rattle.recovery_proof.specs.Invariant.{Up, Inv}
 use Rattle.recovery_proof.specs.Told.{AlwaysOfBytes, WritesTold, ErasesTold}
 use Rattle.recovery_proof.proofs.IdentifySteps.{identify-array}
@@ -67,11 +67,11 @@ module _ (s : Setting) (d : Device) (n : ℕ) (st : State) (h : Bytes (d .array)
 
 step-bytes : (g : Geometry) (c : Call) → Typed c → (y : Store) → Bytes (y .chip .array) → Bytes (step g c y .chip .array)
 unfolding resultOf step
-step-bytes g (toMount a) t y h = mount-bytes (settingOf g a) (y .chip) (a .allowed) (y .state) h
+step-bytes g (toMount a) t y h = mount-bytes (settingOf g a) (chipOf a (y .chip)) (a .allowed) (y .state) h
 step-bytes g (toRead a logical page buffer) t y h =
-    subst Bytes (sym (read-array-kept (settingOf g a) (y .chip) (y .state) logical page buffer (a .allowed) .same-array)) h
-step-bytes g (toWrite a logical page bytes) t y h = write-bytes (settingOf g a) (y .chip) (a .allowed) (y .state) h (t .0) logical page bytes
-step-bytes g (toErase a logical) t y h = erase-bytes (settingOf g a) (y .chip) (a .allowed) (y .state) h t logical
+    subst Bytes (sym (read-array-kept (settingOf g a) (chipOf a (y .chip)) (y .state) logical page buffer (a .allowed) .same-array)) h
+step-bytes g (toWrite a logical page bytes) t y h = write-bytes (settingOf g a) (chipOf a (y .chip)) (a .allowed) (y .state) h (t .0) logical page bytes
+step-bytes g (toErase a logical) t y h = erase-bytes (settingOf g a) (chipOf a (y .chip)) (a .allowed) (y .state) h t logical
 step-bytes g (toIdentify a parameters logical) t y h = subst Bytes (sym (identify-array g y a parameters logical)) h
 
 event-bytes : (g : Geometry) (e : Event) → Possible g e → (y : Store) → Bytes (y .chip .array) → Bytes (happens g e y .chip .array)
@@ -88,11 +88,12 @@ begun-bytes : (g : Geometry) (a : Lent) (d : Device) (st : State) → Bytes (a .
 unfolding begun
 begun-bytes g a d st mask-bytes h z =
     let s = settingOf g a in
-    let t : sizedFor s d ≡ true = cases (sizedFor s d) (λ t. t) (λ f. absurd (omega (arith, z, format-refused s d (a .allowed) st f))) in
-    run-kept s d (a .allowed) st h mask-bytes _ _ (format-ends s d (a .allowed) mask-bytes t st .replayed .leads)
+    let e = chipOf a d in
+    let t : sizedFor s e ≡ true = cases (sizedFor s e) (λ t. t) (λ f. absurd (omega (arith, z, format-refused s e (a .allowed) st f))) in
+    run-kept s e (a .allowed) st h mask-bytes _ _ (format-ends s e (a .allowed) mask-bytes t st .replayed .leads)
 
 -- a mounted store is as the types of the code have it
-ranged : (g : Geometry) (y : Store) → Up g y → Bytes (y .chip .array) → (a : Lent) → Bytes (a .mask) → InRange (settingOf g a) (y .chip) (y .state)
+ranged : (g : Geometry) (y : Store) → Up g y → Bytes (y .chip .array) → (a : Lent) → Bytes (a .mask) → InRange (settingOf g a) (chipOf a (y .chip)) (y .state)
 ranged g y u h a mask-bytes =
     let bits = knows-bits g (y .chip .array) (y .state) (u .agrees .stored) (u .agrees .knows) in
     record {
@@ -112,13 +113,13 @@ writes-told =
     of-bytes WritesTold
     (λ g y i h a logical page bytes m b z.
     let s = settingOf g a in
-    let u = is-up g y i (accepts g (sizedFor s (y .chip)) (y .state) logical page (length bytes) z .is-mounted) in
-    write-ends s (y .chip) (a .allowed) (y .state) (ranged g y u h a m) (u .ready) logical page bytes z b)
+    let u = is-up g y i (accepts g (sizedFor s (chipOf a (y .chip))) (y .state) logical page (length bytes) z .is-mounted) in
+    write-ends s (chipOf a (y .chip)) (a .allowed) (y .state) (ranged g y u h a m) (u .ready) logical page bytes z b)
 
 pub erases-told : AlwaysOfBytes ErasesTold
 erases-told =
     of-bytes ErasesTold
     (λ g y i h a logical m z.
     let s = settingOf g a in
-    let u = is-up g y i (accepts g (sizedFor s (y .chip)) (y .state) logical 0 (g .main) z .is-mounted) in
-    erase-ends s (y .chip) (a .allowed) (y .state) (ranged g y u h a m) (u .ready) logical z)
+    let u = is-up g y i (accepts g (sizedFor s (chipOf a (y .chip))) (y .state) logical 0 (g .main) z .is-mounted) in
+    erase-ends s (chipOf a (y .chip)) (a .allowed) (y .state) (ranged g y u h a m) (u .ready) logical z)

@@ -37,6 +37,7 @@ pub data AnyChangeAnswer : ℕ → Type 0 where
   is-spent : AnyChangeAnswer 9
   is-silent : AnyChangeAnswer 10
   is-cut : AnyChangeAnswer 11
+  is-protected : AnyChangeAnswer 13
 
 -- no other comes; it is silent only where a fate word is slow, and cut only where all cycles allowed were sent
 pub record ChangeAnswered (a : Lent) (r : Result) : Type 0 where

@@ -3,3 +3,4 @@ pub mod Answers
 pub mod Sent
 pub mod Acknowledged
 pub mod Told
+pub mod Protected

@@ -9,7 +9,7 @@ use Rattle.chip_array.specs.Device.{Device, Setting, setting}
 use Rattle.request.specs.Call.{Result, Performed, resultOf, sentIn, callLine}
 use Rattle.identify.specs.Identify.{unknown}
 use Rattle.damage.specs.Replay.{Replayed}
-use Rattle.recovery.specs.Calls.{Lent, Call, toMount, toRead, toWrite, toErase, toIdentify, Typed, Store, settingOf, runOf}
+use Rattle.recovery.specs.Calls.{Lent, Call, toMount, toRead, toWrite, toErase, toIdentify, Typed, Store, settingOf, chipOf, runOf}
 
 abbrev pub lentFor : Call → Lent
 lentFor (toMount a) = a
@@ -28,7 +28,7 @@ settingFor g (toIdentify a parameters logical) = setting unknown (a .mask) (a .f
 
 -- the chip on which a call begins
 abbrev pub chipFor : Call → Store → Device
-chipFor c y = callLine (y .chip) (lentFor c .allowed) .chip
+chipFor c y = callLine (chipOf (lentFor c) (y .chip)) (lentFor c .allowed) .chip
 
 -- a request on chip d that may send n cycles: it sends none and leaves the chip as it came, or each cycle is legal where it is sent and
 -- all of them, one after the other, lead to the chip that is left; there are as many as the answer says
@@ -37,4 +37,4 @@ pub record Sends (s : Setting) (d : Device) (n : ℕ) (r : Performed Result) : T
   pub counted : resultOf r .sent ≡ length (sentIn r)
 
 abbrev pub SendsLegally : Geometry → Store → Type 0
-SendsLegally g y = (c : Call) → Typed c → Sends (settingFor g c) (y .chip) (lentFor c .allowed) (runOf g c y)
+SendsLegally g y = (c : Call) → Typed c → Sends (settingFor g c) (chipOf (lentFor c) (y .chip)) (lentFor c .allowed) (runOf g c y)

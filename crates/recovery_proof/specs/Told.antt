@@ -9,7 +9,7 @@ use Rattle.state.specs.declared.State.{State}
 use Rattle.request_refusals.specs.Refusals.{refusalOf}
 use Rattle.write_changes.specs.Changes.{writeUpdate, eraseUpdate, eraseRefusal}
 use Rattle.write_laws.specs.Changing.{Changing}
-use Rattle.recovery.specs.Calls.{Lent, Event, AllPossible, Store, settingOf, writeOn, eraseOf, after, formatOn, begun}
+use Rattle.recovery.specs.Calls.{Lent, Event, AllPossible, Store, settingOf, chipOf, writeOn, eraseOf, after, formatOn, begun}
 
 -- as Always, of a chip that was handed to the formatting as bytes
 abbrev pub AlwaysOfBytes : (Geometry → Store → Type 0) → Type 0
@@ -20,10 +20,10 @@ AlwaysOfBytes P =
 -- requests that are not refused
 abbrev pub WritesTold : Geometry → Store → Type 0
 WritesTold g y =
-    (a : Lent) (logical page : ℕ) (bytes : List ℕ) → Bytes (a .mask) → Bytes bytes → refusalOf (settingOf g a) (y .chip) (y .state) logical page bytes ≡ 0
-    → Changing (settingOf g a) (y .chip) (a .allowed) (y .state) (writeUpdate (y .state) logical page bytes) (writeOn g a logical page bytes y)
+    (a : Lent) (logical page : ℕ) (bytes : List ℕ) → Bytes (a .mask) → Bytes bytes → refusalOf (settingOf g a) (chipOf a (y .chip)) (y .state) logical page bytes ≡ 0
+    → Changing (settingOf g a) (chipOf a (y .chip)) (a .allowed) (y .state) (writeUpdate (y .state) logical page bytes) (writeOn g a logical page bytes y)
 
 abbrev pub ErasesTold : Geometry → Store → Type 0
 ErasesTold g y =
-    (a : Lent) (logical : ℕ) → Bytes (a .mask) → eraseRefusal (settingOf g a) (y .chip) (y .state) logical ≡ 0
-    → Changing (settingOf g a) (y .chip) (a .allowed) (y .state) (eraseUpdate logical) (eraseOf g a logical y)
+    (a : Lent) (logical : ℕ) → Bytes (a .mask) → eraseRefusal (settingOf g a) (chipOf a (y .chip)) (y .state) logical ≡ 0
+    → Changing (settingOf g a) (chipOf a (y .chip)) (a .allowed) (y .state) (eraseUpdate logical) (eraseOf g a logical y)

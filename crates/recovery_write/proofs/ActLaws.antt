@@ -221,7 +221,7 @@ module _ (s : Setting) (mask-bytes : Bytes (s .mask)) (first : Line) (called : C
 
   -- the start
   pub at-first : first .chip .interface .protected ≡ 0 → At (running (firstCursor 0 (u .logical) (u .first) (u .count) (u .old)) st₀) (progress first Passed [] [])
-  at-first high = before-data (record { st = st₀; failed = false; mid = phase.mid-first s mask-bytes first called st₀ c book marked₀ failed₀ marks₀ agrees proper high; r-is = refl })
+  at-first high = before-data (record { st = st₀; failed = false; mid = phase.mid-first s mask-bytes first called st₀ c book marked₀ failed₀ marks₀ agrees proper [] high; r-is = refl })
 
   as-due : {r r' : Running} {p p' : Progress} → r ≡ r' → p ≡ p' → At r' p' → At r p
   as-due {r} {r'} {p} {p'} e f a = subst (λ (x : Running). At x p) (sym e) (subst (At r') (sym f) a)

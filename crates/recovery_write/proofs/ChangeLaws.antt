@@ -1,23 +1,38 @@
 -- How every write and erase that is not refused ends. Assumes nothing.
-use Prim.Native.Nat.{ℕ, _<_}
-use mathlib.Core.Bool.{Bool, true, false}
-use mathlib.Core.List.{[]}
-use mathlib.Core.Path.{_≡_, sym, subst}
+use Prim.Native.Nat.{ℕ, _≤_, _<_}
+use mathlib.Core.Bool.{Bool, true, false, cond, false≢true}
+use mathlib.Core.List.{List, []}
+use mathlib.Core.Path.{_≡_, refl, sym, ap, subst, _∙_}
 use native.Mathlib.Omega.{arith}
 use borrow.Table.Steps.{cases}
-use borrow.Author.Tests.{eq-eqb, ne-eqb, eqb-true, eqb-false}
-use lib.Dec.{eqb}
+use borrow.Author.Tests.{eqb-true, eqb-false, ltb-true}
+use lib.Dec.{eqb, ltb}
 use Rattle.cells.specs.Bytes.{Bytes}
 use Rattle.chip_array.specs.Device.{Device, Setting}
+use Rattle.chip.specs.Chip.{Cycle}
 use Rattle.bus.specs.Line.{Line}
-use Rattle.bus_polling.specs.declared.Outcome.the-variants.{Passed}
+use Rattle.bus_polling.specs.Outcomes.{isPassed, isProtected, isSilent, isCut, answered}
+use Rattle.bus_polling.proofs.OutcomeLaws.{is-passed, passed-answered}
+use Rattle.bus_polling.specs.declared.Outcome.{Outcome}
+use Rattle.bus_polling.specs.declared.Outcome.the-variants.{Passed, Cut, Protected}
 use Rattle.operations.specs.Ends.{Called}
-use Rattle.progress.specs.Progress.{progress}
-use Rattle.state.specs.State.{blank, heldBits, numbersLeft}
+use Rattle.operations.specs.Trace.{ArrayOperation}
+use Rattle.copies.specs.Current.{reading}
+use Rattle.progress.specs.Progress.{Progress, progress}
+use Rattle.progress.proofs.StatusLaws.{StatusLeft, status-leaves, status-started, shown-high}
+use Rattle.state.specs.State.{blank}
 use Rattle.state.specs.declared.State.{State}
-use Rattle.request.specs.Call.{callLine}
-use Rattle.write_changes.specs.Changes.{Copied, copiesFilled, thenTable, changeRun, changeCall}
-use Rattle.recovery.specs.Book.{Book, Change}
+use Rattle.request.specs.Call.{callLine, stopAnswer, statusAnswer, statusState}
+use Rattle.fill_tables.specs.Tables.{tabled}
+use Rattle.fill_tables.proofs.StatusLaws.{after-passed, after-stopped}
+use Rattle.write_changes.specs.Changes.{Update, Copied, thenTable, changeRun, changeFirst, changeCall}
+use Rattle.write_laws.specs.Changing.{ChangeAnswer, is-cut, is-protected}
+use Rattle.damage.specs.Run.{failedIn}
+use Rattle.recovery.specs.Book.{Book, Same, Change, entered}
+use Rattle.recovery.specs.Calls.{failedAfter}
+use Rattle.recovery.specs.Copy.{hasCopy}
+use Rattle.recovery.specs.Recovery.{Spared}
+use Rattle.recovery.proofs.CopyLaws.{has-none}
 use Rattle.recovery_write.specs.Changed.{Agrees, MarkedBy, Proper, updateOf, Changed}
 use Rattle.recovery_write.proofs.DataLaws as phase
 use Rattle.recovery_write.proofs.TableLaws.{halted-changed, tables-change, data-change}
@@ -38,9 +53,97 @@ module _ (s : Setting) (mask-bytes : Bytes (s .mask)) (first : Line) (called : C
       let not-zero = eqb-false (d .answer) 0 z in
       rw (z, e .stopped not-zero) (halted-changed s c book marked failed (d .answer) (d .progress) (omega (arith, not-zero)) (e .halted not-zero)))
 
-  run-ends : first .chip .interface .protected ≡ 0 → Changed s c book marked failed (changeRun s st (updateOf st c) (progress first Passed [] []))
-  run-ends high = then-ends _ (phase.data-ends s mask-bytes first called st c book marked failed marks agrees proper high)
+  run-ends : (cs : List Cycle) → first .chip .interface .protected ≡ 0 → Changed s c book marked failed (changeRun s st (updateOf st c) (progress first Passed cs []))
+  run-ends cs high = then-ends _ (phase.data-ends s mask-bytes first called st c book marked failed marks agrees proper cs high)
 
-pub change-ends : (s : Setting) (d : Device) (n : ℕ) (st : State) (c : Change) (book : Book) (marked failed : ℕ → Bool) → Bytes (s .mask) → Called s (callLine d n) → callLine d n .chip .interface .protected ≡ 0
-    → MarkedBy (s .geometry) (d .array) marked → Agrees (s .geometry) (d .array) st book failed → Proper (s .geometry) c → Changed s c book marked failed (changeCall s d n st (updateOf st c))
-change-ends s d n st c book marked failed mask-bytes called high marks agrees proper = run-ends s mask-bytes (callLine d n) called st c book marked failed marks agrees proper high
+-- from the chip handed in: its status read, then that
+module _ (s : Setting) (d : Device) (n : ℕ) (st : State) (c : Change) (book : Book) (marked failed : ℕ → Bool) (mask-bytes : Bytes (s .mask)) (called : Called s (callLine d n))
+    (marks : MarkedBy (s .geometry) (d .array) marked) (agrees : Agrees (s .geometry) (d .array) st book failed) (proper : Proper (s .geometry) c) where
+  abbrev u : Update
+  u = updateOf st c
+
+  abbrev p : Progress
+  p = changeFirst s d n
+
+  left : StatusLeft s (progress (callLine d n) Passed [] []) p
+  unfolding isPassed
+  left = status-leaves s (progress (callLine d n) Passed [] []) refl called
+
+  none-started : p .started ≡ []
+  unfolding isPassed
+  none-started = status-started s (progress (callLine d n) Passed [] []) refl called
+
+  here : Agrees (s .geometry) (p .line .chip .array) st book failed
+  here = subst (λ (a : List ℕ). Agrees (s .geometry) a st book failed) (sym (left .same-array)) agrees
+
+  marks-here : MarkedBy (s .geometry) (p .line .chip .array) marked
+  marks-here = subst (λ (a : List ℕ). MarkedBy (s .geometry) a marked) (sym (left .same-array)) marks
+
+  goes : isPassed (p .outcome) ≡ true → Changed s c book marked failed (changeCall s d n st u)
+  unfolding isPassed
+  goes t =
+      let next = left .next-called (passed-answered (p .outcome) t) in
+      let same : progress (p .line) Passed (p .cycles) [] ≡ p = λ i. progress (p .line) (sym (is-passed (p .outcome) t) i) (p .cycles) (sym none-started i) in
+      subst (Changed s c book marked failed) (ap (changeRun s st u) same ∙ sym (after-passed st p (changeRun s st u p) t))
+      (run-ends s mask-bytes (p .line) next st c book marked failed marks-here here proper (p .cycles) (shown-high s (progress (callLine d n) Passed [] []) refl t))
+
+  -- nothing was programmed: as many copies as before
+  as-before : Same (s .geometry) (reading (s .geometry) (p .line .chip .array) (st .table)) (cond (hasCopy (s .geometry) (p .line .chip .array) (p .started)) (entered (s .geometry) c book) book)
+  as-before =
+      subst (λ (os : List ArrayOperation). Same (s .geometry) (reading (s .geometry) (p .line .chip .array) (st .table)) (cond (hasCopy (s .geometry) (p .line .chip .array) os) (entered (s .geometry) c book) book))
+      (sym none-started)
+      (rw (has-none (s .geometry) (p .line .chip .array) (omega (arith, called .is-valid .pages-least))) (here .reads))
+
+  none-failed : Agrees (s .geometry) (p .line .chip .array) st book (failedAfter failed (p .started))
+  unfolding failedIn
+  none-failed =
+      record {
+        stored = here .stored;
+        knows = here .knows;
+        reads = here .reads;
+        failed-listed = λ b h e.
+            here .failed-listed b h
+            (cases (failed b) (λ y. y) (λ f. absurd (false≢true (sym (ap (λ (os : List ArrayOperation). failedAfter failed os b) none-started ∙ rw f) ∙ e))));
+      }
+
+  stays : (answer : ℕ) (state : State) → 0 < answer → ChangeAnswer answer → (answer ≡ 10 → ⊥) → (answer ≡ 11 → p .line .left ≡ 0) → (answer ≡ 13 → state ≡ st) → ((answer ≡ 13 → ⊥) → state ≡ blank 2)
+      → (answer ≡ 13 → p .line .chip .interface .phase ≤ 2) → Changed s c book marked failed (tabled p answer state)
+  unfolding Spared
+  stays answer state some told heard cut protected stops ready =
+      record {
+        answers = told;
+        legal = left .legal;
+        stored = here .stored;
+        done = λ z. absurd (omega (arith, z, some));
+        ready = λ z. absurd (omega (arith, z, some));
+        stopped = λ z x. stops x;
+        kept = λ z. subst (λ (x : State). Agrees (s .geometry) (p .line .chip .array) x book (failedAfter failed (p .started))) (sym (protected z)) none-failed;
+        kept-ready = ready;
+        table = st .table;
+        table-is = here .knows .table-is;
+        reads = λ z. as-before;
+        marks = marks-here;
+        spared = subst (Spared (s .geometry) marked failed) (sym none-started) tt;
+        silent-by = λ z. absurd (heard z);
+        used-up = cut;
+      }
+
+  -- where the status read ended as o
+  abbrev StopsWith : Outcome → Type 0
+  StopsWith o = Changed s c book marked failed (tabled p (statusAnswer o) (statusState o st))
+
+  stops : isPassed (p .outcome) ≡ false → Changed s c book marked failed (changeCall s d n st u)
+  unfolding statusAnswer statusState stopAnswer isPassed isProtected isSilent isCut answered
+  stops f =
+      subst (Changed s c book marked failed) (sym (after-stopped st p (changeRun s st u p) f))
+      (cases (ltb n 2)
+      (λ t.
+      let o : p .outcome ≡ Cut = left .outcome-is ∙ rw t in
+      subst StopsWith (sym o) (stays 11 (blank 2) (omega arith) is-cut (λ z. omega (arith, z)) (λ z. omega (arith, left .left-is, ltb-true n 2 t)) (λ z. absurd (omega (arith, z))) (λ x. refl) (λ z. absurd (omega (arith, z)))))
+      (λ t.
+      let low : eqb (d .interface .protected) 0 ≡ false = cases (eqb (d .interface .protected) 0) (λ y. absurd (let o = sym f ∙ ap isPassed (left .outcome-is) in false≢true (rw (t, y) at o))) (λ y. y) in
+      let o : p .outcome ≡ Protected = left .outcome-is ∙ rw (t, low) in
+      subst StopsWith (sym o) (stays 13 st (omega arith) is-protected (λ z. omega (arith, z)) (λ z. absurd (omega (arith, z))) (λ z. refl) (λ x. absurd (x refl)) (λ z. left .next-called (ap answered o) .ready))))
+
+  pub change-ends : Changed s c book marked failed (changeCall s d n st u)
+  change-ends = cases (isPassed (p .outcome)) goes stops

@@ -17,6 +17,7 @@ use Rattle.cells.specs.Bytes.{Bytes}
 use Rattle.bitmaps.specs.Bitmap.{bitAt, withBit}
 use Rattle.bitmaps.proofs.BitmapLaws.{Bitmap, bits-more}
 use Rattle.chip_array.specs.Device.{Setting}
+use Rattle.chip.specs.Chip.{Cycle}
 use Rattle.bus.specs.Line.{Line}
 use Rattle.bus_polling.specs.Outcomes.{isPassed, isFailed, isSilent, isCut, isIllegal, isProtected}
 use Rattle.bus_polling.specs.declared.Outcome.the-variants.{Passed}
@@ -67,6 +68,7 @@ use Rattle.recovery_write.proofs.TryLaws as tries
 -- a request that has ended with an answer other than 0
 pub record Halted (s : Setting) (c : Change) (book : Book) (marked failed : ℕ → Bool) (answer : ℕ) (p : Progress) : Type 0 where
   pub answers : ChangeAnswer answer
+  pub most : answer ≤ 11
   pub legal : p .line .chip .interface .illegal ≡ 0
   pub stored : Stored (s .geometry) (p .line .chip .array)
   pub table : ℕ
@@ -225,9 +227,9 @@ module _ (s : Setting) (mask-bytes : Bytes (s .mask)) (first : Line) (called : C
       none-more : (b : ℕ) → failedAfter failed₀ [] b ≡ true → failed₀ b ≡ true
       none-more b e = cases (failed₀ b) (λ y. y) (λ f. clash e (rw f))
 
-  pub mid-first : first .chip .interface .protected ≡ 0 → Mid st₀ false (progress first Passed [] [])
+  pub mid-first : (cs : List Cycle) → first .chip .interface .protected ≡ 0 → Mid st₀ false (progress first Passed cs [])
   unfolding isPassed isIllegal isCut isSilent isFailed isProtected
-  mid-first high =
+  mid-first cs high =
       record {
         state-is = refl;
         passed = refl;
@@ -501,6 +503,7 @@ module _ (s : Setting) (mask-bytes : Bytes (s .mask)) (first : Line) (called : C
             halted = λ z.
                 record {
                   answers = ⊎-elim (λ e. subst ChangeAnswer (sym e) is-silent) (λ e. subst ChangeAnswer (sym e) is-cut) which;
+                  most = ⊎-elim (λ e. omega (arith, e)) (λ e. omega (arith, e)) which;
                   legal = try .leaves .sound .legal;
                   stored = rest-next .stored;
                   table = t;
@@ -522,6 +525,7 @@ module _ (s : Setting) (mask-bytes : Bytes (s .mask)) (first : Line) (called : C
         halted = λ z.
             record {
               answers = is;
+              most = omega (arith, few);
               legal = m .sound .legal;
               stored = m .rest .stored;
               table = t;
@@ -549,5 +553,5 @@ module _ (s : Setting) (mask-bytes : Bytes (s .mask)) (first : Line) (called : C
         stopped = λ st f p m h b l may n w. data-stopped st f p m h b l may (copyFilled s u st b p) (plain-try st f p m h b l may) (plain-long st f p m h b l may) n w;
       }
 
-  pub data-ends : first .chip .interface .protected ≡ 0 → Ends (copiesFilled s held u (numbersLeft st₀) false st₀ (progress first Passed [] []))
-  data-ends high = copies-end s held u Mid Ends copying (numbersLeft st₀) st₀ false (progress first Passed [] []) (mid-first high) refl
+  pub data-ends : (cs : List Cycle) → first .chip .interface .protected ≡ 0 → Ends (copiesFilled s held u (numbersLeft st₀) false st₀ (progress first Passed cs []))
+  data-ends cs high = copies-end s held u Mid Ends copying (numbersLeft st₀) st₀ false (progress first Passed cs []) (mid-first cs high) refl

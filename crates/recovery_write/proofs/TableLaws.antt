@@ -78,7 +78,9 @@ halted-changed s c book marked failed answer p some h =
       stored = h .stored;
       done = λ z. absurd (omega (arith, z, some));
       ready = λ z. absurd (omega (arith, z, some));
-      stopped = λ z. refl;
+      stopped = λ z x. refl;
+      kept = λ z. absurd (omega (arith, z, h .most));
+      kept-ready = λ z. absurd (omega (arith, z, h .most));
       table = h .table;
       table-is = h .table-is;
       reads = λ z. h .reads;
@@ -434,6 +436,7 @@ module _ (s : Setting) (mask-bytes : Bytes (s .mask)) (first : Line) (called : C
           let which = stop-answer (q .outcome) (unfailed-end (q .outcome) (try .leaves .sound .known) f (try .leaves .sound .unprotected)) y in
           record {
             answers = ⊎-elim (λ e. subst ChangeAnswer (sym e) is-silent) (λ e. subst ChangeAnswer (sym e) is-cut) which;
+            most = ⊎-elim (λ e. omega (arith, e)) (λ e. omega (arith, e)) which;
             legal = try .leaves .sound .legal;
             stored = next .rest .stored;
             table = next .now;
@@ -484,6 +487,8 @@ module _ (s : Setting) (mask-bytes : Bytes (s .mask)) (first : Line) (called : C
             done = λ z. table-passed y;
             ready = λ z. try .leaves .sound .called (passed-answered (q .outcome) y) .ready;
             stopped = λ z. absurd (z refl);
+            kept = λ z. absurd (omega (arith, z));
+            kept-ready = λ z. absurd (omega (arith, z));
             table = b;
             table-is = table-passed y .knows .table-is;
             reads = λ z. absurd (z refl);
@@ -499,6 +504,7 @@ module _ (s : Setting) (mask-bytes : Bytes (s .mask)) (first : Line) (called : C
       halted-changed s c book marked₀ failed₀ answer p some
       (record {
         answers = is;
+        most = omega (arith, few);
         legal = m .sound .legal;
         stored = m .rest .stored;
         table = m .table;
@@ -550,6 +556,8 @@ module _ (s : Setting) (mask-bytes : Bytes (s .mask)) (first : Line) (called : C
             };
         ready = λ z. d .sound .called (passed-answered (p₁ .outcome) (d .passed)) .ready;
         stopped = λ z. absurd (z refl);
+        kept = λ z. absurd (omega (arith, z));
+        kept-ready = λ z. absurd (omega (arith, z));
         table = t;
         table-is = d .table-is;
         reads = λ z. absurd (z refl);

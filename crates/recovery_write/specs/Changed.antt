@@ -49,14 +49,17 @@ abbrev pub arrayOf : Tabled → List ℕ
 arrayOf t = t .progress .line .chip .array
 
 -- answered 0, the state goes with the array, the chip is ready and the pages read as the book with the request entered;
--- otherwise the state is stopped, and they read so exactly where the request has a complete copy, else as before
+-- otherwise the state is stopped, and they read so exactly where the request has a complete copy, else as before. Answered 13, the state goes with the
+-- array and the book as they were
 pub record Changed (s : Setting) (c : Change) (book : Book) (marked failed : ℕ → Bool) (t : Tabled) : Type 0 where
   pub answers : ChangeAnswer (t .answer)
   pub legal : t .progress .line .chip .interface .illegal ≡ 0
   pub stored : Stored (s .geometry) (arrayOf t)
   pub done : t .answer ≡ 0 → Agrees (s .geometry) (arrayOf t) (t .state) (entered (s .geometry) c book) (failedAfter failed (t .progress .started))
   pub ready : t .answer ≡ 0 → t .progress .line .chip .interface .phase ≤ 2
-  pub stopped : (t .answer ≡ 0 → ⊥) → t .state ≡ blank 2
+  pub stopped : (t .answer ≡ 0 → ⊥) → (t .answer ≡ 13 → ⊥) → t .state ≡ blank 2
+  pub kept : t .answer ≡ 13 → Agrees (s .geometry) (arrayOf t) (t .state) book (failedAfter failed (t .progress .started))
+  pub kept-ready : t .answer ≡ 13 → t .progress .line .chip .interface .phase ≤ 2
   pub table : ℕ
   pub table-is : currentTable (s .geometry) (arrayOf t) ≡ at table
   pub reads : (t .answer ≡ 0 → ⊥) → Same (s .geometry) (reading (s .geometry) (arrayOf t) table)

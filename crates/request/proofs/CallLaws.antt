@@ -2,7 +2,7 @@
 use Prim.Native.Nat.{ℕ, _-_, _≤_}
 use mathlib.Core.Bool.{true, false, cond}
 use mathlib.Core.Logic.{_⊎_, inl, inr, ⊎-elim}
-use mathlib.Core.Path.{_≡_, refl, _∙_}
+use mathlib.Core.Path.{_≡_, _∙_}
 use native.Mathlib.Omega.{arith}
 use borrow.Table.Steps.{cases}
 use borrow.Author.Tests.{eq-eqb, eqb-true}
@@ -14,7 +14,7 @@ use Rattle.geometry.specs.Sizes.{blockSize}
 use Rattle.bools.proofs.BoolLaws.{both}
 use Rattle.geometry.proofs.LimitLaws.{holds}
 use Rattle.cells.proofs.PartLaws.{length-part}
-use Rattle.chip_array.specs.Device.{Device, Setting, fitting, Fitting}
+use Rattle.chip_array.specs.Device.{Setting, fitting, Fitting}
 use Rattle.chip_array.proofs.DeviceLaws.{fits}
 use Rattle.bus_polling.specs.declared.Outcome.{Outcome}
 use Rattle.bus_polling.specs.Outcomes.{isPassed, isSilent, isCut, isReadEnd}
@@ -24,7 +24,7 @@ use Rattle.bus.specs.Line.{Line}
 use Rattle.operations.specs.Ends.{Called}
 use Rattle.state.specs.State.{blank}
 use Rattle.state.specs.declared.State.{State}
-use Rattle.request.specs.Call.{sized, sizedFor, callLine, stopAnswer, answerFor, stateFor}
+use Rattle.request.specs.Call.{sized, sizedFor, stopAnswer, answerFor, stateFor}
 
 abbrev pub answerByTag : ℕ → ℕ
 answerByTag k = cond (eqb k 2) 10 (cond (eqb k 3) 11 255)
@@ -32,10 +32,6 @@ answerByTag k = cond (eqb k 2) 10 (cond (eqb k 3) 11 255)
 pub by-tag : (o : Outcome) → answerByTag (tagOf the-type o) ≡ stopAnswer o
 unfolding stopAnswer
 by-tag o = rw (silent-tag o, cut-tag o)
-
--- where a call begins the write-protect line is taken as high
-pub call-high : (d : Device) (n : ℕ) → callLine d n .chip .interface .protected ≡ 0
-call-high d n = refl
 
 -- a request that is not done after resets and reads is silent or cut
 pub stop-answer : (o : Outcome) → isReadEnd o ≡ true → isPassed o ≡ false → (stopAnswer o ≡ 10) ⊎ (stopAnswer o ≡ 11)

@@ -11,7 +11,7 @@ use Rattle.chip_array.specs.Device.{Device, Setting, fitting, withInterface}
 use Rattle.chip.specs.Chip.{Cycle}
 use Rattle.bus.specs.Line.{Line, uncutLine}
 use Rattle.bus_polling.specs.declared.Outcome.{Outcome}
-use Rattle.bus_polling.specs.Outcomes.{isPassed, isSilent, isCut}
+use Rattle.bus_polling.specs.Outcomes.{isPassed, isSilent, isCut, isProtected}
 use Rattle.operations.specs.Trace.{ArrayOperation}
 use Rattle.progress.specs.Progress.{Progress}
 use Rattle.state.specs.State.{blank}
@@ -57,10 +57,10 @@ sized g a r h m = cond (fitting g a r h) (eqb m (blockSize g)) false
 abbrev pub sizedFor : Setting → Device → Bool
 sizedFor s d = sized (s .geometry) (length (d .array)) (length (d .register)) (length (d .history)) (length (s .mask))
 
--- each call has fate words of its own; the write-protect line is taken as high
+-- each call has fate words of its own; the write-protect line is as it is handed in
 abbrev pub freshInterface : Interface → Interface
 freshInterface i =
-    record { phase = i .phase; count = i .count; address = i .address; first = i .first; column = i .column; operation = i .operation; busy = i .busy; failed = i .failed; loaded = i .loaded; fate = 0; illegal = 0; protected = 0 }
+    record { phase = i .phase; count = i .count; address = i .address; first = i .first; column = i .column; operation = i .operation; busy = i .busy; failed = i .failed; loaded = i .loaded; fate = 0; illegal = 0; protected = i .protected }
 
 -- the line on which a call begins that may send n cycles
 abbrev pub callLine : Device → ℕ → Line
@@ -77,6 +77,13 @@ answerFor o = cond (isPassed o) 0 (stopAnswer o)
 
 abbrev pub stateFor : Outcome → State → State
 stateFor o state = cond (isPassed o) state (blank 2)
+
+-- the same where a status read ended so: 13 on a protected chip, and the state as it came
+unfoldable pub statusAnswer : Outcome → ℕ
+statusAnswer o = cond (isProtected o) 13 (stopAnswer o)
+
+unfoldable pub statusState : Outcome → State → State
+statusState o state = cond (isProtected o) state (blank 2)
 
 -- a request that has come to line l, of n cycles allowed
 abbrev pub endAt : ℕ → ℕ → State → Line → Result

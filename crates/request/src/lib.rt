@@ -11,7 +11,10 @@ ghost use Prim.Native.Nat.{ℕ};
 ghost use Rattle.chip_array.specs.Device.{device, setting};
 ghost use Rattle.bus.specs.Line.{line, newBus};
 ghost use Rattle.request.specs.Start.{Started};
-ghost use Rattle.request.specs.Call.{result, sized, freshInterface, stopAnswer, answerFor, stateFor, endAt};
+ghost use Rattle.request.specs.Call.{result, sized, freshInterface, stopAnswer, statusAnswer, statusState, answerFor, stateFor, endAt};
+
+// The answer of a request that a protected chip does not take.
+const PROTECTED: usize = 13;
 
 // What a request hands back besides the lent memory: the answer by its number, the next state, the chip's interface, and
 // the cycles sent.
@@ -32,14 +35,13 @@ pub fn is_sized(g: Geometry, array: usize, register: usize, history: usize, mask
     false
 }
 
-// The bus where a call begins: its fate words start anew, no cycle was answered illegal, and the
-// write-protect line is taken as high.
+// The bus where a call begins: its fate words start anew, and no cycle was answered illegal. The write-protect line
+// is as it is handed in.
 pub fn begin(mut interface: Interface, allowed: u32) -> Bus
     ensures { λ r. ⌜ r ≡ newBus (freshInterface interface) allowed ⌝ }
 {
     interface.fate = 0;
     interface.illegal = 0;
-    interface.protected = 0;
     Bus::new(interface, allowed)
 }
 
@@ -55,6 +57,26 @@ pub fn stop_answer(outcome: Outcome) -> usize
         Outcome::Illegal => 255,
         Outcome::Protected => 255,
     }
+}
+
+// The number of the answer where a status read did not show that the chip may be written.
+pub fn status_answer(outcome: Outcome) -> usize
+    ensures { λ r. ⌜ r ≡ statusAnswer outcome ⌝ }
+{
+    let Outcome::Protected = outcome else {
+        return stop_answer(outcome);
+    };
+    PROTECTED
+}
+
+// The state that is handed back then.
+pub fn status_state(outcome: Outcome, state: State) -> State
+    ensures { λ r. ⌜ r ≡ statusState outcome state ⌝ }
+{
+    let Outcome::Protected = outcome else {
+        return State::blank(2);
+    };
+    state
 }
 
 // The answer of a request whose last operation ended so.

@@ -1,4 +1,4 @@
--- A request that resets the chip does not depend on the interface that the chip was left with. Assumes nothing.
+-- A request that resets the chip does not depend on the interface that the chip was left with, but for the write-protect line. Assumes nothing.
 use Prim.Native.Nat.{ℕ, zero, suc}
 use mathlib.Core.Bool.{true, false}
 use mathlib.Core.List.{List, [], _∷_}
@@ -6,7 +6,7 @@ use mathlib.Core.Path.{_≡_, refl, sym, ap, subst, _∙_}
 use native.Mathlib.Omega.{arith}
 use borrow.Table.Steps.{cases}
 use lib.ListN.{length}
-use Rattle.chip_interface.specs.Interface.{poweredOn, plainCommand}
+use Rattle.chip_interface.specs.Interface.{plainCommand}
 use Rattle.chip_array.specs.Device.{Device, Setting, device, withInterface}
 use Rattle.chip.specs.Chip.{Cycle, exec, commanded, isConfirm}
 use Rattle.chip.specs.Chip.Cycle.{command, status}
@@ -25,21 +25,22 @@ use Rattle.request.specs.Start.{startLine, startRun, started}
 use Rattle.request.proofs.StartLaws.{Stops}
 use Rattle.mount.specs.Mount.{mountEnd, mounting}
 use Rattle.mount.proofs.EndLaws.{mount-stops, mount-started}
-use Rattle.format.specs.Format.{marksRun, endOfRun, formatting}
+use Rattle.fill_tables.specs.Tables.{endOfRun}
+use Rattle.format.specs.Format.{marksRun, formatting}
 use Rattle.format.proofs.WholeLaws.{format-stops, format-started}
-use Rattle.request_laws.specs.Independent.{SameMemory, SameOutcome}
+use Rattle.request_laws.specs.Independent.{poweredAt, SameMemory, SameOutcome}
 
 module _ (s : Setting) where
   -- what follows FFh
   abbrev others : List Cycle
   others = command 112 ∷ status ∷ []
 
-  -- FFh leaves the interface that the chip has from power on
-  reset-interface : (d : Device) → exec s (callLine d 0 .chip) (command 255) ≡ withInterface poweredOn d
+  -- FFh leaves the interface that the chip has from power on, and the write-protect line
+  reset-interface : (d : Device) → exec s (callLine d 0 .chip) (command 255) ≡ withInterface (poweredAt (d .interface .protected)) d
   unfolding exec commanded isConfirm plainCommand
   reset-interface d = refl
 
-  first-sent : (d : Device) (m : ℕ) → send s (callLine d (suc m)) (command 255) ≡ uncutLine (withInterface poweredOn d) m
+  first-sent : (d : Device) (m : ℕ) → send s (callLine d (suc m)) (command 255) ≡ uncutLine (withInterface (poweredAt (d .interface .protected)) d) m
   first-sent d m = send-one s (callLine d (suc m) .chip) m (command 255) refl ∙ ap (λ (x : Device). uncutLine x m) (reset-interface d)
 
   -- the request after its reset, of which FFh has led to line l
@@ -54,7 +55,7 @@ module _ (s : Setting) where
   unfolding sent
   sent-from l t = rw t
 
-  run-from : (d : Device) (m : ℕ) → startRun s d (suc m) ≡ resetFrom (uncutLine (withInterface poweredOn d) m)
+  run-from : (d : Device) (m : ℕ) → startRun s d (suc m) ≡ resetFrom (uncutLine (withInterface (poweredAt (d .interface .protected)) d) m)
   unfolding resetOn isPassed
   run-from d m =
       let l = callLine d (suc m) in
@@ -101,7 +102,7 @@ module _ (s : Setting) (d e : Device) (same : SameMemory d e) where
   run-same : (m : ℕ) → startRun s e (suc m) ≡ startRun s d (suc m)
   run-same m =
       run-from s e m
-      ∙ (λ i. resetFrom s (uncutLine (device poweredOn (same .array i) (same .register i) (same .history i)) m))
+      ∙ (λ i. resetFrom s (uncutLine (device (poweredAt (same .line i)) (same .array i) (same .register i) (same .history i)) m))
       ∙ sym (run-from s d m)
 
   rest-same : (n : ℕ) (rest : Progress → Result) → Stops n rest → SameOutcome (rest (startRun s d n)) (rest (startRun s e n))
@@ -129,14 +130,14 @@ module _ (s : Setting) (d e : Device) (same : SameMemory d e) where
   pub format-independent : (n : ℕ) (state : State) → SameOutcome (formatting s d n state) (formatting s e n state)
   format-independent n state =
       along (sym (format-started s d n state)) (sym (format-started s e n state))
-      (start-same n state (λ p. endOfRun n (marksRun s p)) (format-stops s n))
+      (start-same n state (λ p. endOfRun n (marksRun s state p)) (format-stops s n state))
 
--- so a chip that was switched on again mounts and formats as the one that was left
+-- so a chip that was switched on again, its write-protect line as it was, mounts and formats as the one that was left
 module _ (s : Setting) (d : Device) (n : ℕ) (state : State) where
-  pub mount-powered-on : SameOutcome (mounting s d n state) (mounting s (withInterface poweredOn d) n state)
+  pub mount-powered-on : SameOutcome (mounting s d n state) (mounting s (withInterface (poweredAt (d .interface .protected)) d) n state)
   mount-powered-on =
-      mount-independent s d (withInterface poweredOn d) (record { array = refl; register = refl; history = refl }) n state
+      mount-independent s d (withInterface (poweredAt (d .interface .protected)) d) (record { line = refl; array = refl; register = refl; history = refl }) n state
 
-  pub format-powered-on : SameOutcome (formatting s d n state) (formatting s (withInterface poweredOn d) n state)
+  pub format-powered-on : SameOutcome (formatting s d n state) (formatting s (withInterface (poweredAt (d .interface .protected)) d) n state)
   format-powered-on =
-      format-independent s d (withInterface poweredOn d) (record { array = refl; register = refl; history = refl }) n state
+      format-independent s d (withInterface (poweredAt (d .interface .protected)) d) (record { line = refl; array = refl; register = refl; history = refl }) n state

@@ -1,17 +1,26 @@
 // The requests that write one page and erase one logical block.
+use bus::Bus;
+use bus_polling::Outcome;
 use chip_interface::Interface;
 use fill_cursor::Cursor;
 use fill_cursor::Running;
 use geometry::Geometry;
 use request::Returned;
 use state::State;
+ghost use mathlib.Core.List.{List};
 ghost use mathlib.Core.Path.{_≡_};
-ghost use Prim.Native.Nat.{_*_, _<_};
+ghost use Prim.Native.Nat.{ℕ, _*_, _<_, _≤_};
 ghost use lib.ListN.{length};
 ghost use Rattle.chip_array.specs.Device.{device, setting};
+ghost use Rattle.chip.specs.Chip.{Cycle};
+ghost use Rattle.bus.specs.Line.{line};
+ghost use Rattle.bus_polling.specs.declared.Outcome.the-variants.{Passed};
 ghost use Rattle.operations.specs.Ends.{Lent};
-ghost use Rattle.request.specs.Call.{result, callLine};
-ghost use Rattle.write_changes.specs.Changes.{changing, writing, erasingLogical};
+ghost use Rattle.operations.specs.Trace.{ArrayOperation};
+ghost use Rattle.progress.specs.Progress.{progress};
+ghost use Rattle.request.specs.Call.{result, endAt, statusAnswer, statusState};
+ghost use Rattle.fill_tables.specs.Tables.{endOfRun};
+ghost use Rattle.write_changes.specs.Changes.{changeRun, writing, erasingLogical};
 ghost use Rattle.write.specs.Update.{update};
 
 fn wide(x: u16) -> usize
@@ -20,11 +29,12 @@ fn wide(x: u16) -> usize
     x as usize
 }
 
-// The new copy of a logical block: so many pages from the first on are given, the others are kept from the old copy.
-fn change(
+// The new copy of a logical block, once the chip may be written: so many pages from the first on are given, the others
+// are kept from the old copy.
+fn fill(
     state: State,
+    from: Bus,
     g: Geometry,
-    interface: Interface,
     array: &mut [u8],
     register: &mut [u8],
     history: &mut [u8],
@@ -37,13 +47,13 @@ fn change(
     old: usize,
     bytes: &[u8],
 ) -> Returned
-    requires { ⌜ Lent (setting g (now mask) (now fates)) (callLine (device interface (now array) (now register) (now history)) allowed) ⌝ }
+    requires { ⌜ Lent (setting g (now mask) (now fates)) (line from (now array) (now register) (now history)) ⌝ }
+    requires { ⌜ from .left ≤ allowed ⌝ }
     requires { ⌜ state .last < g .blocks ⌝ }
     requires { ⌜ logical < g .logical ⌝ }
     requires { ⌜ length (now bytes) ≡ count * g .main ⌝ }
-    ensures { λ r. ⌜ result (r .answer) (r .state) (device (r .interface) (now (array .exit)) (now (register .exit)) (now (history .exit))) (r .sent) ≡ changing (setting g (now (mask .entry)) (now (fates .entry))) (device interface (now (array .entry)) (now (register .entry)) (now (history .entry))) allowed state (update logical old first count (now (bytes .entry))) ⌝ }
+    ensures { λ r. ⌜ ((cs : List Cycle) (os : List ArrayOperation) → result (r .answer) (r .state) (device (r .interface) (now (array .exit)) (now (register .exit)) (now (history .exit))) (r .sent) ≡ endOfRun allowed (changeRun (setting g (now (mask .entry)) (now (fates .entry))) state (update logical old first count (now (bytes .entry))) (progress (line from (now (array .entry)) (now (register .entry)) (now (history .entry))) Passed cs os))) ⌝ }
 {
-    let from = request::begin(interface, allowed);
     let mut page = [0u8; 4352];
     let size = geometry::page_size(g);
     let cursor = Cursor::begin(0, logical, first, count, old);
@@ -65,6 +75,15 @@ fn change(
     let bus = ran.bus;
     let next = ran.state;
     request::end(c.answer, next, bus, allowed)
+}
+
+// The end of a request whose status read did not show that the chip may be written.
+fn stop(outcome: Outcome, state: State, bus: Bus, allowed: u32) -> Returned
+    requires { ⌜ bus .left ≤ allowed ⌝ }
+    ensures { λ r. ⌜ ((a p h : List ℕ) → result (r .answer) (r .state) (device (r .interface) a p h) (r .sent) ≡ endAt allowed (statusAnswer outcome) (statusState outcome state) (line bus a p h)) ⌝ }
+{
+    let answer = request::status_answer(outcome);
+    request::end(answer, request::status_state(outcome, state), bus, allowed)
 }
 
 // Writes a page of a logical block.
@@ -98,12 +117,19 @@ pub fn write(
     if refused != 0 {
         return request_refusals::unchanged(refused, state, interface);
     }
+    let from = request::begin(interface, allowed);
+    let shown = operations::read_status(from, g, array, register, history, mask, fates);
+    let bus = shown.bus;
+    let outcome = shown.outcome;
+    let Outcome::Passed = outcome else {
+        return stop(outcome, state, bus, allowed);
+    };
     let map = state.map;
     let old = wide(map[logical]);
-    change(
+    fill(
         state,
+        bus,
         g,
-        interface,
         array,
         register,
         history,
@@ -147,11 +173,18 @@ pub fn erase(
     if refused != 0 {
         return request_refusals::unchanged(refused, state, interface);
     }
+    let from = request::begin(interface, allowed);
+    let shown = operations::read_status(from, g, array, register, history, mask, fates);
+    let bus = shown.bus;
+    let outcome = shown.outcome;
+    let Outcome::Passed = outcome else {
+        return stop(outcome, state, bus, allowed);
+    };
     let none = [0u8; 0];
-    change(
+    fill(
         state,
+        bus,
         g,
-        interface,
         array,
         register,
         history,

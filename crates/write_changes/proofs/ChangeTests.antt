@@ -13,7 +13,7 @@ use Rattle.chip_array.specs.Device.{Device, Setting, device, setting, fitting, 
 use Rattle.chip.specs.Chip.{isConfirm, confirmed, confirmable, commanded, dataTaken, dataGiven, dataByte, finished, statusRead, exec}
 use Rattle.bus.specs.Line.{mayGo, cutAfter, send, byteOut, sendAll, sent, goesOn}
 use Rattle.bus_polling.specs.Polling.{waiting, polls, outcomeOf, endedAs}
-use Rattle.bus_polling.specs.Outcomes.{isPassed, isFailed, isSilent, isCut}
+use Rattle.bus_polling.specs.Outcomes.{isPassed, isFailed, isSilent, isCut, isProtected}
 use Rattle.bus_sequences.specs.Cycles.{readCycles, readOutcome, putOut, readOutputs}
 use Rattle.operations.specs.Trace.{startedBy}
 use Rattle.pages.specs.Check.{zeroBits}
@@ -22,11 +22,12 @@ use Rattle.copies.specs.Table as table
 use Rattle.state_choose.specs.Choose.{permitted, searchAfter}
 use Rattle.state.specs.State.{copyBits}
 use Rattle.state.specs.declared.State.{State}
-use Rattle.progress.specs.Progress.{readOn}
+use Rattle.operations.specs.Ends.{statusEnd}
+use Rattle.progress.specs.Progress.{readOn, statusOn}
 use Rattle.progress.specs.Steps.{eraseOn, programOn}
-use Rattle.request.specs.Call.{Result, stopAnswer}
+use Rattle.request.specs.Call.{Result, stopAnswer, statusAnswer, statusState}
 use Rattle.fill.specs.Fill.{mainOf, mainRead, pageFilled, pagesFilled, tableMain, dataSource, isGiven}
-use Rattle.fill_tables.specs.Tables.{afterFill, tryBlock, tryTable, tablesFilled}
+use Rattle.fill_tables.specs.Tables.{afterStatus, afterFill, tryBlock, tryTable, tablesFilled}
 use Rattle.write_changes.specs.Changes.{writeUpdate, eraseUpdate, afterTry, copyTried, copiesFilled, thenTable, changing}
 
 abbrev small : Geometry
@@ -52,41 +53,69 @@ written fates st = changing (call fates) chip 10000 st (writeUpdate st 0 0 (repl
 abbrev told : Result → List ℕ
 told r = r .answer ∷ r .sent ∷ r .state .table ∷ r .state .last ∷ r .state .number ∷ []
 
--- without an old copy: 235 cycles, in block 1 under number 2
-first-write : told (written [] (state 0 2 65535)) ≡ 0 ∷ 235 ∷ 0 ∷ 1 ∷ 3 ∷ []
-unfolding ones begun statusMode readMode plainCommand addressFits latched addressed fateWord nextFate started statusByte fitting readStarted programStarted eraseStarted completed isConfirm confirmed confirmable commanded dataTaken dataGiven dataByte finished statusRead exec programmed weakened raised put mayGo cutAfter send byteOut sendAll sent goesOn waiting polls outcomeOf isPassed endedAs readCycles readOutcome putOut readOutputs startedBy readOn stopAnswer isSilent isCut bitAt withBit zeroBits numberWidth bytesOf numberOf labelBytes encoded kindOf eraseOn programOn isFailed mainOf mainRead pageFilled pagesFilled tableMain permitted searchAfter afterFill tryBlock tryTable tablesFilled table.tablePage isDataKind isTableKind copyBits copyTried afterTry copiesFilled thenTable dataSource isGiven
+-- without an old copy: 237 cycles, in block 1 under number 2
+first-write : told (written [] (state 0 2 65535)) ≡ 0 ∷ 237 ∷ 0 ∷ 1 ∷ 3 ∷ []
+unfolding ones begun statusMode readMode plainCommand addressFits latched addressed fateWord nextFate started statusByte fitting readStarted programStarted eraseStarted completed isConfirm confirmed confirmable commanded dataTaken dataGiven dataByte finished statusRead exec programmed weakened raised put mayGo cutAfter send byteOut sendAll sent goesOn waiting polls outcomeOf isPassed endedAs readCycles readOutcome putOut readOutputs startedBy readOn stopAnswer statusOn statusEnd afterStatus statusAnswer statusState isProtected isSilent isCut bitAt withBit zeroBits numberWidth bytesOf numberOf labelBytes encoded kindOf eraseOn programOn isFailed mainOf mainRead pageFilled pagesFilled tableMain permitted searchAfter afterFill tryBlock tryTable tablesFilled table.tablePage isDataKind isTableKind copyBits copyTried afterTry copiesFilled thenTable dataSource isGiven
 first-write = refl
 
--- over an old copy in block 1 three pages are read: 361 cycles, in block 2
-second-write : told (written [] (state 1 3 1)) ≡ 0 ∷ 361 ∷ 0 ∷ 2 ∷ 4 ∷ []
-unfolding ones begun statusMode readMode plainCommand addressFits latched addressed fateWord nextFate started statusByte fitting readStarted programStarted eraseStarted completed isConfirm confirmed confirmable commanded dataTaken dataGiven dataByte finished statusRead exec programmed weakened raised put mayGo cutAfter send byteOut sendAll sent goesOn waiting polls outcomeOf isPassed endedAs readCycles readOutcome putOut readOutputs startedBy readOn stopAnswer isSilent isCut bitAt withBit zeroBits numberWidth bytesOf numberOf labelBytes encoded kindOf eraseOn programOn isFailed mainOf mainRead pageFilled pagesFilled tableMain permitted searchAfter afterFill tryBlock tryTable tablesFilled table.tablePage isDataKind isTableKind copyBits copyTried afterTry copiesFilled thenTable dataSource isGiven
+-- over an old copy in block 1 three pages are read: 363 cycles, in block 2
+second-write : told (written [] (state 1 3 1)) ≡ 0 ∷ 363 ∷ 0 ∷ 2 ∷ 4 ∷ []
+unfolding ones begun statusMode readMode plainCommand addressFits latched addressed fateWord nextFate started statusByte fitting readStarted programStarted eraseStarted completed isConfirm confirmed confirmable commanded dataTaken dataGiven dataByte finished statusRead exec programmed weakened raised put mayGo cutAfter send byteOut sendAll sent goesOn waiting polls outcomeOf isPassed endedAs readCycles readOutcome putOut readOutputs startedBy readOn stopAnswer statusOn statusEnd afterStatus statusAnswer statusState isProtected isSilent isCut bitAt withBit zeroBits numberWidth bytesOf numberOf labelBytes encoded kindOf eraseOn programOn isFailed mainOf mainRead pageFilled pagesFilled tableMain permitted searchAfter afterFill tryBlock tryTable tablesFilled table.tablePage isDataKind isTableKind copyBits copyTried afterTry copiesFilled thenTable dataSource isGiven
 second-write = refl
 
 -- an erase fills a copy of FFh, with nothing read
-erase-copy : told (changing (call []) chip 10000 (state 1 3 1) (eraseUpdate 0)) ≡ 0 ∷ 235 ∷ 0 ∷ 2 ∷ 4 ∷ []
-unfolding ones begun statusMode readMode plainCommand addressFits latched addressed fateWord nextFate started statusByte fitting readStarted programStarted eraseStarted completed isConfirm confirmed confirmable commanded dataTaken dataGiven dataByte finished statusRead exec programmed weakened raised put mayGo cutAfter send byteOut sendAll sent goesOn waiting polls outcomeOf isPassed endedAs readCycles readOutcome putOut readOutputs startedBy readOn stopAnswer isSilent isCut bitAt withBit zeroBits numberWidth bytesOf numberOf labelBytes encoded kindOf eraseOn programOn isFailed mainOf mainRead pageFilled pagesFilled tableMain permitted searchAfter afterFill tryBlock tryTable tablesFilled table.tablePage isDataKind isTableKind copyBits copyTried afterTry copiesFilled thenTable dataSource isGiven
+erase-copy : told (changing (call []) chip 10000 (state 1 3 1) (eraseUpdate 0)) ≡ 0 ∷ 237 ∷ 0 ∷ 2 ∷ 4 ∷ []
+unfolding ones begun statusMode readMode plainCommand addressFits latched addressed fateWord nextFate started statusByte fitting readStarted programStarted eraseStarted completed isConfirm confirmed confirmable commanded dataTaken dataGiven dataByte finished statusRead exec programmed weakened raised put mayGo cutAfter send byteOut sendAll sent goesOn waiting polls outcomeOf isPassed endedAs readCycles readOutcome putOut readOutputs startedBy readOn stopAnswer statusOn statusEnd afterStatus statusAnswer statusState isProtected isSilent isCut bitAt withBit zeroBits numberWidth bytesOf numberOf labelBytes encoded kindOf eraseOn programOn isFailed mainOf mainRead pageFilled pagesFilled tableMain permitted searchAfter afterFill tryBlock tryTable tablesFilled table.tablePage isDataKind isTableKind copyBits copyTried afterTry copiesFilled thenTable dataSource isGiven
 erase-copy = refl
 
 -- the first erase fails: another fill in block 3, then a table in block 1, which the old copy left
-failed-erase : told (written (65536 ∷ []) (state 1 3 1)) ≡ 0 ∷ 603 ∷ 1 ∷ 1 ∷ 6 ∷ []
-unfolding ones begun statusMode readMode plainCommand addressFits latched addressed fateWord nextFate started statusByte fitting readStarted programStarted eraseStarted completed isConfirm confirmed confirmable commanded dataTaken dataGiven dataByte finished statusRead exec programmed weakened raised put mayGo cutAfter send byteOut sendAll sent goesOn waiting polls outcomeOf isPassed endedAs readCycles readOutcome putOut readOutputs startedBy readOn stopAnswer isSilent isCut bitAt withBit zeroBits numberWidth bytesOf numberOf labelBytes encoded kindOf eraseOn programOn isFailed mainOf mainRead pageFilled pagesFilled tableMain permitted searchAfter afterFill tryBlock tryTable tablesFilled table.tablePage isDataKind isTableKind copyBits copyTried afterTry copiesFilled thenTable dataSource isGiven
+failed-erase : told (written (65536 ∷ []) (state 1 3 1)) ≡ 0 ∷ 605 ∷ 1 ∷ 1 ∷ 6 ∷ []
+unfolding ones begun statusMode readMode plainCommand addressFits latched addressed fateWord nextFate started statusByte fitting readStarted programStarted eraseStarted completed isConfirm confirmed confirmable commanded dataTaken dataGiven dataByte finished statusRead exec programmed weakened raised put mayGo cutAfter send byteOut sendAll sent goesOn waiting polls outcomeOf isPassed endedAs readCycles readOutcome putOut readOutputs startedBy readOn stopAnswer statusOn statusEnd afterStatus statusAnswer statusState isProtected isSilent isCut bitAt withBit zeroBits numberWidth bytesOf numberOf labelBytes encoded kindOf eraseOn programOn isFailed mainOf mainRead pageFilled pagesFilled tableMain permitted searchAfter afterFill tryBlock tryTable tablesFilled table.tablePage isDataKind isTableKind copyBits copyTried afterTry copiesFilled thenTable dataSource isGiven
 failed-erase = refl
 
 -- the last number is used, and the next fill has none
-last-number : told (written [] (state 1 4294967295 1)) ≡ 0 ∷ 361 ∷ 0 ∷ 2 ∷ 4294967296 ∷ []
-unfolding ones begun statusMode readMode plainCommand addressFits latched addressed fateWord nextFate started statusByte fitting readStarted programStarted eraseStarted completed isConfirm confirmed confirmable commanded dataTaken dataGiven dataByte finished statusRead exec programmed weakened raised put mayGo cutAfter send byteOut sendAll sent goesOn waiting polls outcomeOf isPassed endedAs readCycles readOutcome putOut readOutputs startedBy readOn stopAnswer isSilent isCut bitAt withBit zeroBits numberWidth bytesOf numberOf labelBytes encoded kindOf eraseOn programOn isFailed mainOf mainRead pageFilled pagesFilled tableMain permitted searchAfter afterFill tryBlock tryTable tablesFilled table.tablePage isDataKind isTableKind copyBits copyTried afterTry copiesFilled thenTable dataSource isGiven
+last-number : told (written [] (state 1 4294967295 1)) ≡ 0 ∷ 363 ∷ 0 ∷ 2 ∷ 4294967296 ∷ []
+unfolding ones begun statusMode readMode plainCommand addressFits latched addressed fateWord nextFate started statusByte fitting readStarted programStarted eraseStarted completed isConfirm confirmed confirmable commanded dataTaken dataGiven dataByte finished statusRead exec programmed weakened raised put mayGo cutAfter send byteOut sendAll sent goesOn waiting polls outcomeOf isPassed endedAs readCycles readOutcome putOut readOutputs startedBy readOn stopAnswer statusOn statusEnd afterStatus statusAnswer statusState isProtected isSilent isCut bitAt withBit zeroBits numberWidth bytesOf numberOf labelBytes encoded kindOf eraseOn programOn isFailed mainOf mainRead pageFilled pagesFilled tableMain permitted searchAfter afterFill tryBlock tryTable tablesFilled table.tablePage isDataKind isTableKind copyBits copyTried afterTry copiesFilled thenTable dataSource isGiven
 last-number = refl
 
-spent : told (written [] (state 1 4294967296 1)) ≡ 9 ∷ 0 ∷ 0 ∷ 0 ∷ 0 ∷ []
-unfolding ones begun statusMode readMode plainCommand addressFits latched addressed fateWord nextFate started statusByte fitting readStarted programStarted eraseStarted completed isConfirm confirmed confirmable commanded dataTaken dataGiven dataByte finished statusRead exec programmed weakened raised put mayGo cutAfter send byteOut sendAll sent goesOn waiting polls outcomeOf isPassed endedAs readCycles readOutcome putOut readOutputs startedBy readOn stopAnswer isSilent isCut bitAt withBit zeroBits numberWidth bytesOf numberOf labelBytes encoded kindOf eraseOn programOn isFailed mainOf mainRead pageFilled pagesFilled tableMain permitted searchAfter afterFill tryBlock tryTable tablesFilled table.tablePage isDataKind isTableKind copyBits copyTried afterTry copiesFilled thenTable dataSource isGiven
+spent : told (written [] (state 1 4294967296 1)) ≡ 9 ∷ 2 ∷ 0 ∷ 0 ∷ 0 ∷ []
+unfolding ones begun statusMode readMode plainCommand addressFits latched addressed fateWord nextFate started statusByte fitting readStarted programStarted eraseStarted completed isConfirm confirmed confirmable commanded dataTaken dataGiven dataByte finished statusRead exec programmed weakened raised put mayGo cutAfter send byteOut sendAll sent goesOn waiting polls outcomeOf isPassed endedAs readCycles readOutcome putOut readOutputs startedBy readOn stopAnswer statusOn statusEnd afterStatus statusAnswer statusState isProtected isSilent isCut bitAt withBit zeroBits numberWidth bytesOf numberOf labelBytes encoded kindOf eraseOn programOn isFailed mainOf mainRead pageFilled pagesFilled tableMain permitted searchAfter afterFill tryBlock tryTable tablesFilled table.tablePage isDataKind isTableKind copyBits copyTried afterTry copiesFilled thenTable dataSource isGiven
 spent = refl
 
 -- both blocks that are left fail: worn
-worn : told (written (65536 ∷ 65536 ∷ []) (state 1 3 1)) ≡ 8 ∷ 14 ∷ 0 ∷ 0 ∷ 0 ∷ []
-unfolding ones begun statusMode readMode plainCommand addressFits latched addressed fateWord nextFate started statusByte fitting readStarted programStarted eraseStarted completed isConfirm confirmed confirmable commanded dataTaken dataGiven dataByte finished statusRead exec programmed weakened raised put mayGo cutAfter send byteOut sendAll sent goesOn waiting polls outcomeOf isPassed endedAs readCycles readOutcome putOut readOutputs startedBy readOn stopAnswer isSilent isCut bitAt withBit zeroBits numberWidth bytesOf numberOf labelBytes encoded kindOf eraseOn programOn isFailed mainOf mainRead pageFilled pagesFilled tableMain permitted searchAfter afterFill tryBlock tryTable tablesFilled table.tablePage isDataKind isTableKind copyBits copyTried afterTry copiesFilled thenTable dataSource isGiven
+worn : told (written (65536 ∷ 65536 ∷ []) (state 1 3 1)) ≡ 8 ∷ 16 ∷ 0 ∷ 0 ∷ 0 ∷ []
+unfolding ones begun statusMode readMode plainCommand addressFits latched addressed fateWord nextFate started statusByte fitting readStarted programStarted eraseStarted completed isConfirm confirmed confirmable commanded dataTaken dataGiven dataByte finished statusRead exec programmed weakened raised put mayGo cutAfter send byteOut sendAll sent goesOn waiting polls outcomeOf isPassed endedAs readCycles readOutcome putOut readOutputs startedBy readOn stopAnswer statusOn statusEnd afterStatus statusAnswer statusState isProtected isSilent isCut bitAt withBit zeroBits numberWidth bytesOf numberOf labelBytes encoded kindOf eraseOn programOn isFailed mainOf mainRead pageFilled pagesFilled tableMain permitted searchAfter afterFill tryBlock tryTable tablesFilled table.tablePage isDataKind isTableKind copyBits copyTried afterTry copiesFilled thenTable dataSource isGiven
 worn = refl
 
 -- 256 busy status reads: silent, and stopped
-silent : told (written (256 ∷ []) (state 1 3 1)) ≡ 10 ∷ 262 ∷ 0 ∷ 0 ∷ 0 ∷ []
-unfolding ones begun statusMode readMode plainCommand addressFits latched addressed fateWord nextFate started statusByte fitting readStarted programStarted eraseStarted completed isConfirm confirmed confirmable commanded dataTaken dataGiven dataByte finished statusRead exec programmed weakened raised put mayGo cutAfter send byteOut sendAll sent goesOn waiting polls outcomeOf isPassed endedAs readCycles readOutcome putOut readOutputs startedBy readOn stopAnswer isSilent isCut bitAt withBit zeroBits numberWidth bytesOf numberOf labelBytes encoded kindOf eraseOn programOn isFailed mainOf mainRead pageFilled pagesFilled tableMain permitted searchAfter afterFill tryBlock tryTable tablesFilled table.tablePage isDataKind isTableKind copyBits copyTried afterTry copiesFilled thenTable dataSource isGiven
+silent : told (written (256 ∷ []) (state 1 3 1)) ≡ 10 ∷ 264 ∷ 0 ∷ 0 ∷ 0 ∷ []
+unfolding ones begun statusMode readMode plainCommand addressFits latched addressed fateWord nextFate started statusByte fitting readStarted programStarted eraseStarted completed isConfirm confirmed confirmable commanded dataTaken dataGiven dataByte finished statusRead exec programmed weakened raised put mayGo cutAfter send byteOut sendAll sent goesOn waiting polls outcomeOf isPassed endedAs readCycles readOutcome putOut readOutputs startedBy readOn stopAnswer statusOn statusEnd afterStatus statusAnswer statusState isProtected isSilent isCut bitAt withBit zeroBits numberWidth bytesOf numberOf labelBytes encoded kindOf eraseOn programOn isFailed mainOf mainRead pageFilled pagesFilled tableMain permitted searchAfter afterFill tryBlock tryTable tablesFilled table.tablePage isDataKind isTableKind copyBits copyTried afterTry copiesFilled thenTable dataSource isGiven
 silent = refl
+
+-- the same chip with its write-protect line low
+abbrev protectedChip : Device
+protectedChip =
+    device record { phase = 0; count = 0; address = 0; first = 0; column = 0; operation = 0; busy = 0; failed = 0; loaded = 0; fate = 0; illegal = 0; protected = 1 }
+    (replicate 768 255) (replicate 48 255) (replicate 4 0)
+
+abbrev untaken : ℕ → State → Result
+untaken allowed st = changing (call []) protectedChip allowed st (writeUpdate st 0 0 (replicate 32 165))
+
+-- the status shows a protected chip: 13 after two cycles, and the state is the one handed in
+protected-write : told (untaken 2 (state 1 3 1)) ≡ 13 ∷ 2 ∷ 0 ∷ 1 ∷ 3 ∷ []
+unfolding ones begun statusMode readMode plainCommand addressFits latched addressed fateWord nextFate started statusByte fitting readStarted programStarted eraseStarted completed isConfirm confirmed confirmable commanded dataTaken dataGiven dataByte finished statusRead exec programmed weakened raised put mayGo cutAfter send byteOut sendAll sent goesOn waiting polls outcomeOf isPassed endedAs readCycles readOutcome putOut readOutputs startedBy readOn stopAnswer statusOn statusEnd afterStatus statusAnswer statusState isProtected isSilent isCut bitAt withBit zeroBits numberWidth bytesOf numberOf labelBytes encoded kindOf eraseOn programOn isFailed mainOf mainRead pageFilled pagesFilled tableMain permitted searchAfter afterFill tryBlock tryTable tablesFilled table.tablePage isDataKind isTableKind copyBits copyTried afterTry copiesFilled thenTable dataSource isGiven
+protected-write = refl
+
+-- so before the number is asked for, and before a block is
+protected-spent : told (untaken 10000 (state 1 4294967296 1)) ≡ 13 ∷ 2 ∷ 0 ∷ 1 ∷ 4294967296 ∷ []
+unfolding ones begun statusMode readMode plainCommand addressFits latched addressed fateWord nextFate started statusByte fitting readStarted programStarted eraseStarted completed isConfirm confirmed confirmable commanded dataTaken dataGiven dataByte finished statusRead exec programmed weakened raised put mayGo cutAfter send byteOut sendAll sent goesOn waiting polls outcomeOf isPassed endedAs readCycles readOutcome putOut readOutputs startedBy readOn stopAnswer statusOn statusEnd afterStatus statusAnswer statusState isProtected isSilent isCut bitAt withBit zeroBits numberWidth bytesOf numberOf labelBytes encoded kindOf eraseOn programOn isFailed mainOf mainRead pageFilled pagesFilled tableMain permitted searchAfter afterFill tryBlock tryTable tablesFilled table.tablePage isDataKind isTableKind copyBits copyTried afterTry copiesFilled thenTable dataSource isGiven
+protected-spent = refl
+
+protected-erase : told (changing (call []) protectedChip 10000 (state 1 3 1) (eraseUpdate 0)) ≡ 13 ∷ 2 ∷ 0 ∷ 1 ∷ 3 ∷ []
+unfolding ones begun statusMode readMode plainCommand addressFits latched addressed fateWord nextFate started statusByte fitting readStarted programStarted eraseStarted completed isConfirm confirmed confirmable commanded dataTaken dataGiven dataByte finished statusRead exec programmed weakened raised put mayGo cutAfter send byteOut sendAll sent goesOn waiting polls outcomeOf isPassed endedAs readCycles readOutcome putOut readOutputs startedBy readOn stopAnswer statusOn statusEnd afterStatus statusAnswer statusState isProtected isSilent isCut bitAt withBit zeroBits numberWidth bytesOf numberOf labelBytes encoded kindOf eraseOn programOn isFailed mainOf mainRead pageFilled pagesFilled tableMain permitted searchAfter afterFill tryBlock tryTable tablesFilled table.tablePage isDataKind isTableKind copyBits copyTried afterTry copiesFilled thenTable dataSource isGiven
+protected-erase = refl
+
+-- cut before the status is read: stopped
+protected-cut : told (untaken 1 (state 1 3 1)) ≡ 11 ∷ 1 ∷ 0 ∷ 0 ∷ 0 ∷ []
+unfolding ones begun statusMode readMode plainCommand addressFits latched addressed fateWord nextFate started statusByte fitting readStarted programStarted eraseStarted completed isConfirm confirmed confirmable commanded dataTaken dataGiven dataByte finished statusRead exec programmed weakened raised put mayGo cutAfter send byteOut sendAll sent goesOn waiting polls outcomeOf isPassed endedAs readCycles readOutcome putOut readOutputs startedBy readOn stopAnswer statusOn statusEnd afterStatus statusAnswer statusState isProtected isSilent isCut bitAt withBit zeroBits numberWidth bytesOf numberOf labelBytes encoded kindOf eraseOn programOn isFailed mainOf mainRead pageFilled pagesFilled tableMain permitted searchAfter afterFill tryBlock tryTable tablesFilled table.tablePage isDataKind isTableKind copyBits copyTried afterTry copiesFilled thenTable dataSource isGiven
+protected-cut = refl

@@ -4,7 +4,7 @@ use mathlib.Core.Bool.{Bool, true, false, cond}
 use mathlib.Core.List.{List}
 use mathlib.Core.Path.{_≡_, refl}
 use lib.Dec.{eqb}
-use Rattle.chip_array.specs.Device.{Setting}
+use Rattle.chip_array.specs.Device.{Device, Setting}
 use Rattle.bus_polling.specs.Outcomes.{isPassed, isFailed}
 use Rattle.pages.specs.Layout.{dataKind}
 use Rattle.state_choose.specs.Choose.{chosen}
@@ -16,9 +16,9 @@ use Rattle.progress.specs.Progress.{Progress}
 use Rattle.progress.specs.Kept.{Kept}
 use Rattle.fill.specs.Fill.{copy, dataSource}
 use Rattle.fill.proofs.KeepLaws.{filled-keeps}
-use Rattle.fill_tables.specs.Tables.{Tabled}
+use Rattle.fill_tables.specs.Tables.{Tabled, afterStatus}
 use Rattle.fill_tables.proofs.KeepLaws.{tables-keep}
-use Rattle.write_changes.specs.Changes.{Update, copyFilled, Copied, afterTry, copyTried, copiesFilled, thenTable, changeRun}
+use Rattle.write_changes.specs.Changes.{Update, copyFilled, Copied, afterTry, copyTried, copiesFilled, thenTable, changeRun, changeFirst, changeCall}
 
 module _ (s : Setting) (P : Progress → Type 0) (k : Kept s P) where
   -- both arms of a test
@@ -54,3 +54,10 @@ module _ (s : Setting) (P : Progress → Type 0) (k : Kept s P) where
       tabled-arms (eqb (d .answer) 0) _ _
       (tabled-arms (d .failed) _ _ (tables-keep s P k (heldBits (d .state) (s .geometry .logical)) (numbersLeft (d .state)) (d .state) (d .progress) here) here)
       here
+
+  -- what holds after the status read
+  pub call-keeps : (d : Device) (n : ℕ) (st : State) (u : Update) → P (changeFirst s d n) → P (changeCall s d n st u .progress)
+  unfolding afterStatus
+  call-keeps d n st u h =
+      let p = changeFirst s d n in
+      tabled-arms (isPassed (p .outcome)) _ _ (change-keeps st u p h) h

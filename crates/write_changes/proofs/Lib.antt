@@ -1,3 +1,4 @@
 pub mod ChangeTests
 pub mod KeepLaws
 pub mod LoopLaws
+pub mod StopLaws

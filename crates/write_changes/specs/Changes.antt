@@ -14,12 +14,12 @@ use Rattle.state_choose.specs.declared.Choice.{Choice}
 use Rattle.state_choose.specs.declared.Choice.the-variants.{Block, Worn}
 use Rattle.state.specs.State.{blank, none, nextNumber, numbersLeft, taken, withInvalid, withCopy, heldBits}
 use Rattle.state.specs.declared.State.{State}
-use Rattle.progress.specs.Progress.{Progress, progress}
+use Rattle.progress.specs.Progress.{Progress, progress, statusOn}
 use Rattle.progress.specs.Steps.{resumed}
-use Rattle.request.specs.Call.{Result, result, Performed, resultOf, unsent, performed, sizedFor, callLine, stopAnswer, endAt}
+use Rattle.request.specs.Call.{Result, result, Performed, resultOf, unsent, performed, sizedFor, callLine, stopAnswer}
 use Rattle.request_refusals.specs.Refusals.{refusal, refusalOf}
 use Rattle.fill.specs.Fill.{copy, dataSource, filled}
-use Rattle.fill_tables.specs.Tables.{Tabled, tabled, tablesFilled}
+use Rattle.fill_tables.specs.Tables.{Tabled, tabled, endOfRun, afterStatus, tablesFilled}
 
 -- the new copy of a logical block: the block of the old one, none for an erase; the pages given and their bytes
 pub record Update : Type 0 where
@@ -90,13 +90,15 @@ thenTable s d =
 abbrev pub changeRun : Setting → State → Update → Progress → Tabled
 changeRun s st u p = thenTable s (copiesFilled s (heldBits st (s .geometry .logical)) u (numbersLeft st) false st p)
 
--- a request that is not refused, from the chip handed in; n: the cycles allowed
+-- a request that is not refused, from the chip handed in; n: the cycles allowed. It first reads the status
+abbrev pub changeFirst : Setting → Device → ℕ → Progress
+changeFirst s d n = statusOn s (progress (callLine d n) Passed [] [])
+
 abbrev pub changeCall : Setting → Device → ℕ → State → Update → Tabled
-changeCall s d n st u = changeRun s st u (progress (callLine d n) Passed [] [])
+changeCall s d n st u = afterStatus st (changeFirst s d n) (changeRun s st u (changeFirst s d n))
 
 abbrev pub changing : Setting → Device → ℕ → State → Update → Result
-changing s d n st u =
-    let t = changeCall s d n st u in endAt n (t .answer) (t .state) (t .progress .line)
+changing s d n st u = endOfRun n (changeCall s d n st u)
 
 abbrev pub changeRequest : Setting → Device → ℕ → State → Update → Performed Result
 changeRequest s d n st u = performed (changing s d n st u) (changeCall s d n st u .progress)

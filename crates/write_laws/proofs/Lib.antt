@@ -4,4 +4,9 @@ pub mod MeantLaws
 pub mod ChangingLaws
 pub mod AnswerLaws
 pub mod RefusalLaws
+pub mod FirstLaws
+pub mod FirstFillLaws
 pub mod UnreadyLaws
+pub mod ChangeLaws
+pub mod AnyChipLaws
+pub mod ProtectLaws

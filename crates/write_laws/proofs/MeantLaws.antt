@@ -1,8 +1,8 @@
 -- The pages that a write's or an erase's data fill and its table fill are to leave, whatever the array holds. Assumes nothing.
-use Prim.Native.Nat.{ℕ, _+_, _-_, _*_, _≤_, _<_, _^_}
+use Prim.Native.Nat.{ℕ, _+_, _-_, _*_, _≤_, _<_}
 use mathlib.Core.Bool.{true, false}
 use mathlib.Core.List.{List, []}
-use mathlib.Core.Path.{_≡_, refl, sym, ap, subst, _∙_}
+use mathlib.Core.Path.{_≡_, refl, sym, ap, _∙_}
 use native.Mathlib.Nat.{sub-self, zero-mul}
 use native.Mathlib.Omega.{arith}
 use borrow.Table.Steps.{cases}
@@ -22,7 +22,6 @@ use Rattle.bitmaps.proofs.BitmapLaws.{Bitmap}
 use Rattle.bitmaps.proofs.ByteLaws.{clear-byte}
 use Rattle.chip_array.specs.Device.{Setting}
 use Rattle.pages.specs.Layout.{dataKind}
-use Rattle.pages.proofs.LayoutLaws.{data-width}
 use Rattle.copies.specs.Blocks.{blockIn, pageIn, mainIn}
 use Rattle.state.specs.State.{numberEnd, heldBits}
 use Rattle.state.specs.declared.State.{State}

@@ -85,6 +85,7 @@ module _ (s : Setting) (v : Valid (s .geometry)) (st₀ : State) (held : List �
 
   pub record Ended (answer : ℕ) (next : State) (q : Progress) : Type 0 where
     pub answers : ChangeAnswer answer
+    pub at-most : answer ≤ 11
     pub sound : Sound s q
     pub stopped : (answer ≡ 0 → ⊥) → next ≡ blank 2
     pub done : answer ≡ 0 → Next next q
@@ -100,6 +101,7 @@ module _ (s : Setting) (v : Valid (s .geometry)) (st₀ : State) (held : List �
     ended-spent h =
         record {
           answers = is-spent;
+          at-most = omega arith;
           sound = m .sound;
           stopped = λ z. refl;
           done = λ z. absurd (omega (arith, z));
@@ -115,6 +117,7 @@ module _ (s : Setting) (v : Valid (s .geometry)) (st₀ : State) (held : List �
     ended-worn none =
         record {
           answers = is-worn;
+          at-most = omega arith;
           sound = m .sound;
           stopped = λ z. refl;
           done = λ z. absurd (omega (arith, z));
@@ -179,6 +182,7 @@ module _ (s : Setting) (v : Valid (s .geometry)) (st₀ : State) (held : List �
         ended-passed next next-made next-facts long more marked invalid number =
             record {
               answers = is-done;
+              at-most = omega arith;
               sound = left .sound;
               stopped = λ x. absurd (x refl);
               done = λ z.
@@ -209,6 +213,7 @@ module _ (s : Setting) (v : Valid (s .geometry)) (st₀ : State) (held : List �
           let least = stop-least (q .outcome) in
           record {
             answers = ⊎-elim (λ e. subst ChangeAnswer (sym e) is-silent) (λ e. subst ChangeAnswer (sym e) is-cut) which;
+            at-most = ⊎-elim (λ e. omega (arith, e)) (λ e. omega (arith, e)) which;
             sound = left .sound;
             stopped = λ x. refl;
             done = λ z. absurd (omega (arith, z, least));

@@ -17,15 +17,14 @@ use Rattle.request.specs.Call.{Result, result, sizedFor, resultOf}
 use Rattle.request_refusals.specs.Refusals.{refusalOf}
 use Rattle.request_refusals.proofs.RefusalLaws.{Accepted, accepts, refused-geometry, refused-unmounted, refused-logical, refused-page, refused-length, only-geometry, only-unmounted, only-address, only-length}
 use Rattle.write_changes.specs.Changes.{Update, changing, writeUpdate, eraseUpdate, writeRequest, writing, eraseRefusal, eraseRequest, erasingLogical}
-use Rattle.write_laws.specs.Changing.{firstOf}
-use Rattle.write_laws.proofs.AnswerLaws.{change-late}
+use Rattle.write_laws.proofs.AnswerLaws.{call-late}
 use Rattle.write_laws.proofs.ChangingLaws.{sized-valid}
 
 -- a request that is not refused gets none of these answers
 accepted-late : (s : Setting) (d : Device) (n : ℕ) (st : State) (u : Update) (logical page long : ℕ) → Accepted (s .geometry) (sizedFor s d) st logical page long
     → (changing s d n st u .answer ≡ 0) ⊎ (8 ≤ changing s d n st u .answer)
 accepted-late s d n st u logical page long a =
-    change-late s st u (firstOf d n) (mounted-facts st (s .geometry .blocks) (s .geometry .logical) (sized-valid s d (a .sizes-fit) .blocks-most) (a .is-mounted) .last-below)
+    call-late s d n st u (mounted-facts st (s .geometry .blocks) (s .geometry .logical) (sized-valid s d (a .sizes-fit) .blocks-most) (a .is-mounted) .last-below)
 
 module _ (s : Setting) (d : Device) (n : ℕ) (st : State) (logical page : ℕ) (bytes : List ℕ) where
   abbrev written : Result

@@ -1,431 +1,239 @@
--- Writes and erases of a chip that is not ready, when the answer 255 comes, and what holds of every chip. Assumes nothing.
-use Prim.Native.Nat.{ℕ, suc, _-_, _≤_, _<_}
+-- Writes and erases of a chip that is in the middle of a command or busy, and where no number or no block is left. Assumes nothing.
+use Prim.Native.Nat.{ℕ, zero, suc, _-_, _≤_, _<_}
 use mathlib.Core.Bool.{true, false, cond}
-use mathlib.Core.List.{List, [], _∷_}
-use mathlib.Core.Logic.{_↔_}
-use mathlib.Core.Path.{_≡_, refl, sym, ap, subst, _∙_}
-use native.Mathlib.Nat.{add-zero}
+use mathlib.Core.List.{List, [], _∷_, _++_}
+use mathlib.Core.Path.{_≡_, refl, sym, ap, _∙_}
 use native.Mathlib.Omega.{arith}
-use borrow.Table.Steps.{cases}
-use borrow.Author.Tests.{eq-eqb, ne-eqb, eqb-true, eqb-false, leb-true, leb-false}
-use lib.Dec.{eqb, leb}
+use borrow.Author.Tests.{eq-eqb, ne-eqb}
+use lib.Dec.{eqb}
 use lib.ListN.{length}
-use Rattle.geometry.specs.Sizes.{rowOf}
-use Rattle.bools.proofs.BoolLaws.{clash}
-use Rattle.cells.specs.Bytes.{Bytes}
-use Rattle.chip_interface.specs.Interface.{eraseCode}
-use Rattle.chip_array.specs.Device.{Device, Setting}
-use Rattle.chip.specs.Chip.{Cycle}
-use Rattle.chip.specs.Chip.Cycle.{command}
-use Rattle.bus.specs.Line.{Line, sendAll}
-use Rattle.bus_polling.specs.Outcomes.{isPassed, isFailed, isSilent, isCut, answered}
-use Rattle.bus_polling.specs.Polling.{outcomeOf, answerOf}
-use Rattle.bus_polling.proofs.PollLaws.{answer-answered}
-use Rattle.bus_sequences.specs.Cycles.{eraseCycles}
-use Rattle.bus_polling.proofs.OutcomeLaws.{passed-answered, failed-answered, guarded-same}
-use Rattle.operations.specs.Ends.{End, Lent, endOf, unreadyLine, unreadyEnd}
-use Rattle.operations.proofs.UnreadyLaws.{unready-ends, unready-register, unready-unanswered, erase-unready-line, erase-unanswered, erase-unready-sends, erase-unready-starts}
-use Rattle.state_choose.specs.Choose.{chosen}
-use Rattle.state_choose.specs.declared.Choice.{Choice}
-use Rattle.state_choose.specs.declared.Choice.the-variants.{Block, Worn}
-use Rattle.state_choose.proofs.ChooseLaws.{by-choice}
-use Rattle.state.specs.State.{blank, nextNumber, numberEnd, numbersLeft, heldBits, mounted}
+use Rattle.chip_interface.specs.declared.Interface.{Interface}
+use Rattle.chip_interface.specs.Interface.{inPhase, statusCode, eraseCode}
+use Rattle.chip_array.specs.Device.{Device, Setting, withInterface, illegalCycle}
+use Rattle.chip.specs.Chip.{Cycle, exec, lessBusy}
+use Rattle.chip.specs.Chip.Cycle.{command, status}
+use Rattle.bus.specs.Line.{Line, uncutLine, cutLine}
+use Rattle.bus.proofs.LegalLaws.{illegal-keeps}
+use Rattle.bus_polling.specs.Outcomes.{isPassed, isSilent, isCut, isProtected}
+use Rattle.bus_polling.specs.declared.Outcome.{Outcome}
+use Rattle.bus_polling.specs.declared.Outcome.the-variants.{Passed, Cut, Illegal, Protected}
+use Rattle.bus_sequences.specs.Cycles.{statusCycles}
+use Rattle.operations.specs.Ends.{Lent, statusEnd}
+use Rattle.operations.proofs.UnreadyLaws.{unready-register}
+use Rattle.state.specs.State.{blank, nextNumber, numberEnd}
 use Rattle.state.specs.declared.State.{State}
-use Rattle.state.proofs.MountedLaws.{mounted-facts}
-use Rattle.request.specs.Call.{Result, result, sizedFor, callLine, stopAnswer, resultOf}
-use Rattle.request.proofs.CallLaws.{sizes, stop-least, call-high}
+use Rattle.request.specs.Call.{result, sizedFor, callLine, stopAnswer, statusAnswer, statusState}
+use Rattle.request.proofs.CallLaws.{sizes}
 use Rattle.progress.specs.Progress.{Progress, progress}
 use Rattle.progress.specs.Steps.{eraseOn}
-use Rattle.fill.specs.Fill.{copy, dataSource, filled, pagesFilled}
-use Rattle.fill.proofs.FillLaws.{fill-stopped}
-use Rattle.pages.specs.Layout.{dataKind}
-use Rattle.fill_tables.specs.Tables.{Tabled, tabled}
-use Rattle.write_changes.specs.Changes.{Update, Copied, copyFilled, stoppedAt, afterTry, copyTried, copiesFilled, thenTable, changing, writeUpdate, eraseUpdate, writeRequest, writing, eraseRefusal, eraseRequest, erasingLogical}
-use Rattle.write_changes.proofs.LoopLaws.{chosen-permitted, none-permitted}
-use Rattle.request_refusals.specs.Refusals.{refusalOf}
-use Rattle.request_refusals.proofs.RefusalLaws.{Accepted, accepted, by-refusal}
-use Rattle.request_laws.specs.Unready.{Unready}
-use Rattle.write_laws.specs.Changing.{InRange, ChangeAnswer, is-done, is-worn, is-spent, is-silent, is-cut, firstOf, copiesDone, changeDone, Changing}
-use Rattle.write_laws.specs.Unready.{StoppedChange, mayFill, UnreadyChange, RefusedChange, AnyChangeAnswer, of-accepted, is-geometry, is-unmounted, is-address, is-length, is-refused}
-use Rattle.write_laws.proofs.MeantLaws as meant
-use Rattle.write_laws.proofs.ChangingLaws.{sized-valid, change-ends, change-fits}
-use Rattle.write_laws.proofs.RefusalLaws.{write-refuses-geometry, write-refuses-unmounted, write-refuses-logical, write-refuses-page, write-refuses-length, erase-refuses-geometry, erase-refuses-unmounted, erase-refuses-logical}
-
--- what was not answered is told by the outcome alone
-answer-same : (l : Line) → answered (outcomeOf l) ≡ false → answerOf l ≡ outcomeOf l
-answer-same l f =
-    cases (eqb (l .chip .interface .protected) 0) (λ t. rw t) (λ t. rw t (guarded-same (outcomeOf l) f))
-
-stop-is : (l : Line) → stopAnswer (outcomeOf (unreadyLine l)) ≡ cond (eqb (l .left) 0) 11 255
-unfolding endOf unreadyEnd stopAnswer isSilent isCut
-stop-is l =
-    ap stopAnswer (ap (λ (e : End). e .outcome) (unready-ends l))
-    ∙ cases (eqb (l .left) 0) (λ t. rw t) (λ t. rw t)
-
-left-is : (l : Line) → unreadyLine l .left ≡ l .left - 1
-unfolding endOf unreadyEnd
-left-is l = ap (λ (e : End). e .left) (unready-ends l)
-
-array-is : (l : Line) → unreadyLine l .chip .array ≡ l .chip .array
-unfolding endOf unreadyEnd
-array-is l = ap (λ (e : End). e .array) (unready-ends l)
-
-history-is : (l : Line) → unreadyLine l .chip .history ≡ l .chip .history
-unfolding endOf unreadyEnd
-history-is l = ap (λ (e : End). e .history) (unready-ends l)
+use Rattle.fill_tables.specs.Tables.{Tabled, tabled, endOfRun, afterStatus}
+use Rattle.fill_tables.proofs.StatusLaws.{after-passed, after-stopped}
+use Rattle.write_changes.specs.Changes.{Update, changeFirst, changeRun, changeCall, changing}
+use Rattle.write_laws.specs.Unready.{Waiting, Completing, InCommand, busyShown, completedBy, NothingChanged, StoppedChange, mayFill, ShownChange, UnreadyChange, BusyChange, CompletingChange}
+use Rattle.write_laws.proofs.FirstLaws.{asked, asked-ready, asked-busy, read-ready, read-waiting, read-completing, completing-line, first-none, first-refused, first-one, first-two, ends-passed, ends-protected, ends-illegal}
+use Rattle.write_laws.proofs.FirstFillLaws.{unready-left, unready-array, unready-history, spent-run, worn-run, refused-line, refused-sends, refused-starts, refused-run, refused-told, some-chosen}
 
 -- from the chip handed in
-module _ (s : Setting) (d : Device) (n : ℕ) (st : State) (u : Update) (sized : sizedFor s d ≡ true) (last-below : st .last < s .geometry .blocks) where
-  abbrev held : List ℕ
-  held = heldBits st (s .geometry .logical)
+module _ (s : Setting) (d : Device) (n : ℕ) (st : State) (u : Update) where
+  -- after a status read that passed the fills follow, from where it ended
+  pub change-after : isPassed (changeFirst s d n .outcome) ≡ true → changeCall s d n st u ≡ changeRun s st u (changeFirst s d n)
+  change-after t = after-passed st (changeFirst s d n) (changeRun s st u (changeFirst s d n)) t
 
-  abbrev first : Progress
-  first = firstOf d n
+  module _ (p : Progress) (is : changeFirst s d n ≡ p) where
+    goes : isPassed (p .outcome) ≡ true → changeCall s d n st u ≡ changeRun s st u p
+    goes t =
+        ap (λ (q : Progress). afterStatus st q (changeRun s st u q)) is ∙ after-passed st p (changeRun s st u p) t
 
-  abbrev l : Line
-  l = callLine d n
+    stays : isPassed (p .outcome) ≡ false → changeCall s d n st u ≡ tabled p (statusAnswer (p .outcome)) (statusState (p .outcome) st)
+    stays f =
+        ap (λ (q : Progress). afterStatus st q (changeRun s st u q)) is ∙ after-stopped st p (changeRun s st u p) f
 
-  abbrev choice : Choice
-  choice = chosen (st .marked) (st .invalid) held (s .geometry .blocks) (st .last)
+  -- it ends at p, with nothing changed
+  module _ (p : Progress) (answer : ℕ) (state : State) (cycles : List Cycle) (run-is : changeCall s d n st u ≡ tabled p answer state) (cycles-are : p .cycles ≡ cycles) (none-started : p .started ≡ [])
+      (counts : n - p .line .left ≡ length cycles) (same-array : p .line .chip .array ≡ d .array) (same-register : p .line .chip .register ≡ d .register) (same-history : p .line .chip .history ≡ d .history) where
+    pub nothing-changed : NothingChanged s d n st u answer state cycles (changing s d n st u)
+    nothing-changed =
+        record {
+          answer-is = ap (λ (t : Tabled). t .answer) run-is;
+          state-is = ap (λ (t : Tabled). t .state) run-is;
+          cycles-are = ap (λ (t : Tabled). t .progress .cycles) run-is ∙ cycles-are;
+          none-started = ap (λ (t : Tabled). t .progress .started) run-is ∙ none-started;
+          sent-is = ap (λ (t : Tabled). n - t .progress .line .left) run-is ∙ counts;
+          same-array = ap (λ (t : Tabled). t .progress .line .chip .array) run-is ∙ same-array;
+          same-register = ap (λ (t : Tabled). t .progress .line .chip .register) run-is ∙ same-register;
+          same-history = ap (λ (t : Tabled). t .progress .line .chip .history) run-is ∙ same-history;
+        }
 
-  lent : Lent s l
-  lent =
-      let z = sizes (s .geometry) (length (d .array)) (length (d .register)) (length (d .history)) (length (s .mask)) sized in
-      record {
-        is-valid = z .chip-fits .is-valid;
-        array-long = z .chip-fits .array-long;
-        register-long = z .chip-fits .register-long;
-        history-long = z .chip-fits .history-long;
-        mask-long = z .mask-long;
-        legal = refl;
-        uncut = refl;
-      }
+module _ (s : Setting) (d : Device) (st : State) (u : Update) where
+  abbrev begun : Device
+  begun = callLine d 0 .chip
 
-  -- it ends with no fill
-  nothing-sent : (answer : ℕ) → changeDone s d n st u ≡ tabled first answer (blank 2) → StoppedChange s d n st u answer [] (changing s d n st u)
-  nothing-sent answer e =
-      record {
-        answer-is = ap (λ (t : Tabled). t .answer) e;
-        state-is = ap (λ (t : Tabled). t .state) e;
-        cycles-are = ap (λ (t : Tabled). t .progress .cycles) e;
-        none-started = ap (λ (t : Tabled). t .progress .started) e;
-        sent-is = ap (λ (t : Tabled). n - t .progress .line .left) e ∙ omega arith;
-        same-array = ap (λ (t : Tabled). t .progress .line .chip .array) e;
-        same-register = ap (λ (t : Tabled). t .progress .line .chip .register) e;
-        same-history = ap (λ (t : Tabled). t .progress .line .chip .history) e;
-      }
+  -- no cycle is allowed
+  pub change-cut : (n : ℕ) → n ≡ 0 → StoppedChange s d n st u 11 [] (changing s d n st u)
+  unfolding statusAnswer statusState stopAnswer isPassed isProtected isSilent isCut
+  change-cut zero z =
+      let p = progress (cutLine begun) Cut [] [] in
+      nothing-changed s d 0 st u p 11 (blank 2) [] (stays s d 0 st u p (first-none s d) refl) refl refl refl refl refl refl
+  change-cut (suc n) z = absurd (omega (arith, z))
 
-  spent-run : numberEnd ≤ nextNumber st → changeDone s d n st u ≡ tabled first 9 (blank 2)
-  unfolding thenTable copiesFilled
-  spent-run h =
-      let none : numbersLeft st ≡ 0 = omega (arith, h) in
-      ap (λ (k : ℕ). thenTable s (copiesFilled s held u k false st first)) none
+  -- in the middle of a command
+  module _ (in-command : InCommand d) where
+    refused-so : (n : ℕ) → 1 ≤ n → StoppedChange s d n st u 255 (command statusCode ∷ []) (changing s d n st u)
+    unfolding statusAnswer statusState stopAnswer isPassed isProtected isSilent isCut
+    refused-so zero h = absurd (omega (arith, h))
+    refused-so (suc n) h =
+        let p = progress (uncutLine (illegalCycle begun) n) Illegal (command statusCode ∷ []) [] in
+        nothing-changed s d (suc n) st u p 255 (blank 2) (command statusCode ∷ []) (stays s d (suc n) st u p (first-refused s d in-command n) refl) refl refl (omega arith) refl refl refl
 
-  module _ (fits : nextNumber st < numberEnd) where
-    some-left : numbersLeft st ≡ suc (numbersLeft st - 1)
-    some-left = omega (arith, fits)
+    pub change-unready : (n : ℕ) → UnreadyChange s d n st u (changing s d n st u)
+    change-unready n = record { cut-first = change-cut n; refused-first = refused-so n }
 
-    more : State → Progress → Copied
-    more = copiesFilled s held u (numbersLeft st - 1) true
+  -- a chip that takes 70h
+  module _ (i : Interface) (legal : i .illegal ≡ 0) (taken : asked s d ≡ withInterface i d) where
+    taken-legal : asked s d .interface .illegal ≡ 0
+    taken-legal = ap (λ (x : Device). x .interface .illegal) taken ∙ legal
 
-    tried-is : (c : Choice) → choice ≡ c → copiesDone s d n st u ≡ copyTried s u st false first more c
-    unfolding copiesFilled more
-    tried-is c e = ap (λ (k : ℕ). copiesFilled s held u k false st first) some-left ∙ ap (copyTried s u st false first more) e
+    cut-one : (n : ℕ) → n ≡ 1 → StoppedChange s d n st u 11 (command statusCode ∷ []) (changing s d n st u)
+    unfolding statusAnswer statusState stopAnswer isPassed isProtected isSilent isCut
+    cut-one n z =
+        let p = progress (cutLine (withInterface i d)) Cut (command statusCode ∷ []) [] in
+        let is : changeFirst s d n ≡ p = ap (changeFirst s d) z ∙ first-one s d taken-legal ∙ ap (λ (x : Device). progress (cutLine x) Cut (command statusCode ∷ []) []) taken in
+        nothing-changed s d n st u p 11 (blank 2) (command statusCode ∷ []) (stays s d n st u p is refl) refl refl (omega (arith, z)) refl refl refl
 
-    worn-run : ((b : ℕ) → b < s .geometry .blocks → mayFill s st b → ⊥) → changeDone s d n st u ≡ tabled first 8 (blank 2)
-    unfolding thenTable copyTried
-    worn-run none =
-        by-choice choice
-        (λ e. ap (thenTable s) (tried-is Worn e))
-        (λ b e.
-        let f = chosen-permitted (st .marked) (st .invalid) held (s .geometry .blocks) (st .last) last-below b e in
-        absurd (none b (f .0) (f .1)))
+    -- and the status read, to the chip x
+    module _ (n : ℕ) (enough : 2 ≤ n) (x : Device) (read : exec s (asked s d) status ≡ x) where
+      come-to : (o : Outcome) → statusEnd (uncutLine x (n - 2)) ≡ o → changeFirst s d n ≡ progress (uncutLine x (n - 2)) o statusCycles []
+      come-to o e =
+          first-two s d taken-legal n enough x read ∙ ap (λ (y : Outcome). progress (uncutLine x (n - 2)) y statusCycles []) e
 
-    -- a block is left: its erase is the first operation, and the last
-    module _ (unready : Unready d) (b : ℕ) (e : choice ≡ Block b) where
-      abbrev row : ℕ
-      row = rowOf (s .geometry) b 0
+      protected-run : x .interface .illegal ≡ 0 → (x .interface .protected ≡ 0 → ⊥) → changeCall s d n st u ≡ tabled (progress (uncutLine x (n - 2)) Protected statusCycles []) 13 st
+      unfolding statusAnswer statusState isPassed isProtected
+      protected-run e low =
+          stays s d n st u (progress (uncutLine x (n - 2)) Protected statusCycles []) (come-to Protected (ends-protected x (n - 2) e low)) refl
 
-      abbrev x : Progress
-      x = eraseOn s b first
+      illegal-run : (x .interface .illegal ≡ 0 → ⊥) → changeCall s d n st u ≡ tabled (progress (uncutLine x (n - 2)) Illegal statusCycles []) 255 (blank 2)
+      unfolding statusAnswer statusState stopAnswer isPassed isProtected isSilent isCut
+      illegal-run e =
+          stays s d n st u (progress (uncutLine x (n - 2)) Illegal statusCycles []) (come-to Illegal (ends-illegal x (n - 2) e)) refl
 
-      x-line : x .line ≡ unreadyLine l
-      unfolding eraseOn isPassed
-      x-line = erase-unready-line s l lent unready row
+      passed-run : x .interface .illegal ≡ 0 → x .interface .protected ≡ 0 → changeCall s d n st u ≡ changeRun s st u (progress (uncutLine x (n - 2)) Passed statusCycles [])
+      unfolding isPassed
+      passed-run e high =
+          goes s d n st u (progress (uncutLine x (n - 2)) Passed statusCycles []) (come-to Passed (ends-passed x (n - 2) e high)) refl
 
-      x-outcome : x .outcome ≡ outcomeOf (unreadyLine l)
-      unfolding eraseOn isPassed
-      x-outcome = ap answerOf (erase-unready-line s l lent unready row) ∙ answer-same (unreadyLine l) (unready-unanswered l)
+      protected-result : x .interface .illegal ≡ 0 → (x .interface .protected ≡ 0 → ⊥) → changing s d n st u ≡ result 13 st x 2
+      protected-result e low =
+          let two : n - (n - 2) ≡ 2 = omega (arith, enough) in
+          ap (endOfRun n) (protected-run e low) ∙ ap (result 13 st x) two
 
-      x-unanswered : answered (x .outcome) ≡ false
-      unfolding eraseOn isPassed
-      x-unanswered =
-          answer-answered (sendAll s l (eraseCycles s l row)) ∙ erase-unanswered s l lent unready row
+    -- a status read that changes the interface alone, with the line high
+    module _ (n : ℕ) (enough : 2 ≤ n) (j : Interface) (legal-after : j .illegal ≡ 0) (high : j .protected ≡ 0) (read : exec s (asked s d) status ≡ withInterface j d) (last-below : st .last < s .geometry .blocks) where
+      abbrev first : Progress
+      first = progress (uncutLine (withInterface j d) (n - 2)) Passed statusCycles []
 
-      x-sends : x .cycles ≡ cond (eqb n 0) [] (command eraseCode ∷ [])
-      unfolding eraseOn isPassed
-      x-sends = erase-unready-sends s l lent unready row
+      after-read : changeCall s d n st u ≡ changeRun s st u first
+      after-read = passed-run n enough (withInterface j d) read legal-after high
 
-      x-starts : x .started ≡ []
-      unfolding eraseOn isPassed
-      x-starts = erase-unready-starts s l lent unready row
+      shown-run : ShownChange s d n st u (changing s d n st u)
+      shown-run =
+          record {
+            spent-first = λ h. nothing-changed s d n st u first 9 (blank 2) statusCycles (after-read ∙ spent-run s st u last-below first h) refl refl (omega (arith, enough)) refl refl refl;
+            worn-first = λ fits none. nothing-changed s d n st u first 8 (blank 2) statusCycles (after-read ∙ worn-run s st u last-below first fits none) refl refl (omega (arith, enough)) refl refl refl;
+          }
 
-      unpassed : isPassed (x .outcome) ≡ false
-      unpassed = cases (isPassed (x .outcome)) (λ t. clash (passed-answered (x .outcome) t) x-unanswered) (λ f. f)
-
-      unfailed : isFailed (x .outcome) ≡ false
-      unfailed = cases (isFailed (x .outcome)) (λ t. clash (failed-answered (x .outcome) t) x-unanswered) (λ f. f)
-
-      fill-is : copyFilled s u st b first ≡ x
-      unfolding pagesFilled
-      fill-is =
-          ap (λ (k : ℕ). pagesFilled s b (copy dataKind (u .logical) (nextNumber st)) (dataSource (s .geometry) (u .old) (u .first) (u .count) (u .bytes)) k x) (sym (add-zero (s .geometry .pages)))
-          ∙ fill-stopped s b (copy dataKind (u .logical) (nextNumber st)) (dataSource (s .geometry) (u .old) (u .first) (u .count) (u .bytes)) 0 x unpassed (s .geometry .pages)
-
-      stops : copyTried s u st false first more (Block b) ≡ stoppedAt x
-      unfolding copyTried afterTry
-      stops = rw (fill-is, unpassed, unfailed)
-
-      block-run : changeDone s d n st u ≡ tabled x (stopAnswer (x .outcome)) (blank 2)
-      unfolding thenTable
-      block-run =
-          ap (thenTable s) (tried-is (Block b) e ∙ stops)
-          ∙ rw (ne-eqb (stopAnswer (x .outcome)) 0 (λ z. omega (arith, z, stop-least (x .outcome))))
-
-      module _ (answer : ℕ) (cycles : List Cycle) (answered-so : cond (eqb n 0) 11 255 ≡ answer) (traced : cond (eqb n 0) [] (command eraseCode ∷ []) ≡ cycles) (counted : n - (n - 1) ≡ length cycles) where
-        stopped-so : StoppedChange s d n st u answer cycles (changing s d n st u)
-        stopped-so =
+      -- on a chip that is not ready
+      module _ (sized : sizedFor s d ≡ true) (unready : 2 < j .phase) (fits : nextNumber st < numberEnd) (b : ℕ) (below : b < s .geometry .blocks) (may : mayFill s st b) where
+        lent : Lent s (first .line)
+        lent =
+            let z = sizes (s .geometry) (length (d .array)) (length (d .register)) (length (d .history)) (length (s .mask)) sized in
             record {
-              answer-is = ap (λ (t : Tabled). t .answer) block-run ∙ ap stopAnswer x-outcome ∙ stop-is l ∙ answered-so;
-              state-is = ap (λ (t : Tabled). t .state) block-run;
-              cycles-are = ap (λ (t : Tabled). t .progress .cycles) block-run ∙ x-sends ∙ traced;
-              none-started = ap (λ (t : Tabled). t .progress .started) block-run ∙ x-starts;
-              sent-is = ap (λ (t : Tabled). n - t .progress .line .left) block-run ∙ ap (λ (k : Line). n - k .left) x-line ∙ ap (λ (k : ℕ). n - k) (left-is l) ∙ counted;
-              same-array = ap (λ (t : Tabled). t .progress .line .chip .array) block-run ∙ ap (λ (k : Line). k .chip .array) x-line ∙ array-is l;
-              same-register = ap (λ (t : Tabled). t .progress .line .chip .register) block-run ∙ ap (λ (k : Line). k .chip .register) x-line ∙ unready-register l;
-              same-history = ap (λ (t : Tabled). t .progress .line .chip .history) block-run ∙ ap (λ (k : Line). k .chip .history) x-line ∙ history-is l;
+              is-valid = z .chip-fits .is-valid;
+              array-long = z .chip-fits .array-long;
+              register-long = z .chip-fits .register-long;
+              history-long = z .chip-fits .history-long;
+              mask-long = z .mask-long;
+              legal = legal-after;
+              uncut = refl;
             }
 
-      cut-run : n ≡ 0 → StoppedChange s d n st u 11 [] (changing s d n st u)
-      cut-run z = stopped-so 11 [] (rw (eq-eqb n 0 z)) (rw (eq-eqb n 0 z)) (omega (arith, z))
+        passed : isPassed (first .outcome) ≡ true
+        unfolding isPassed
+        passed = refl
 
-      refused-run : 1 ≤ n → StoppedChange s d n st u 255 (command eraseCode ∷ []) (changing s d n st u)
-      refused-run h =
-          let x : n ≡ 0 → ⊥ = λ z. omega (arith, z, h) in
-          stopped-so 255 (command eraseCode ∷ []) (rw (ne-eqb n 0 x)) (rw (ne-eqb n 0 x)) (omega (arith, h))
+        third-so : (answer : ℕ) (cycles : List Cycle) → cond (eqb (n - 2) 0) 11 255 ≡ answer → statusCycles ++ cond (eqb (n - 2) 0) [] (command eraseCode ∷ []) ≡ cycles → n - (n - 2 - 1) ≡ length cycles
+            → StoppedChange s d n st u answer cycles (changing s d n st u)
+        third-so answer cycles told traced counted =
+            some-chosen s st u last-below first b below may
+            (λ c e.
+            let x = eraseOn s c first in
+            let line-is = refused-line s st u last-below first fits passed lent unready c e in
+            nothing-changed s d n st u x answer (blank 2) cycles
+            (after-read ∙ refused-run s st u last-below first fits passed lent unready c e ∙ ap (λ (a : ℕ). tabled x a (blank 2)) (refused-told s st u last-below first fits passed lent unready c e ∙ told))
+            (refused-sends s st u last-below first fits passed lent unready c e ∙ traced)
+            (refused-starts s st u last-below first fits passed lent unready c e)
+            (ap (λ (l : Line). n - l .left) line-is ∙ ap (λ (k : ℕ). n - k) (unready-left (first .line)) ∙ counted)
+            (ap (λ (l : Line). l .chip .array) line-is ∙ unready-array (first .line))
+            (ap (λ (l : Line). l .chip .register) line-is ∙ unready-register (first .line))
+            (ap (λ (l : Line). l .chip .history) line-is ∙ unready-history (first .line)))
 
-    -- where some block may be filled, one is chosen
-    some-chosen : {P : Type 0} (b : ℕ) → b < s .geometry .blocks → mayFill s st b → ((c : ℕ) → choice ≡ Block c → P) → P
-    some-chosen b h t f =
-        by-choice choice
-        (λ e. clash t (none-permitted (st .marked) (st .invalid) held (s .geometry .blocks) (st .last) last-below e b h))
-        f
+        cut-third : n ≡ 2 → StoppedChange s d n st u 11 statusCycles (changing s d n st u)
+        cut-third z =
+            let none : n - 2 ≡ 0 = omega (arith, z) in
+            third-so 11 statusCycles (rw (eq-eqb (n - 2) 0 none)) (rw (eq-eqb (n - 2) 0 none)) (omega (arith, z))
 
-  -- without a number, and without a block, nothing is sent on any chip
-  pub change-spent : numberEnd ≤ nextNumber st → StoppedChange s d n st u 9 [] (changing s d n st u)
-  change-spent h = nothing-sent 9 (spent-run h)
+        refused-third : 3 ≤ n → StoppedChange s d n st u 255 (statusCycles ++ (command eraseCode ∷ [])) (changing s d n st u)
+        refused-third h =
+            let some : n - 2 ≡ 0 → ⊥ = λ z. omega (arith, z, h) in
+            third-so 255 (statusCycles ++ (command eraseCode ∷ [])) (rw (ne-eqb (n - 2) 0 some)) (rw (ne-eqb (n - 2) 0 some)) (omega (arith, h))
 
-  pub change-worn : nextNumber st < numberEnd → ((b : ℕ) → b < s .geometry .blocks → mayFill s st b → ⊥) → StoppedChange s d n st u 8 [] (changing s d n st u)
-  change-worn fits none = nothing-sent 8 (worn-run fits none)
+  -- a ready chip
+  module _ (ready : d .interface .phase ≤ 2) where
+    abbrev shown : Device
+    shown = withInterface (inPhase 1 (begun .interface)) begun
 
-  pub change-unready : Unready d → UnreadyChange s d n st u (changing s d n st u)
-  change-unready unready =
-      record {
-        spent-first = change-spent;
-        worn-first = change-worn;
-        cut-first = λ fits b h t z. some-chosen fits b h t (λ c e. cut-run fits unready c e z);
-        refused-first = λ fits b h t k. some-chosen fits b h t (λ c e. refused-run fits unready c e k);
-      }
+    pub ready-cut : (n : ℕ) → n ≡ 1 → StoppedChange s d n st u 11 (command statusCode ∷ []) (changing s d n st u)
+    ready-cut = cut-one (shown .interface) refl (asked-ready s d ready)
 
--- a request that is not refused, on any chip
-module _ (s : Setting) (d : Device) (n : ℕ) (st : State) (u : Update) (ranged : InRange s d st) (sized : sizedFor s d ≡ true)
-    (is-mounted : mounted st (s .geometry .blocks) (s .geometry .logical) ≡ true) (proper : meant.Proper (s .geometry) (heldBits st (s .geometry .logical)) u) where
-  abbrev r : Result
-  r = changing s d n st u
+    pub ready-protected : (n : ℕ) → 2 ≤ n → (d .interface .protected ≡ 0 → ⊥) → changing s d n st u ≡ result 13 st shown 2
+    ready-protected n h low = protected-result (shown .interface) refl (asked-ready s d ready) n h shown (read-ready s d ready) refl low
 
-  below-last : st .last < s .geometry .blocks
-  below-last = mounted-facts st (s .geometry .blocks) (s .geometry .logical) (sized-valid s d sized .blocks-most) is-mounted .last-below
+    pub ready-shown : (n : ℕ) → 2 ≤ n → d .interface .protected ≡ 0 → st .last < s .geometry .blocks → ShownChange s d n st u (changing s d n st u)
+    ready-shown n h high = shown-run (shown .interface) refl (asked-ready s d ready) n h (shown .interface) refl high (read-ready s d ready)
 
-  by-change : (P : ℕ → Type 0) → (Changing s d n st u r → P (r .answer)) → P 9 → P 8 → (n ≡ 0 → P 11) → (RefusedChange s d n st → P 255) → P (r .answer)
-  by-change P ready spent worn cut refused =
-      cases (leb (d .interface .phase) 2)
-      (λ t. ready (change-ends s d n st u ranged (leb-true (d .interface .phase) 2 t) sized is-mounted proper (call-high d n)))
-      (λ f.
-      let unready : Unready d = leb-false (d .interface .phase) 2 f in
-      let x = change-unready s d n st u sized below-last unready in
-      cases (leb numberEnd (nextNumber st))
-      (λ t. subst P (sym (x .spent-first (leb-true numberEnd (nextNumber st) t) .answer-is)) spent)
-      (λ t.
-      let fits = leb-false numberEnd (nextNumber st) t in
-      by-choice (chosen (st .marked) (st .invalid) (heldBits st (s .geometry .logical)) (s .geometry .blocks) (st .last))
-      (λ e.
-      let none = none-permitted (st .marked) (st .invalid) (heldBits st (s .geometry .logical)) (s .geometry .blocks) (st .last) below-last e in
-      subst P (sym (x .worn-first fits (λ b h y. clash y (none b h)) .answer-is)) worn)
-      (λ b e.
-      let found = chosen-permitted (st .marked) (st .invalid) (heldBits st (s .geometry .logical)) (s .geometry .blocks) (st .last) below-last b e in
-      cases (eqb n 0)
-      (λ z. subst P (sym (x .cut-first fits b (found .0) (found .1) (eqb-true n 0 z) .answer-is)) (cut (eqb-true n 0 z)))
-      (λ z.
-      let h : 1 ≤ n = omega (arith, eqb-false n 0 z) in
-      subst P (sym (x .refused-first fits b (found .0) (found .1) h .answer-is))
-      (refused (record { number-left = fits; block = b; block-below = found .0; is-permitted = found .1; is-allowed = h; is-unready = unready }))))))
+  -- a busy chip, with busy reads left
+  module _ (waiting : Waiting d) where
+    abbrev less : Interface
+    less = lessBusy (busyShown d .interface)
 
-  answer-below : (k : ℕ) → ChangeAnswer k → k < 255
-  answer-below k is-done = omega arith
-  answer-below k is-worn = omega arith
-  answer-below k is-spent = omega arith
-  answer-below k is-silent = omega arith
-  answer-below k is-cut = omega arith
+    pub change-busy : sizedFor s d ≡ true → st .last < s .geometry .blocks → (n : ℕ) → BusyChange s d n st u (changing s d n st u)
+    change-busy sized last-below n =
+        let taken = asked-busy s d (waiting .0) in
+        let read = read-waiting s d waiting in
+        record {
+          cut-first = change-cut n;
+          cut-second = cut-one (busyShown d .interface) refl taken n;
+          protected-so = λ h low.
+              nothing-changed s d n st u (progress (uncutLine (withInterface less d) (n - 2)) Protected statusCycles []) 13 st statusCycles (protected-run (busyShown d .interface) refl taken n h (withInterface less d) read refl low) refl refl (omega (arith, h)) refl refl refl;
+          shown-so = λ h high. shown-run (busyShown d .interface) refl taken n h less refl high read last-below;
+          cut-third = λ z high fits b below may. cut-third (busyShown d .interface) refl taken n (omega (arith, z)) less refl high read last-below sized (omega arith) fits b below may z;
+          refused-third = λ h high fits b below may. refused-third (busyShown d .interface) refl taken n (omega (arith, h)) less refl high read last-below sized (omega arith) fits b below may h;
+        }
 
-  pub change-255 : (r .answer ≡ 255) ↔ RefusedChange s d n st
-  change-255 = (
-    by-change (λ k. k ≡ 255 → RefusedChange s d n st)
-        (λ c z. absurd (omega (arith, z, answer-below (r .answer) (c .answers))))
-        (λ z. absurd (omega (arith, z)))
-        (λ z. absurd (omega (arith, z)))
-        (λ y z. absurd (omega (arith, z)))
-        (λ x z. x),
-    λ x. change-unready s d n st u sized below-last (x .is-unready) .refused-first (x .number-left) (x .block) (x .block-below) (x .is-permitted) (x .is-allowed) .answer-is,
-  )
-
-  pub change-answers : AnyChangeAnswer (r .answer)
-  change-answers =
-      by-change AnyChangeAnswer (λ c. of-accepted (c .answers)) (of-accepted is-spent) (of-accepted is-worn) (λ z. of-accepted is-cut) (λ x. is-refused)
-
-  pub change-uncut : n ≡ 4294967295 → r .answer ≡ 11 → ⊥
-  change-uncut e =
-      by-change (λ k. k ≡ 11 → ⊥)
-      (λ c z. omega (arith, e, c .cut-at z, c .sent-most, change-fits (s .geometry) (sized-valid s d sized)))
-      (λ z. omega (arith, z))
-      (λ z. omega (arith, z))
-      (λ y z. omega (arith, y, e))
-      (λ x z. omega (arith, z))
-
--- a write
-module _ (s : Setting) (d : Device) (n : ℕ) (st : State) (logical page : ℕ) (bytes : List ℕ) where
-  abbrev written : Result
-  written = writing s d n st logical page bytes
-
-  abbrev update : Update
-  update = writeUpdate st logical page bytes
-
-  abbrev AcceptedWrite : Type 0
-  AcceptedWrite = Accepted (s .geometry) (sizedFor s d) st logical page (length bytes)
-
-  accepted-write : AcceptedWrite → written ≡ changing s d n st update
-  unfolding resultOf writeRequest
-  accepted-write a = rw (eq-eqb (refusalOf s d st logical page bytes) 0 (accepted (s .geometry) (sizedFor s d) st logical page (length bytes) a))
-
-  last-below-write : AcceptedWrite → st .last < s .geometry .blocks
-  last-below-write a = mounted-facts st (s .geometry .blocks) (s .geometry .logical) (sized-valid s d (a .sizes-fit) .blocks-most) (a .is-mounted) .last-below
-
-  pub write-spent : AcceptedWrite → numberEnd ≤ nextNumber st → StoppedChange s d n st update 9 [] written
-  write-spent a h =
-      subst (StoppedChange s d n st update 9 []) (sym (accepted-write a)) (change-spent s d n st update (a .sizes-fit) (last-below-write a) h)
-
-  pub write-worn : AcceptedWrite → nextNumber st < numberEnd → ((b : ℕ) → b < s .geometry .blocks → mayFill s st b → ⊥) → StoppedChange s d n st update 8 [] written
-  write-worn a fits none =
-      subst (StoppedChange s d n st update 8 []) (sym (accepted-write a)) (change-worn s d n st update (a .sizes-fit) (last-below-write a) fits none)
-
-  pub write-unready : AcceptedWrite → Unready d → UnreadyChange s d n st update written
-  write-unready a unready =
-      subst (UnreadyChange s d n st update) (sym (accepted-write a))
-      (change-unready s d n st update (a .sizes-fit) (last-below-write a) unready)
-
-  -- refused, or not
-  by-write : (P : ℕ → Type 0) → ((k : ℕ) → AnyChangeAnswer k → k ≤ 7 → P k) → (AcceptedWrite → P (changing s d n st update .answer)) → P (written .answer)
-  by-write P refused goes =
-      by-refusal (s .geometry) (sizedFor s d) st logical page (length bytes) (λ k. P (written .answer))
-      (λ f. told 1 is-geometry (omega arith) (write-refuses-geometry s d n st logical page bytes f))
-      (λ t f. told 7 is-unmounted (omega arith) (write-refuses-unmounted s d n st logical page bytes t f))
-      (λ t m h. told 2 is-address (omega arith) (write-refuses-logical s d n st logical page bytes t m h))
-      (λ t m l h. told 2 is-address (omega arith) (write-refuses-page s d n st logical page bytes t m l h))
-      (λ t m l p x. told 3 is-length (omega arith) (write-refuses-length s d n st logical page bytes t m l p x))
-      (λ a. subst (λ (x : Result). P (x .answer)) (sym (accepted-write a)) (goes a))
-    where
-      told : (k : ℕ) → AnyChangeAnswer k → k ≤ 7 → written ≡ result k st d 0 → P (written .answer)
-      told k a h e = subst (λ (x : Result). P (x .answer)) (sym e) (refused k a h)
-
-  module _ (ranged : InRange s d st) (are-bytes : Bytes bytes) where
-    proper-write : AcceptedWrite → meant.Proper (s .geometry) (heldBits st (s .geometry .logical)) update
-    proper-write a = meant.write-proper (s .geometry) (sized-valid s d (a .sizes-fit)) st logical (a .logical-below) page bytes (a .buffer-long) are-bytes
-
-    -- 255 comes exactly where the first cycle is sent to a chip that is not ready
-    pub write-255 : (written .answer ≡ 255) ↔ (AcceptedWrite × RefusedChange s d n st)
-    write-255 = (
-      by-write (λ k. k ≡ 255 → AcceptedWrite × RefusedChange s d n st)
-          (λ k a h z. absurd (omega (arith, z, h)))
-          (λ a z. (a, change-255 s d n st update ranged (a .sizes-fit) (a .is-mounted) (proper-write a) .0 z)),
-      λ x. ap (λ (y : Result). y .answer) (accepted-write (x .0)) ∙ change-255 s d n st update ranged (x .0 .sizes-fit) (x .0 .is-mounted) (proper-write (x .0)) .1 (x .1),
-    )
-
-    -- no other answer comes, on any chip
-    pub write-answers : AnyChangeAnswer (written .answer)
-    write-answers =
-        by-write AnyChangeAnswer (λ k a h. a) (λ a. change-answers s d n st update ranged (a .sizes-fit) (a .is-mounted) (proper-write a))
-
-    -- the largest allowance cuts nothing
-    pub write-uncut : n ≡ 4294967295 → written .answer ≡ 11 → ⊥
-    write-uncut e =
-        by-write (λ k. k ≡ 11 → ⊥) (λ k a h z. omega (arith, z, h)) (λ a. change-uncut s d n st update ranged (a .sizes-fit) (a .is-mounted) (proper-write a) e)
-
--- an erase
-module _ (s : Setting) (d : Device) (n : ℕ) (st : State) (logical : ℕ) where
-  abbrev erased : Result
-  erased = erasingLogical s d n st logical
-
-  abbrev AcceptedErase : Type 0
-  AcceptedErase = Accepted (s .geometry) (sizedFor s d) st logical 0 (s .geometry .main)
-
-  accepted-erase : AcceptedErase → erased ≡ changing s d n st (eraseUpdate logical)
-  unfolding resultOf eraseRequest
-  accepted-erase a = rw (eq-eqb (eraseRefusal s d st logical) 0 (accepted (s .geometry) (sizedFor s d) st logical 0 (s .geometry .main) a))
-
-  last-below-erase : AcceptedErase → st .last < s .geometry .blocks
-  last-below-erase a = mounted-facts st (s .geometry .blocks) (s .geometry .logical) (sized-valid s d (a .sizes-fit) .blocks-most) (a .is-mounted) .last-below
-
-  pub erase-spent : AcceptedErase → numberEnd ≤ nextNumber st → StoppedChange s d n st (eraseUpdate logical) 9 [] erased
-  erase-spent a h =
-      subst (StoppedChange s d n st (eraseUpdate logical) 9 []) (sym (accepted-erase a)) (change-spent s d n st (eraseUpdate logical) (a .sizes-fit) (last-below-erase a) h)
-
-  pub erase-worn : AcceptedErase → nextNumber st < numberEnd → ((b : ℕ) → b < s .geometry .blocks → mayFill s st b → ⊥) → StoppedChange s d n st (eraseUpdate logical) 8 [] erased
-  erase-worn a fits none =
-      subst (StoppedChange s d n st (eraseUpdate logical) 8 []) (sym (accepted-erase a)) (change-worn s d n st (eraseUpdate logical) (a .sizes-fit) (last-below-erase a) fits none)
-
-  pub erase-unready : AcceptedErase → Unready d → UnreadyChange s d n st (eraseUpdate logical) erased
-  erase-unready a unready =
-      subst (UnreadyChange s d n st (eraseUpdate logical)) (sym (accepted-erase a))
-      (change-unready s d n st (eraseUpdate logical) (a .sizes-fit) (last-below-erase a) unready)
-
-  by-erase : (P : ℕ → Type 0) → ((k : ℕ) → AnyChangeAnswer k → k ≤ 7 → P k) → (AcceptedErase → P (changing s d n st (eraseUpdate logical) .answer)) → P (erased .answer)
-  by-erase P refused goes =
-      by-refusal (s .geometry) (sizedFor s d) st logical 0 (s .geometry .main) (λ k. P (erased .answer))
-      (λ f. told 1 is-geometry (omega arith) (erase-refuses-geometry s d n st logical f))
-      (λ t f. told 7 is-unmounted (omega arith) (erase-refuses-unmounted s d n st logical t f))
-      (λ t m h. told 2 is-address (omega arith) (erase-refuses-logical s d n st logical t m h))
-      (λ t m l h. absurd (omega (arith, h, sized-valid s d t .pages-least)))
-      (λ t m l p x. absurd (x refl))
-      (λ a. subst (λ (x : Result). P (x .answer)) (sym (accepted-erase a)) (goes a))
-    where
-      told : (k : ℕ) → AnyChangeAnswer k → k ≤ 7 → erased ≡ result k st d 0 → P (erased .answer)
-      told k a h e = subst (λ (x : Result). P (x .answer)) (sym e) (refused k a h)
-
-  module _ (ranged : InRange s d st) where
-    proper-erase : AcceptedErase → meant.Proper (s .geometry) (heldBits st (s .geometry .logical)) (eraseUpdate logical)
-    proper-erase a = meant.erase-proper (s .geometry) (sized-valid s d (a .sizes-fit)) st logical (a .logical-below)
-
-    pub erase-255 : (erased .answer ≡ 255) ↔ (AcceptedErase × RefusedChange s d n st)
-    erase-255 = (
-      by-erase (λ k. k ≡ 255 → AcceptedErase × RefusedChange s d n st)
-          (λ k a h z. absurd (omega (arith, z, h)))
-          (λ a z. (a, change-255 s d n st (eraseUpdate logical) ranged (a .sizes-fit) (a .is-mounted) (proper-erase a) .0 z)),
-      λ x. ap (λ (y : Result). y .answer) (accepted-erase (x .0)) ∙ change-255 s d n st (eraseUpdate logical) ranged (x .0 .sizes-fit) (x .0 .is-mounted) (proper-erase (x .0)) .1 (x .1),
-    )
-
-    pub erase-answers : AnyChangeAnswer (erased .answer)
-    erase-answers =
-        by-erase AnyChangeAnswer (λ k a h. a) (λ a. change-answers s d n st (eraseUpdate logical) ranged (a .sizes-fit) (a .is-mounted) (proper-erase a))
-
-    pub erase-uncut : n ≡ 4294967295 → erased .answer ≡ 11 → ⊥
-    erase-uncut e =
-        by-erase (λ k. k ≡ 11 → ⊥) (λ k a h z. omega (arith, z, h)) (λ a. change-uncut s d n st (eraseUpdate logical) ranged (a .sizes-fit) (a .is-mounted) (proper-erase a) e)
+  -- a busy chip with none left
+  module _ (last : Completing d) where
+    pub change-completing : (n : ℕ) → CompletingChange s d n st u (changing s d n st u)
+    change-completing n =
+        let taken = asked-busy s d (last .0) in
+        let read = read-completing s d last in
+        let word = completing-line s d last in
+        let same : (completedBy s d .interface .illegal ≡ 0 → ⊥) → completedBy s d ≡ illegalCycle (busyShown d) = λ e. sym read ∙ illegal-keeps s (asked s d) status (ap (λ (x : Device). x .interface .illegal) taken) (λ z. e (ap (λ (x : Device). x .interface .illegal) (sym read) ∙ z)) ∙ ap illegalCycle taken in
+        record {
+          cut-first = change-cut n;
+          cut-second = cut-one (busyShown d .interface) refl taken n;
+          line-is = λ h. ap (λ (p : Progress). p .line) (come-to (busyShown d .interface) refl taken n h (completedBy s d) read _ refl);
+          refused-second = λ h e.
+              nothing-changed s d n st u (progress (uncutLine (completedBy s d) (n - 2)) Illegal statusCycles []) 255 (blank 2) statusCycles (illegal-run (busyShown d .interface) refl taken n h (completedBy s d) read e) refl refl (omega (arith, h))
+              (ap (λ (x : Device). x .array) (same e)) (ap (λ (x : Device). x .register) (same e)) (ap (λ (x : Device). x .history) (same e));
+          protected-so = λ h e low. protected-result (busyShown d .interface) refl taken n h (completedBy s d) read e (λ z. low (sym word ∙ z));
+          goes-on = λ h e high. passed-run (busyShown d .interface) refl taken n h (completedBy s d) read e (word ∙ high);
+        }

@@ -4,7 +4,8 @@ use borrow.Author.Needs.{needs}
 use denote.Ref.{now}
 use Rattle.chip_array.specs.Device.{device, setting}
 use Rattle.request.proofs.StartLaws.{start-called, start-left, refused-is, stopped-is, goes-on}
-use Rattle.format.specs.Format.{endOfRun, marksRun}
+use Rattle.fill_tables.specs.Tables.{endOfRun}
+use Rattle.format.specs.Format.{marksRun}
 use Rattle.format.proofs.WholeLaws.{format-stops, format-started}
 use Rattle.format.proofs.format.Statement.{statement}
 use Rattle.format.proofs.format.Tie as tie
@@ -27,7 +28,7 @@ returns c =
     let entry = begun .before .before .before .before .before .before .before .before .before in
     let set = setting (entry .args .g) (now (entry .args .mask)) (now (entry .args .fates)) in
     let d = device (entry .args .interface) (now (entry .args .array)) (now (entry .args .register)) (now (entry .args .history)) in
-    refused-is set d (entry .args .allowed) _ _ (begun .start .ensures) (entry .args .state) (λ p. endOfRun (entry .args .allowed) (marksRun set p)) (c .if1 .taken)
+    refused-is set d (entry .args .allowed) _ _ (begun .start .ensures) (entry .args .state) (λ p. endOfRun (entry .args .allowed) (marksRun set (entry .args .state) p)) (c .if1 .taken)
     ∙ format-started set d (entry .args .allowed) (entry .args .state)
 
 blank-requires : tie.Need-blank-requires
@@ -59,7 +60,7 @@ returns-2 c =
     let set = setting (entry .args .g) (now (entry .args .mask)) (now (entry .args .fates)) in
     let d = device (entry .args .interface) (now (entry .args .array)) (now (entry .args .register)) (now (entry .args .history)) in
     c .end .ensures _ _ _
-    ∙ stopped-is set d (entry .args .allowed) _ _ (begun .start .ensures) (entry .args .state) (λ p. endOfRun (entry .args .allowed) (marksRun set p)) (format-stops set (entry .args .allowed)) (c .before .before .before .if1 .left) (c .before .before .if2 .taken) _ (c .before .blank .ensures)
+    ∙ stopped-is set d (entry .args .allowed) _ _ (begun .start .ensures) (entry .args .state) (λ p. endOfRun (entry .args .allowed) (marksRun set (entry .args .state) p)) (format-stops set (entry .args .allowed) (entry .args .state)) (c .before .before .before .if1 .left) (c .before .before .if2 .taken) _ (c .before .blank .ensures)
     ∙ format-started set d (entry .args .allowed) (entry .args .state)
 
 mark-and-erase-requires : tie.Need-mark-and-erase-requires
@@ -88,7 +89,7 @@ returns-3 c =
     let entry = begun .before .before .before .before .before .before .before .before .before in
     let set = setting (entry .args .g) (now (entry .args .mask)) (now (entry .args .fates)) in
     let d = device (entry .args .interface) (now (entry .args .array)) (now (entry .args .register)) (now (entry .args .history)) in
-    goes-on set d (entry .args .allowed) _ _ (begun .start .ensures) (entry .args .state) (λ p. endOfRun (entry .args .allowed) (marksRun set p)) (tested .if2 .left) _ (at-mark-and-erase .mark-and-erase .ensures)
+    goes-on set d (entry .args .allowed) _ _ (begun .start .ensures) (entry .args .state) (λ p. endOfRun (entry .args .allowed) (marksRun set (entry .args .state) p)) (tested .if2 .left) _ (at-mark-and-erase .mark-and-erase .ensures)
     ∙ format-started set d (entry .args .allowed) (entry .args .state)
 
 pub format-spec : {M : Type 1} → statement M

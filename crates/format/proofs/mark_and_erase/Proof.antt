@@ -46,10 +46,10 @@ returns c =
     let way = c .before .before .before .before .before .before .before .before .before in
     let at-read-marks = way .before .before in
     let s = at-read-marks .before .before .before .before .before .before .before .before .before in
-    λ cs os. c .end .ensures _ _ _ ∙ marks-stop (setting (s .args .g) (now (s .args .mask)) (now (s .args .fates))) (s .args .allowed) (line (s .args .from) (now (s .args .array)) (now (s .args .register)) (now (s .args .history))) _ (at-read-marks .read-marks .result .outcome) _ (at-read-marks .read-marks .ensures) (other-by-tag _ (c .before .before .before .match .keys2)) _ _ (c .before .before .stop-answer .ensures) (c .before .blank .ensures) cs os
+    λ cs os. c .end .ensures _ _ _ ∙ marks-stop (setting (s .args .g) (now (s .args .mask)) (now (s .args .fates))) (s .args .allowed) (line (s .args .from) (now (s .args .array)) (now (s .args .register)) (now (s .args .history))) _ (at-read-marks .read-marks .result .outcome) _ (at-read-marks .read-marks .ensures) (s .args .state) (other-by-tag _ (c .before .before .before .match .keys2)) _ _ (c .before .before .stop-answer .ensures) (c .before .blank .ensures) cs os
 
-erase-and-fill-requires : tie.Need-erase-and-fill-requires
-erase-and-fill-requires c κs =
+erase-if-writable-requires : tie.Need-erase-if-writable-requires
+erase-if-writable-requires c κs =
     let at-match = c .before .before .before .before .before in
     let at-read-marks = at-match .before .before .before .before .before .before .before .before in
     let s = at-read-marks .before .before .before .before .before .before .before .before .before in
@@ -76,11 +76,11 @@ same-length-6 c =
 
 returns-2 : tie.Need-returns-2
 returns-2 c =
-    let at-erase-and-fill = c .before .before .before .before .before .before in
-    let at-match = at-erase-and-fill .before .before .before .before .before .before in
+    let at-erase-if-writable = c .before .before .before .before .before .before in
+    let at-match = at-erase-if-writable .before .before .before .before .before .before in
     let at-read-marks = at-match .before .before .before .before .before .before .before .before in
     let s = at-read-marks .before .before .before .before .before .before .before .before .before in
-    λ cs os. marks-goes (setting (s .args .g) (now (s .args .mask)) (now (s .args .fates))) (s .args .allowed) (line (s .args .from) (now (s .args .array)) (now (s .args .register)) (now (s .args .history))) _ (at-read-marks .read-marks .result .outcome) _ (at-read-marks .read-marks .ensures) (passed-by-tag _ (at-match .match .keys1)) _ (at-erase-and-fill .erase-and-fill .ensures) cs os
+    λ cs os. marks-goes (setting (s .args .g) (now (s .args .mask)) (now (s .args .fates))) (s .args .allowed) (line (s .args .from) (now (s .args .array)) (now (s .args .register)) (now (s .args .history))) _ (at-read-marks .read-marks .result .outcome) _ (at-read-marks .read-marks .ensures) (passed-by-tag _ (at-match .match .keys1)) (s .args .state) _ (at-erase-if-writable .erase-if-writable .ensures) cs os
 
 pub mark-and-erase-spec : {M : Type 1} → statement M
 mark-and-erase-spec =
@@ -95,7 +95,7 @@ mark-and-erase-spec =
     same-length-2
     same-length-3
     returns
-    erase-and-fill-requires
+    erase-if-writable-requires
     same-length-4
     same-length-5
     same-length-6

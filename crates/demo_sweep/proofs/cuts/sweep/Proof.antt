@@ -5,10 +5,10 @@ use Rattle.demo_sweep.proofs.cuts.sweep.Statement.{statement}
 use Rattle.demo_sweep.proofs.cuts.sweep.Tie as tie
 
 abbrev Inv-loop : tie.InvT-loop
-Inv-loop label name older block mask old₀ new₀ other₀ shown₀ before allowed₀ t12 t13 t14 t15 old new other shown allowed = (allowed ≤ 362) × (old ≤ allowed) × (new ≤ allowed) × (other ≤ allowed)
+Inv-loop label name older block mask old₀ new₀ other₀ shown₀ before allowed₀ t12 t13 t14 t15 old new other shown allowed = (allowed ≤ 364) × (old ≤ allowed) × (new ≤ allowed) × (other ≤ allowed)
 
 abbrev μ-loop : tie.MeasureT-loop
-μ-loop label name older block mask old₀ new₀ other₀ shown₀ before allowed₀ t12 t13 t14 t15 old new other shown allowed = 362 - allowed
+μ-loop label name older block mask old₀ new₀ other₀ shown₀ before allowed₀ t12 t13 t14 t15 old new other shown allowed = 364 - allowed
 
 prepare-requires : tie.Need-prepare-requires Inv-loop μ-loop
 prepare-requires c κs = search needs
