@@ -50,8 +50,8 @@ static void finish(uint8_t *page, uint8_t kind, size_t logical, size_t place, si
     spare[1] = kind;
     put_number(spare + 2, 2, logical);
     put_number(spare + 4, 1, place);
-    put_number(spare + 5, 4, number);
-    put_number(spare + 9, 2, zero_bits(page, MAIN + 9));
+    put_number(spare + 5, 8, number);
+    put_number(spare + 13, 2, zero_bits(page, MAIN + 13));
 }
 
 /* Block 0 holds the table, with no invalid block; every other block a complete copy. */
@@ -73,7 +73,7 @@ static void fill(uint8_t *array, size_t blocks) {
                 put_number(page + 6, 2, 8);
                 memset(page + 8, 0, (blocks + 7) / 8);
             }
-            finish(page, b > 0 ? 0x44 : 0x54, b > 0 ? (b - 1) % (blocks - 2) : 0, p, b + 1);
+            finish(page, b > 0 ? 0x64 : 0x74, b > 0 ? (b - 1) % (blocks - 2) : 0, p, b + 1);
         }
     }
 }

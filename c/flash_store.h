@@ -9,6 +9,8 @@
  * Start with struct flash_store, struct flash_store_call and the functions flash_store_do_..., at the end of this file:
  *   a new chip       array all FFh but for factory marks, history all 0, interface and state all 0; then format
  *   power returns    interface and state all 0, page_register any bytes; array and history as they were left; then mount
+ *   an update        a chip that a version up to 4.6 wrote, with sequence numbers of 32 bits: as where power returns. The mount keeps
+ *                    every page, and nothing is converted. An older version cannot read what a newer one wrote
  *   a call           a product passes no mask, no fate words and FLASH_STORE_UNCUT; mask, fates and allowance are for tests,
  *                    which make the model fail, fall silent or lose power by them
  *   the line         write_protected of each call tells whether the chip's write-protect line is low
@@ -31,7 +33,7 @@ _Static_assert(sizeof(size_t) == 8, "the library is built for a size_t of 8 byte
 #endif
 
 /* The version of this header and its archive: docs/CHANGES.md. */
-#define FLASH_STORE_VERSION "4.6"
+#define FLASH_STORE_VERSION "4.7"
 
 /* The answers, in the order in which they are tested; SILENT and CUT come as they happen, CUT first. */
 enum flash_store_answer {
@@ -47,7 +49,7 @@ enum flash_store_answer {
     FLASH_STORE_CLASH = 6,        /* two blocks with one number, or a copy of a logical block >= N: not mounted, chip unchanged */
     FLASH_STORE_PROTECTED = 13,   /* format, write, erase: the write-protect line is low. The state is the one handed in, array and
                                      history are unchanged; only the interface moves on, and the page register of a formatting */
-    FLASH_STORE_SPENT = 9,        /* no sequence number left: stopped */
+    FLASH_STORE_SPENT = 9,        /* a block is to be filled, and sequence number 18,446,744,073,709,551,615 is taken: stopped */
     FLASH_STORE_WORN = 8,         /* no block left: stopped */
     FLASH_STORE_NO_SIZES = 12,    /* identify: no copy of the parameter page is good: state and chip unchanged */
     FLASH_STORE_SILENT = 10,      /* 256 status reads of one operation all busy: stopped */
@@ -66,7 +68,8 @@ enum flash_store_answer {
  *   6 CLASH            the chip holds what this store does not leave: format, which gives it all up
  *   13 PROTECTED       release the write-protect line and make the same call again. A state that was mounted still is: reads go
  *                      on, and no mount brings the request back
- *   9 SPENT            mount, read what is to be kept, format
+ *   9 SPENT            mount, read what is to be kept, format. Each block that is filled takes one number, so that no box comes
+ *                      this far: the state or the chip held a number that this store did not count up to
  *   8 WORN             write, erase: mount, read what is to be kept, take another chip. Format: fewer logical blocks, or another chip
  *   12 NO_SIZES        ask again; else take the sizes from the data sheet
  *   10 SILENT          mount; silent again, the chip has no power or is broken. Format: format again
@@ -75,7 +78,8 @@ enum flash_store_answer {
  */
 
 enum {
-    FLASH_STORE_STATE_BYTES = 9248,   /* the mounted state, laid out as docs/FORMAT.md says */
+    FLASH_STORE_STATE_BYTES = 9248,   /* the mounted state, laid out as docs/FORMAT.md says. Bytes 24 to 31, low byte first, are one
+                                         less than the next sequence number: the greatest found or taken, 0 for none */
     FLASH_STORE_INTERFACE_WORDS = 12, /* the chip's command interface, laid out as docs/FORMAT.md says; all 0 at power on */
     FLASH_STORE_PROTECTED_WORD = 11,  /* which of them is the write-protect line: not 0 where it is low */
     FLASH_STORE_PARAMETER_BYTES = 768 /* the chip's parameter page: three copies of 256 bytes (002, Table 13) */

@@ -1,4 +1,4 @@
-// Random chips, states, interfaces, masks, fates and lengths.
+// Random chips of pages in either layout, states, interfaces, masks, fates and lengths.
 
 use super::*;
 
@@ -20,13 +20,27 @@ pub fn random_geometry(random: &mut Random) -> Geometry {
     Geometry { main, spare, pages, blocks, logical }
 }
 
-pub fn random_number(random: &mut Random) -> u32 {
-    match random.below(8) {
-        0 => u32::MAX,
-        1 => u32::MAX - random.below(3) as u32,
-        2 => random.next() as u32,
-        _ => random.below(12) as u32,
+// Layouts that the pages of a chip may have: one, or both side by side.
+const NARROW: &[Layout] = &[Layout::Narrow];
+const WIDE: &[Layout] = &[Layout::Wide];
+const BOTH: &[Layout] = &[Layout::Narrow, Layout::Wide];
+
+// Small ones, any, and those where the layouts end.
+pub fn random_number(random: &mut Random) -> u64 {
+    match random.below(12) {
+        0 => u64::MAX,
+        1 => u64::MAX - random.below(3) as u64,
+        2 => Layout::Narrow.last_number() - 2 + random.below(5) as u64,
+        3 => random.next() >> random.below(64),
+        4 => random.below(12) as u64 | 1 << (32 + random.below(32)),
+        _ => random.below(12) as u64,
     }
+}
+
+// One of the layouts, and the number as far as it has room for it.
+fn in_layout(random: &mut Random, layouts: &[Layout], number: u64) -> (Layout, u64) {
+    let layout = random.pick(layouts);
+    (layout, number & layout.last_number())
 }
 
 fn random_main(random: &mut Random, geometry: &Geometry) -> Vec<u8> {
@@ -37,25 +51,28 @@ fn random_main(random: &mut Random, geometry: &Geometry) -> Vec<u8> {
     }
 }
 
-fn random_label(random: &mut Random, geometry: &Geometry) -> Label {
+fn random_label(random: &mut Random, geometry: &Geometry, layouts: &[Layout]) -> Label {
     let page = random.below(geometry.pages + 1);
+    let number = random_number(random);
+    let (layout, number) = in_layout(random, layouts, number);
     if random.one_in(3) {
-        return table_label(page, random_number(random));
+        return table_label(layout, page, number);
     }
-    data_label(random.below(geometry.logical + 2), page, random_number(random))
+    data_label(layout, random.below(geometry.logical + 2), page, number)
 }
 
-pub fn copy_block(random: &mut Random, geometry: &Geometry, logical: usize, number: u32) -> Vec<u8> {
+// A copy whose pages bear the label, each with its own place.
+pub fn copy_block(random: &mut Random, geometry: &Geometry, label: Label) -> Vec<u8> {
     let mut block = Vec::new();
     for page in 0..geometry.pages {
         let main = random_main(random, geometry);
-        block.extend(encode_page(geometry, &main, &data_label(logical, page, number)));
+        block.extend(encode_page(geometry, &main, &Label { page: page as u8, ..label }));
     }
     block
 }
 
 // A table over a random bitmap that mostly leaves its own block and the unused bits aside.
-fn table_block(random: &mut Random, geometry: &Geometry, own: usize, number: u32) -> Vec<u8> {
+fn table_block(random: &mut Random, geometry: &Geometry, own: usize, label: Label) -> Vec<u8> {
     let mut invalid = vec![0u8; 512];
     let wild = random.one_in(12);
     let places = if wild { (geometry.blocks + 7) / 8 * 8 } else { geometry.blocks };
@@ -64,10 +81,10 @@ fn table_block(random: &mut Random, geometry: &Geometry, own: usize, number: u32
             invalid[place / 8] |= 1 << (place % 8);
         }
     }
-    table_of(random, geometry, &invalid, number)
+    table_of(random, geometry, &invalid, label)
 }
 
-fn table_of(random: &mut Random, geometry: &Geometry, invalid: &[u8], number: u32) -> Vec<u8> {
+fn table_of(random: &mut Random, geometry: &Geometry, invalid: &[u8], label: Label) -> Vec<u8> {
     let mut main = table_main(geometry, invalid);
     if random.one_in(5) {
         spoil_table(random, geometry, &mut main);
@@ -80,7 +97,7 @@ fn table_of(random: &mut Random, geometry: &Geometry, invalid: &[u8], number: u3
         if page == other && page > 0 {
             bytes[random.below(geometry.main)] = 0x7F;
         }
-        block.extend(encode_page(geometry, &bytes, &Label { logical, ..table_label(page, number) }));
+        block.extend(encode_page(geometry, &bytes, &Label { logical, page: page as u8, ..label }));
     }
     block
 }
@@ -94,71 +111,108 @@ fn spoil_table(random: &mut Random, geometry: &Geometry, main: &mut [u8]) {
     main[place] ^= 1 << random.below(8);
 }
 
-fn mixed_block(random: &mut Random, geometry: &Geometry) -> Vec<u8> {
+// Pages that do not belong together.
+fn mixed_block(random: &mut Random, geometry: &Geometry, layouts: &[Layout]) -> Vec<u8> {
     let mut block = Vec::new();
     for _ in 0..geometry.pages {
         let main = random_main(random, geometry);
-        let label = random_label(random, geometry);
+        let label = random_label(random, geometry, layouts);
         block.extend(encode_page(geometry, &main, &label));
     }
     block
 }
 
-fn random_block(random: &mut Random, geometry: &Geometry, own: usize, numbers: &[u32]) -> Vec<u8> {
+fn random_block(random: &mut Random, geometry: &Geometry, layouts: &[Layout], own: usize, number: u64) -> Vec<u8> {
     let size = geometry.block_bytes();
-    let number = numbers[own];
+    let (layout, number) = in_layout(random, layouts, number);
     let mut block = match random.below(12) {
         0 | 1 => vec![0xFF; size],
         2 => random.bytes(size),
-        3 | 4 => table_block(random, geometry, own, number),
-        5 => mixed_block(random, geometry),
-        6 => copy_block(random, geometry, geometry.logical, number),
+        3 | 4 => table_block(random, geometry, own, table_label(layout, 0, number)),
+        5 => mixed_block(random, geometry, layouts),
+        6 => copy_block(random, geometry, data_label(layout, geometry.logical, 0, number)),
         _ => {
             let logical = random.below(geometry.logical);
-            copy_block(random, geometry, logical, number)
+            copy_block(random, geometry, data_label(layout, logical, 0, number))
         }
     };
     if random.one_in(4) {
         damage(random, geometry, &mut block);
     }
+    if layouts.len() > 1 && random.one_in(10) {
+        relay_page(random, geometry, &mut block);
+    }
     block
 }
 
-// Bits raised or cleared, a missing tail, a mark, or a wrong byte past the check.
+// Bits raised or cleared, a kind raised to one of the wide layout, a missing tail, a mark, or a wrong byte past the number.
 fn damage(random: &mut Random, geometry: &Geometry, block: &mut [u8]) {
     let size = geometry.page_bytes();
     let page = random.below(geometry.pages) * size;
-    match random.below(7) {
+    match random.below(9) {
         0 => block[page..].fill(0xFF),
         1 => (page..page + size).for_each(|place| block[place] |= random.byte() & random.byte()),
         2 => block[random.below(geometry.block_bytes())] |= 1 << random.below(8),
         3 => block[random.below(geometry.block_bytes())] &= !(1 << random.below(8)),
         4 => block[random.below(2) * size + geometry.main] = random.byte(),
         5 => block[page + geometry.main] = random.byte(),
+        6 => (0..geometry.pages).for_each(|page| raise_kind(&mut block[page * size + geometry.main..])),
+        7 => {
+            raise_kind(&mut block[page + geometry.main..]);
+            (page..page + size).for_each(|place| block[place] |= random.byte() & random.byte() & random.byte());
+        }
         _ => block[page + geometry.main + 11 + random.below(geometry.spare - 11)] = random.byte(),
     }
 }
 
+// The bit that the kinds of the wide layout have and those of the narrow one have not.
+pub const WIDE_BIT: u8 = 0x20;
+
+fn raise_kind(spare: &mut [u8]) {
+    spare[1] |= WIDE_BIT;
+}
+
+// The page in the other layout under the same label, with as much of its number as there is room for.
+pub fn relaid(geometry: &Geometry, page: &[u8], label: Label) -> Vec<u8> {
+    encode_page(geometry, &page[..geometry.main], &Label { kind: label.kind ^ WIDE_BIT, ..label })
+}
+
+// One whole page in the other layout.
+fn relay_page(random: &mut Random, geometry: &Geometry, block: &mut [u8]) {
+    let from = geometry.page_start(0, random.below(geometry.pages));
+    let page = &mut block[from..from + geometry.page_bytes()];
+    if let Some(label) = whole_page(geometry, page) {
+        page.copy_from_slice(&relaid(geometry, page, label));
+    }
+}
+
 pub fn random_array(random: &mut Random, geometry: &Geometry) -> Vec<u8> {
+    let layouts = random.pick(&[NARROW, WIDE, BOTH]);
+    array_in(random, geometry, layouts)
+}
+
+fn array_in(random: &mut Random, geometry: &Geometry, layouts: &[Layout]) -> Vec<u8> {
     match random.below(12) {
         0 => vec![0xFF; geometry.chip_bytes()],
         1 => random.bytes(geometry.chip_bytes()),
         2 => vec![0; geometry.chip_bytes()],
-        3 => (0..geometry.blocks).flat_map(|_| mixed_block(random, geometry)).collect(),
+        3 => (0..geometry.blocks).flat_map(|_| mixed_block(random, geometry, layouts)).collect(),
         _ => {
             let numbers = random_numbers(random, geometry.blocks);
-            (0..geometry.blocks).flat_map(|block| random_block(random, geometry, block, &numbers)).collect()
+            let all = numbers.into_iter().enumerate();
+            all.flat_map(|(block, number)| random_block(random, geometry, layouts, block, number)).collect()
         }
     }
 }
 
 // A number for each block: mostly different ones, few that come often, or any.
-fn random_numbers(random: &mut Random, count: usize) -> Vec<u32> {
+fn random_numbers(random: &mut Random, count: usize) -> Vec<u64> {
     let few = [random_number(random), random_number(random)];
     let often = random.pick(&[2, 5, 1000]);
-    let start = random.pick(&[1, 20, u32::MAX - count as u32]);
-    let mut numbers: Vec<u32> = (0..count as u32).map(|place| start + place).collect();
-    for place in (1..count).rev() {
+    let (count, narrow_last) = (count as u64, Layout::Narrow.last_number());
+    let start = random.pick(&[1, 20, narrow_last - count, narrow_last - count / 2, u64::MAX - count]);
+    let mut numbers: Vec<u64> = (1..=count).map(|place| start + place).collect();
+    for place in (1..numbers.len()).rev() {
         numbers.swap(place, random.below(place + 1));
     }
     for number in &mut numbers {
@@ -171,9 +225,11 @@ fn random_numbers(random: &mut Random, count: usize) -> Vec<u32> {
     numbers
 }
 
-// A chip of which few blocks are marked, so that a formatting mostly succeeds.
-pub fn used_array(random: &mut Random, geometry: &Geometry) -> Vec<u8> {
-    let mut array = random_array(random, geometry);
+// A chip of which few blocks are marked, so that a formatting mostly succeeds; for a store that writes the narrow layout one
+// whose pages are in that layout.
+pub fn used_array(random: &mut Random, geometry: &Geometry, store: Layout) -> Vec<u8> {
+    let layouts = if store == Layout::Narrow { NARROW } else { random.pick(&[NARROW, WIDE, BOTH]) };
+    let mut array = array_in(random, geometry, layouts);
     let size = geometry.page_bytes();
     for block in 0..geometry.blocks {
         let from = geometry.page_start(block, 0) + geometry.main;
@@ -358,7 +414,7 @@ pub fn made_state(random: &mut Random, geometry: &Geometry) -> State {
     state.status = 1;
     state.table = blocks.pop().unwrap() as u64;
     state.last = random.below(geometry.blocks) as u64;
-    state.next = if random.one_in(3) { random_number(random) as u64 } else { 100 };
+    state.number = if random.one_in(3) { random_number(random) } else { 100 };
     state.map.fill(0xFFFF);
     for logical in 0..geometry.logical {
         if random.one_in(2) {
@@ -384,7 +440,7 @@ pub fn change_state(random: &mut Random, geometry: &Geometry, state: &mut State)
         0 => state.status = word,
         1 => state.table = random.pick(&[block as u64, word]),
         2 => state.last = random.pick(&[block as u64, word]),
-        3 => state.next = random.pick(&[0, LAST_NUMBER - 1, LAST_NUMBER, LAST_NUMBER + 1, word, u64::MAX]),
+        3 => state.number = if random.one_in(2) { random_number(random) } else { word },
         4 => state.marks[place / 8] ^= 1 << (place % 8),
         5 => state.invalid[place / 8] ^= 1 << (place % 8),
         6 => state.map[random.below(geometry.logical)] = random.pick(&[block as u16, word as u16]),

@@ -15,6 +15,7 @@ mod prices;
 mod sale_lists;
 mod sales;
 mod store;
+mod updates;
 
 use book::*;
 use chips::*;
@@ -26,6 +27,7 @@ use price_tables::*;
 use sale_lists::*;
 use std::process::exit;
 use store::*;
+use updates::*;
 
 fn restore<T: Clone>(part: &mut Vec<T>, kept: &[T]) {
     if part.len() != kept.len() {
@@ -133,6 +135,7 @@ struct Run {
     calls: usize,
     answers: [[usize; ANSWERS.len()]; KINDS.len()],
     books: usize,
+    updated: usize,
     entered: usize,
     progress: usize,
 }
@@ -163,7 +166,8 @@ impl Run {
                 line += &format!(" {answer}:{count}");
             }
         }
-        line + &format!("; {} lists with a book, {} requests entered by a mount", self.books, self.entered)
+        line += &format!("; {} lists with a book, {} boxes updated", self.books, self.updated);
+        line + &format!(", {} requests entered by a mount", self.entered)
     }
 
     fn every_answer(&self) -> bool {
@@ -235,8 +239,10 @@ fn print_arguments(geometry: &Geometry, request: &Request, call: &Call, before: 
 
 const LARGEST_SHOWN: usize = 200_000;
 
+// A box, and the layout that its store writes: while that is the narrow one, the library takes no part.
 struct World {
     geometry: Geometry,
+    layout: Layout,
     own: Side,
     library: Side,
     watch: Watch,
@@ -265,7 +271,7 @@ impl World {
         };
         let (state, sizes) = (vec![0; STATE_BYTES], vec![0; SIZE_WORDS]);
         let own = Side { state, chip, buffer: Vec::new(), sent: vec![0], sizes };
-        World { geometry, library: own.clone(), own, watch: Watch::default() }
+        World { geometry, layout: Layout::Wide, library: own.clone(), own, watch: Watch::default() }
     }
 
     fn fresh(geometry: Geometry) -> World {
@@ -290,6 +296,20 @@ impl World {
         Call { mask: self.mask(0), fates: Vec::new(), allowed: u32::MAX, protected: 0 }
     }
 
+    // The box is updated, with the power off: every page on its chip is one of the narrow layout, or not whole.
+    fn update(&mut self, run: &mut Run) {
+        let pages = self.own.chip.array.chunks(self.geometry.page_bytes());
+        let kinds = pages.filter_map(|page| Some(whole_page(&self.geometry, page)?.kind));
+        if kinds.map(Layout::of).any(|layout| layout != Some(Layout::Narrow)) {
+            run.fail("a page of the narrow layout passes as one of the wide layout");
+        }
+        self.layout = Layout::Wide;
+        self.own.state.fill(0);
+        self.own.chip.interface.fill(0);
+        self.library = self.own.clone();
+        run.updated += 1;
+    }
+
     // One call on both sides, which are alike before it; the answer.
     fn call(&mut self, run: &mut Run, geometry: Geometry, request: &Request, call: &Call, buffer: &[u8]) -> usize {
         self.both(|side| side.buffer = buffer.to_vec());
@@ -298,6 +318,9 @@ impl World {
         let before = self.own.shown_part();
         let (mask, fates) = (call.mask.clone(), call.fates.clone());
         let answer = self.own_call(&geometry, request, call);
+        if self.layout == Layout::Narrow {
+            return answer;
+        }
         run.count(kind_of(request), answer);
         let theirs = library(&geometry, request, &mut self.library, call);
         let found = difference(&self.own, &self.library);
@@ -314,7 +337,7 @@ impl World {
 
     fn own_call(&mut self, geometry: &Geometry, request: &Request, call: &Call) -> usize {
         self.watch.confirmed.clear();
-        store::call(geometry, request, &mut self.own, call, &mut self.watch)
+        store::call(self.layout, geometry, request, &mut self.own, call, &mut self.watch)
     }
 
     fn right(&mut self, run: &mut Run, request: &Request, call: &Call, buffer: &[u8]) -> usize {
@@ -368,7 +391,8 @@ impl World {
     }
 
     fn duplicate(&self) -> World {
-        World { geometry: self.geometry, own: self.own.clone(), library: self.own.clone(), watch: self.watch.clone() }
+        let (own, library) = (self.own.clone(), self.own.clone());
+        World { geometry: self.geometry, layout: self.layout, own, library, watch: self.watch.clone() }
     }
 }
 

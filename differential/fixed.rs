@@ -1,6 +1,7 @@
 // The fixed selection: the paper's bench figures, then every cut, failure and silence of requests on small chips, with the
-// write-protect line high and low, forged states and interfaces, wrong lengths, parameter pages, a chip with rows past sixteen
-// bits, and random lists; and beside the store the draws of the test load, price rules and lists of sales.
+// write-protect line high and low, forged states and interfaces, wrong lengths, chips in both layouts and updated boxes,
+// parameter pages, a chip with rows past sixteen bits, and random lists; and beside the store the draws of the test load, price
+// rules and lists of sales.
 
 use super::*;
 use crate::draws::drawn;
@@ -21,6 +22,11 @@ pub fn fixed_selection(run: &mut Run) {
     every_bit(run);
     every_table(run);
     every_arrangement(run);
+    every_raise(run);
+    every_mixture(run);
+    every_number(run);
+    every_formatting(run);
+    updates(run);
     parameter_pages(run);
     large_chip(run);
     random_lists(run, RANDOM_CALLS, 1);
@@ -79,7 +85,7 @@ fn bench_program(run: &mut Run) {
     let answer = world.format(run);
     expect(run, "F", line(&world, answer), (0, 356, 3));
     let page = &world.own.chip.array[..SMALL.page_bytes()];
-    expect(run, "check of the table", (page[41], page[42]), (129, 0));
+    expect(run, "check of the table", (page[45], page[46]), (160, 0));
     let answer = world.write(run, 0, 0, 0xA5);
     expect(run, "W 0 0 A5", line(&world, answer), (0, 237, 2));
     let answer = world.read(run, 0, 0);
@@ -95,11 +101,16 @@ fn bench_program(run: &mut Run) {
 }
 
 fn bench_pages(run: &mut Run) {
-    let mut page = encode_page(&SMALL, &[0xFF; 32], &data_label(0, 0, 2));
-    expect(run, "check of a data page", (page[41], page[42]), (61, 0));
-    expect(run, "a data page", whole_page(&SMALL, &page), Some(data_label(0, 0, 2)));
-    page[32 + 4] = 1;
-    expect(run, "a raised page", whole_page(&SMALL, &page), None);
+    for (layout, place, check) in [(Layout::Narrow, 41, 61), (Layout::Wide, 45, 92)] {
+        let label = data_label(layout, 0, 0, 2);
+        let mut page = encode_page(&SMALL, &[0xFF; 32], &label);
+        expect(run, "check of a data page", (page[place], page[place + 1]), (check, 0));
+        expect(run, "a data page", whole_page(&SMALL, &page), Some(label));
+        page[32 + 4] = 1;
+        expect(run, "a raised page", whole_page(&SMALL, &page), None);
+    }
+    let table = encode_page(&SMALL, &table_main(&SMALL, &[0; 512]), &table_label(Layout::Narrow, 0, 1));
+    expect(run, "check of a table with a 32-bit number", (table[41], table[42]), (129, 0));
     expect(run, "an erased page", whole_page(&SMALL, &[0xFF; 48]), None);
 }
 
@@ -118,9 +129,15 @@ fn bench_limits(run: &mut Run) {
 }
 
 // A formatted small chip with one page written to each logical block.
-fn written() -> (World, Book) {
+pub fn written() -> (World, Book) {
+    written_in(Layout::Wide)
+}
+
+// The same by a store that writes this layout.
+pub fn written_in(layout: Layout) -> (World, Book) {
     let mut run = Run::of_setting();
     let mut world = World::fresh(SMALL);
+    world.layout = layout;
     world.watch.on = true;
     let mut book = Book::new(&SMALL);
     world.format(&mut run);
@@ -186,16 +203,31 @@ fn bench_replacement(run: &mut Run) {
 }
 
 fn bench_numbers(run: &mut Run) {
+    let last = Layout::Wide.last_number();
     let (mut world, _) = written();
-    let mut state = world.state();
-    state.next = LAST_NUMBER;
+    let state = State { number: last - 1, ..world.state() };
     world.both(|side| side.state = state.to_bytes());
     let answer = world.write(run, 0, 0, 0x77);
-    expect(run, "the last number", (answer, world.state().next), (DONE, LAST_NUMBER + 1));
+    expect(run, "the last number", (answer, world.state().number), (DONE, last));
     let answer = world.write(run, 0, 0, 0x78);
     expect(run, "no number left", line(&world, answer), (9, 2, 0));
     let answer = world.mount(run);
-    expect(run, "a mount after the last number", (answer, world.state().next), (DONE, LAST_NUMBER + 1));
+    expect(run, "a mount after the last number", (answer, world.state().number), (DONE, last));
+    let answer = world.read(run, 0, 0);
+    expect(run, "the page under the last number", (answer, world.own.buffer[0]), (DONE, 0x77));
+    bench_formatting(run, 1, (9, 353, 0));
+    bench_formatting(run, 2, (8, 353, 0));
+}
+
+// A formatting that finds the last number in a block whose erase fails: it counts its blocks before it takes a number.
+fn bench_formatting(run: &mut Run, logical: usize, wanted: Line) {
+    let label = table_label(Layout::Wide, 0, Layout::Wide.last_number());
+    let mut array = table_with(&table_main(&SMALL, &[0; 512]), &[0xFF; 32], label);
+    array.resize(SMALL.chip_bytes(), 0xFF);
+    let mut world = World::new(Geometry { logical, ..SMALL }, array);
+    let call = Call { fates: vec![0, 0, 0, 0, 0, 0, 0, 0, 1 << 16], ..world.plain() };
+    let answer = world.right(run, &Request::Format, &call, &[]);
+    expect(run, "a formatting over the last number", line(&world, answer), wanted);
 }
 
 fn bench_column(run: &mut Run) {
@@ -239,7 +271,7 @@ fn bench_line_first(run: &mut Run, base: &World) {
     let mut world = base.duplicate();
     let answer = world.right(run, &write, &low, &[0; SMALL.main - 1]);
     expect(run, "a short page", answer, LENGTH);
-    let state = State { next: LAST_NUMBER + 1, ..world.state() };
+    let state = State { number: u64::MAX, ..world.state() };
     world.both(|side| side.state = state.to_bytes());
     let answer = world.right(run, &write, &low, &[0x79; SMALL.main]);
     expect(run, "no number left, the line low", answer, PROTECTED);
@@ -258,7 +290,7 @@ fn bench_line_first(run: &mut Run, base: &World) {
 
 // ---- every place of a request ----
 
-fn requests() -> [Request; 8] {
+pub fn requests() -> [Request; 8] {
     [
         Request::Format,
         Request::Mount,
@@ -272,7 +304,7 @@ fn requests() -> [Request; 8] {
 }
 
 // All bits, none and random ones; one mask where the request changes nothing.
-fn masks(world: &World, request: &Request) -> Vec<Vec<u8>> {
+pub fn masks(world: &World, request: &Request) -> Vec<Vec<u8>> {
     let random = Random::new(77).bytes(world.geometry.block_bytes());
     match request {
         Request::Mount | Request::Read { .. } | Request::Identify => vec![random],
@@ -280,7 +312,7 @@ fn masks(world: &World, request: &Request) -> Vec<Vec<u8>> {
     }
 }
 
-fn buffer_for(world: &World, request: &Request) -> Vec<u8> {
+pub fn buffer_for(world: &World, request: &Request) -> Vec<u8> {
     match request {
         Request::Read { .. } => vec![0x5C; world.geometry.main],
         Request::Write { .. } => (0..world.geometry.main).map(|place| place as u8 ^ 0x69).collect(),
@@ -307,7 +339,7 @@ fn try_call(run: &mut Run, base: &(World, Book), request: &Request, call: &Call)
 }
 
 // Cycles and fate words of a request that is not cut, with these words at hand and this line.
-fn usual(base: &World, request: &Request, fates: &[u32], protected: u64) -> (u64, usize) {
+pub fn usual(base: &World, request: &Request, fates: &[u32], protected: u64) -> (u64, usize) {
     let mut world = base.duplicate();
     let call = Call { fates: fates.to_vec(), protected, ..world.plain() };
     let buffer = buffer_for(&world, request);
@@ -349,7 +381,7 @@ fn every_cut(run: &mut Run) {
 }
 
 // The call with every allowance up to the cycles that it sends.
-fn cuts_of(run: &mut Run, base: &(World, Book), request: &Request, call: &Call) {
+pub fn cuts_of(run: &mut Run, base: &(World, Book), request: &Request, call: &Call) {
     let Call { fates, protected, .. } = call;
     let geometry = base.0.geometry;
     run.origin = format!("every cut of {request:?} on {geometry:?} with fates {fates:X?} and line {protected}");
@@ -490,11 +522,11 @@ fn changed_states(run: &mut Run) {
     let (base, _) = written();
     let state = base.state();
     let mut states = Vec::new();
-    for number in [0, 1, 2, 3, 4, 5, 255, 256, 1 << 16, 1 << 32, LAST_NUMBER, u64::MAX] {
+    for number in [0, 1, 2, 3, 4, 5, 255, 256, 1 << 16, (1 << 32) - 1, 1 << 32, u64::MAX - 1, u64::MAX] {
         states.push(State { status: number, ..state.clone() });
         states.push(State { table: number, ..state.clone() });
         states.push(State { last: number, ..state.clone() });
-        states.push(State { next: number, ..state.clone() });
+        states.push(State { number, ..state.clone() });
         for logical in [0, 1, 2, 3, 4095] {
             let mut changed = state.clone();
             changed.map[logical] = number as u16;
@@ -605,23 +637,25 @@ fn mount_array(run: &mut Run, array: Vec<u8>) {
     }
 }
 
+// Of a chip in either layout.
 fn every_bit(run: &mut Run) {
-    let (world, _) = written();
-    for place in 0..SMALL.chip_bytes() {
-        for bit in 0..8 {
-            run.origin = format!("bit {bit} of byte {place} changed");
-            let mut array = world.own.chip.array.clone();
-            array[place] ^= 1 << bit;
-            mount_array(run, array);
+    for layout in [Layout::Narrow, Layout::Wide] {
+        let (world, _) = written_in(layout);
+        for place in 0..SMALL.chip_bytes() {
+            for bit in 0..8 {
+                run.origin = format!("bit {bit} of byte {place} changed, {layout:?}");
+                let mut array = world.own.chip.array.clone();
+                array[place] ^= 1 << bit;
+                mount_array(run, array);
+            }
         }
     }
 }
 
-// A table block with these main bytes of page 0 and of the other pages.
-fn table_with(first: &[u8], others: &[u8], logical: u16, number: u32) -> Vec<u8> {
+// A table block with these main bytes of page 0 and of the other pages, each page with its own place.
+pub fn table_with(first: &[u8], others: &[u8], label: Label) -> Vec<u8> {
     let mains = (0..SMALL.pages).map(|page| if page == 0 { first } else { others });
-    let label = |page| Label { logical, ..table_label(page, number) };
-    mains.enumerate().flat_map(|(page, main)| encode_page(&SMALL, main, &label(page))).collect()
+    mains.enumerate().flat_map(|(page, main)| encode_page(&SMALL, main, &Label { page: page as u8, ..label })).collect()
 }
 
 fn mount_table(run: &mut Run, table: &[u8]) {
@@ -634,41 +668,52 @@ fn mount_table(run: &mut Run, table: &[u8]) {
 }
 
 fn every_table(run: &mut Run) {
-    let blank = [0xFF; 32];
-    let right = table_main(&SMALL, &[0; 512]);
-    for bitmap in 0..=255 {
-        run.origin = format!("a table with bitmap {bitmap:02X}");
-        let mut invalid = [0; 512];
-        invalid[0] = bitmap;
-        mount_table(run, &table_with(&table_main(&SMALL, &invalid), &blank, 0, 9));
-    }
-    for bit in 0..256 {
-        run.origin = format!("a table with bit {bit} changed");
-        let (mut first, mut others) = (right.clone(), blank);
-        first[bit / 8] ^= 1 << (bit % 8);
-        others[bit / 8] ^= 1 << (bit % 8);
-        mount_table(run, &table_with(&first, &blank, 0, 9));
-        mount_table(run, &table_with(&right, &others, 0, 9));
-    }
-    for bit in 0..16 {
-        run.origin = format!("a table with bit {bit} of its logical block");
-        mount_table(run, &table_with(&right, &blank, 1 << bit, 9));
+    for layout in [Layout::Narrow, Layout::Wide] {
+        every_table_in(run, layout);
     }
 }
 
-// What a block may hold where all arrangements are tried.
-fn contents() -> Vec<Vec<u8>> {
-    let mut random = Random::new(5);
-    let table = |bitmap: u8, number| {
+fn every_table_in(run: &mut Run, layout: Layout) {
+    let blank = [0xFF; 32];
+    let right = table_main(&SMALL, &[0; 512]);
+    let label = table_label(layout, 0, 9);
+    for bitmap in 0..=255 {
+        run.origin = format!("a table with bitmap {bitmap:02X}, {layout:?}");
         let mut invalid = [0; 512];
         invalid[0] = bitmap;
-        table_with(&table_main(&SMALL, &invalid), &[0xFF; 32], 0, number)
+        mount_table(run, &table_with(&table_main(&SMALL, &invalid), &blank, label));
+    }
+    for bit in 0..256 {
+        run.origin = format!("a table with bit {bit} changed, {layout:?}");
+        let (mut first, mut others) = (right.clone(), blank);
+        first[bit / 8] ^= 1 << (bit % 8);
+        others[bit / 8] ^= 1 << (bit % 8);
+        mount_table(run, &table_with(&first, &blank, label));
+        mount_table(run, &table_with(&right, &others, label));
+    }
+    for bit in 0..16 {
+        run.origin = format!("a table with bit {bit} of its logical block, {layout:?}");
+        mount_table(run, &table_with(&right, &blank, Label { logical: 1 << bit, ..label }));
+    }
+}
+
+// What a block may hold where all arrangements are tried: tables and copies in either layout under few numbers.
+fn contents() -> Vec<Vec<u8>> {
+    let (narrow, wide) = (Layout::Narrow, Layout::Wide);
+    let mut random = Random::new(5);
+    let table = |layout, bitmap: u8, number| {
+        let mut invalid = [0; 512];
+        invalid[0] = bitmap;
+        table_with(&table_main(&SMALL, &invalid), &[0xFF; 32], table_label(layout, 0, number))
     };
-    let mut marked = table(0, 3);
+    let mut marked = table(wide, 0, 3);
     marked[SMALL.page_bytes() + SMALL.main] = 0xFE;
-    let mut contents = vec![vec![0xFF; SMALL.block_bytes()], marked, table(0, 1), table(0, 2), table(2, 2), table(12, 2)];
-    for (logical, number) in [(0, 1), (0, 2), (1, 2), (2, 3)] {
-        contents.push(copy_block(&mut random, &SMALL, logical, number));
+    let mut contents = vec![vec![0xFF; SMALL.block_bytes()], marked];
+    for (layout, bitmap, number) in [(wide, 0, 1), (wide, 0, 2), (narrow, 0, 2), (narrow, 2, 2), (wide, 12, 2)] {
+        contents.push(table(layout, bitmap, number));
+    }
+    for (layout, logical, number) in [(narrow, 0, 1), (wide, 0, 2), (narrow, 0, 2), (wide, 1, 2), (narrow, 2, 3)] {
+        contents.push(copy_block(&mut random, &SMALL, data_label(layout, logical, 0, number)));
     }
     contents
 }

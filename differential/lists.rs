@@ -89,21 +89,44 @@ fn wild_call(run: &mut Run, random: &mut Random, world: &mut World) {
     }
 }
 
-// A list after an acknowledged formatting, with the book kept.
+// A list after an acknowledged formatting, with the book kept. One box of three is updated in the middle of it.
 fn book_list(run: &mut Run, random: &mut Random) {
     let geometry = random_geometry(random);
-    let mut world = World::new(geometry, used_array(random, &geometry));
+    let layout = random.pick(&[Layout::Narrow, Layout::Wide, Layout::Wide]);
+    let mut world = World::new(geometry, used_array(random, &geometry, layout));
+    world.layout = layout;
     world.watch.on = true;
     if !acknowledged_formatting(run, random, &mut world) {
         return;
     }
+    skip_numbers(random, &mut world);
     run.books += 1;
     let mut book = Book::new(&geometry);
-    for _ in 0..1 + random.below(25) {
-        book_call(run, random, &mut world, &mut book);
+    book_calls(run, random, &mut world, &mut book);
+    if layout == Layout::Narrow {
+        world.update(run);
+        book_calls(run, random, &mut world, &mut book);
     }
     last_mount(run, random, &mut world, &mut book);
     book.compare_all(run, &world);
+}
+
+// As if many writes had taken numbers: few are left in the layout, or in the narrow one.
+fn skip_numbers(random: &mut Random, world: &mut World) {
+    let last = match random.below(8) {
+        0 => world.layout.last_number(),
+        1 => Layout::Narrow.last_number(),
+        _ => return,
+    };
+    let mut state = world.state();
+    state.number = state.number.max(last - random.below(12) as u64);
+    world.both(|side| side.state = state.to_bytes());
+}
+
+fn book_calls(run: &mut Run, random: &mut Random, world: &mut World, book: &mut Book) {
+    for _ in 0..1 + random.below(25) {
+        book_call(run, random, world, book);
+    }
 }
 
 fn acknowledged_formatting(run: &mut Run, random: &mut Random, world: &mut World) -> bool {

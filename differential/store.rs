@@ -8,12 +8,9 @@ use parameters::PARAMETER_BYTES;
 pub const STATE_BYTES: usize = 9248;
 pub const INTERFACE_WORDS: usize = 12;
 pub const SIZE_WORDS: usize = 4;
-pub const LAST_NUMBER: u64 = 4_294_967_295;
 
 const MOST_BLOCKS: usize = 4096;
 const EMPTY: u16 = 0xFFFF;
-const DATA: u8 = 0x44;
-const TABLE: u8 = 0x54;
 
 pub const DONE: usize = 0;
 pub const GEOMETRY: usize = 1;
@@ -638,33 +635,93 @@ fn u64_at(bytes: &[u8], place: usize) -> u64 {
     u64::from_le_bytes(bytes[place..place + 8].try_into().unwrap())
 }
 
+// The layouts of a page: narrow with a number of 32 bits, wide with one of 64. Both are read; the store writes the wide one, and
+// a box that was not updated yet the narrow one.
+#[derive(Clone, Copy, PartialEq, Eq, Debug)]
+pub enum Layout {
+    Narrow,
+    Wide,
+}
+
+impl Layout {
+    // The layout of a kind, if it is one.
+    pub fn of(kind: u8) -> Option<Layout> {
+        match kind {
+            0x44 | 0x54 => Some(Layout::Narrow),
+            0x64 | 0x74 => Some(Layout::Wide),
+            _ => None,
+        }
+    }
+
+    fn data_kind(self) -> u8 {
+        match self {
+            Layout::Narrow => 0x44,
+            Layout::Wide => 0x64,
+        }
+    }
+
+    fn table_kind(self) -> u8 {
+        match self {
+            Layout::Narrow => 0x54,
+            Layout::Wide => 0x74,
+        }
+    }
+
+    pub fn last_number(self) -> u64 {
+        match self {
+            Layout::Narrow => 4_294_967_295,
+            Layout::Wide => 18_446_744_073_709_551_615,
+        }
+    }
+
+    // Where the check stands in the spare bytes: behind the number, which begins at 5.
+    fn check_at(self) -> usize {
+        match self {
+            Layout::Narrow => 9,
+            Layout::Wide => 13,
+        }
+    }
+}
+
 #[derive(Clone, Copy, PartialEq, Eq, Debug)]
 pub struct Label {
     pub kind: u8,
     pub logical: u16,
     pub page: u8,
-    pub number: u32,
+    pub number: u64,
 }
 
-pub fn data_label(logical: usize, page: usize, number: u32) -> Label {
-    Label { kind: DATA, logical: logical as u16, page: page as u8, number }
+impl Label {
+    pub fn is_data(&self) -> bool {
+        matches!(self.kind, 0x44 | 0x64)
+    }
+
+    fn is_table(&self) -> bool {
+        matches!(self.kind, 0x54 | 0x74)
+    }
 }
 
-pub fn table_label(page: usize, number: u32) -> Label {
-    Label { kind: TABLE, logical: 0, page: page as u8, number }
+pub fn data_label(layout: Layout, logical: usize, page: usize, number: u64) -> Label {
+    Label { kind: layout.data_kind(), logical: logical as u16, page: page as u8, number }
+}
+
+pub fn table_label(layout: Layout, page: usize, number: u64) -> Label {
+    Label { kind: layout.table_kind(), logical: 0, page: page as u8, number }
 }
 
 pub fn zero_bits(bytes: &[u8]) -> u32 {
     bytes.iter().map(|byte| byte.count_zeros()).sum()
 }
 
+// The page of a label whose kind is one of the four, with as much of its number as the layout holds.
 pub fn encode_page(geometry: &Geometry, main: &[u8], label: &Label) -> Vec<u8> {
+    let layout = Layout::of(label.kind).unwrap();
     let mut page = main.to_vec();
     page.push(0xFF);
     page.push(label.kind);
     page.extend(label.logical.to_le_bytes());
     page.push(label.page);
-    page.extend(label.number.to_le_bytes());
+    page.extend(&label.number.to_le_bytes()[..layout.check_at() - 5]);
     let check = zero_bits(&page) as u16;
     page.extend(check.to_le_bytes());
     page.resize(geometry.page_bytes(), 0xFF);
@@ -673,13 +730,18 @@ pub fn encode_page(geometry: &Geometry, main: &[u8], label: &Label) -> Vec<u8> {
 
 pub fn whole_page(geometry: &Geometry, page: &[u8]) -> Option<Label> {
     let (main, spare) = page.split_at(geometry.main);
-    let check = zero_bits(main) + zero_bits(&spare[..9]);
-    let blank = spare[0] == 0xFF && spare[11..].iter().all(|byte| *byte == 0xFF);
-    let known = spare[1] == DATA || spare[1] == TABLE;
-    if !blank || !known || check != u16_at(spare, 9) as u32 {
+    let layout = Layout::of(spare[1])?;
+    let check_at = layout.check_at();
+    let check = zero_bits(main) + zero_bits(&spare[..check_at]);
+    let blank = spare[0] == 0xFF && spare[check_at + 2..].iter().all(|byte| *byte == 0xFF);
+    if !blank || check != u16_at(spare, check_at) as u32 {
         return None;
     }
-    Some(Label { kind: spare[1], logical: u16_at(spare, 2), page: spare[4], number: u32_at(spare, 5) })
+    let number = match layout {
+        Layout::Narrow => u32_at(spare, 5) as u64,
+        Layout::Wide => u64_at(spare, 5),
+    };
+    Some(Label { kind: spare[1], logical: u16_at(spare, 2), page: spare[4], number })
 }
 
 // What the pages of one block say.
@@ -687,7 +749,7 @@ pub fn whole_page(geometry: &Geometry, page: &[u8]) -> Option<Label> {
 pub struct Summary {
     pub marked: bool,
     pub complete: Option<Label>,
-    pub greatest: Option<u32>,
+    pub greatest: Option<u64>,
 }
 
 pub fn summarise(geometry: &Geometry, pages: &[&[u8]]) -> Summary {
@@ -759,10 +821,10 @@ fn forbidden_block(geometry: &Geometry, array: &[u8], block: usize) -> bool {
     if summary_of(geometry, array, block).marked {
         return true;
     }
-    let mut table: Option<(u32, usize)> = None;
+    let mut table: Option<(u64, usize)> = None;
     for place in 0..geometry.blocks {
         let label = summary_of(geometry, array, place).complete;
-        if let Some(label) = label.filter(|label| label.kind == TABLE) {
+        if let Some(label) = label.filter(Label::is_table) {
             if table.map_or(true, |(number, _)| label.number > number) {
                 table = Some((label.number, place));
             }
@@ -775,12 +837,13 @@ fn forbidden_block(geometry: &Geometry, array: &[u8], block: usize) -> bool {
 
 // ---- the mounted state ----
 
+// `number` is one less than the next number: the greatest one found or taken, 0 for none.
 #[derive(Clone, PartialEq, Eq)]
 pub struct State {
     pub status: u64,
     pub table: u64,
     pub last: u64,
-    pub next: u64,
+    pub number: u64,
     pub marks: Vec<u8>,
     pub invalid: Vec<u8>,
     pub map: Vec<u16>,
@@ -794,7 +857,7 @@ impl State {
     fn blank(status: u64) -> State {
         let bitmap = vec![0; MOST_BLOCKS / 8];
         let map = vec![0; MOST_BLOCKS];
-        State { status, table: 0, last: 0, next: 0, marks: bitmap.clone(), invalid: bitmap, map }
+        State { status, table: 0, last: 0, number: 0, marks: bitmap.clone(), invalid: bitmap, map }
     }
 
     pub fn from_bytes(bytes: &[u8]) -> State {
@@ -806,7 +869,7 @@ impl State {
             status: u64_at(bytes, 0),
             table: u64_at(bytes, 8),
             last: u64_at(bytes, 16),
-            next: u64_at(bytes, 24),
+            number: u64_at(bytes, 24),
             marks: bytes[32..544].to_vec(),
             invalid: bytes[544..1056].to_vec(),
             map,
@@ -815,7 +878,7 @@ impl State {
 
     pub fn to_bytes(&self) -> Vec<u8> {
         let mut bytes = vec![0; STATE_BYTES];
-        for (place, number) in [self.status, self.table, self.last, self.next].into_iter().enumerate() {
+        for (place, number) in [self.status, self.table, self.last, self.number].into_iter().enumerate() {
             bytes[8 * place..8 * place + 8].copy_from_slice(&number.to_le_bytes());
         }
         bytes[32..544].copy_from_slice(&self.marks);
@@ -866,12 +929,12 @@ impl State {
         !bit(&self.marks, block) && !bit(&self.invalid, block)
     }
 
-    fn take_number(&mut self) -> Result<u32, Stop> {
-        if self.next > LAST_NUMBER {
+    fn take_number(&mut self, layout: Layout) -> Result<u64, Stop> {
+        if self.number >= layout.last_number() {
             return Err(Stop::Spent);
         }
-        self.next += 1;
-        Ok((self.next - 1) as u32)
+        self.number += 1;
+        Ok(self.number)
     }
 
     // Valid unmarked blocks that hold nothing current.
@@ -892,6 +955,7 @@ enum Filling<'a> {
 }
 
 struct Store<'a> {
+    layout: Layout,
     bus: Bus<'a>,
     state: State,
     held: Vec<u64>,
@@ -915,7 +979,7 @@ impl<'a> Store<'a> {
     // Fills block after block until one passes.
     fn fill(&mut self, what: &Filling) -> Result<(), Stop> {
         loop {
-            let number = self.state.take_number()?;
+            let number = self.state.take_number(self.layout)?;
             let block = self.choose_block()?;
             if self.fill_block(what, block, number)? {
                 self.record(what, block);
@@ -926,7 +990,7 @@ impl<'a> Store<'a> {
         }
     }
 
-    fn fill_block(&mut self, what: &Filling, block: usize, number: u32) -> Result<bool, Stop> {
+    fn fill_block(&mut self, what: &Filling, block: usize, number: u64) -> Result<bool, Stop> {
         if !self.bus.erase(block)? {
             return Ok(false);
         }
@@ -939,14 +1003,15 @@ impl<'a> Store<'a> {
         Ok(true)
     }
 
-    fn page_to_fill(&mut self, what: &Filling, page: usize, number: u32) -> Result<Vec<u8>, Stop> {
+    fn page_to_fill(&mut self, what: &Filling, page: usize, number: u64) -> Result<Vec<u8>, Stop> {
         let geometry = self.geometry();
+        let layout = self.layout;
         let blank = vec![0xFF; geometry.main];
         let (main, label) = match what {
-            Filling::Table if page == 0 => (table_main(&geometry, &self.state.invalid), table_label(0, number)),
-            Filling::Table => (blank, table_label(page, number)),
+            Filling::Table if page == 0 => (table_main(&geometry, &self.state.invalid), table_label(layout, 0, number)),
+            Filling::Table => (blank, table_label(layout, page, number)),
             Filling::Copy { logical, page: new } => {
-                (self.copy_main(*logical, page, *new)?, data_label(*logical, page, number))
+                (self.copy_main(*logical, page, *new)?, data_label(layout, *logical, page, number))
             }
         };
         Ok(encode_page(&geometry, &main, &label))
@@ -1002,7 +1067,7 @@ impl<'a> Store<'a> {
         if usable < geometry.logical + 2 {
             return Err(Stop::Worn);
         }
-        self.state.next = greatest + 1;
+        self.state.number = greatest;
         self.state.last = geometry.blocks as u64 - 1;
         self.fill(&Filling::Table)
     }
@@ -1028,7 +1093,7 @@ impl<'a> Store<'a> {
         for page in 0..geometry.pages {
             let bytes = self.bus.read_page(block, page)?;
             let number = whole_page(&geometry, &bytes).map_or(0, |label| label.number);
-            greatest = greatest.max(number as u64);
+            greatest = greatest.max(number);
         }
         Ok(greatest)
     }
@@ -1052,7 +1117,7 @@ impl<'a> Store<'a> {
 
 struct Scan {
     summaries: Vec<Summary>,
-    table: Option<(u32, usize)>,
+    table: Option<(u64, usize)>,
     pages: Vec<u8>,
 }
 
@@ -1060,7 +1125,7 @@ impl Scan {
     fn add(&mut self, geometry: &Geometry, block: usize, bytes: Vec<u8>) {
         let summary = summarise(geometry, &block_pages(geometry, &bytes));
         self.summaries.push(summary);
-        let Some(label) = summary.complete.filter(|label| label.kind == TABLE) else { return };
+        let Some(label) = summary.complete.filter(Label::is_table) else { return };
         if self.table.map_or(true, |(number, _)| label.number > number) {
             self.table = Some((label.number, block));
             self.pages = bytes;
@@ -1089,7 +1154,7 @@ impl Scan {
         let (number, last) = self.greatest();
         let mut state = State { table: table as u64, marks, invalid, ..State::blank(MOUNTED) };
         state.last = last as u64;
-        state.next = number as u64 + 1;
+        state.number = number;
         state.map = current_copies(geometry, &copies);
         Ok(state)
     }
@@ -1102,7 +1167,7 @@ impl Scan {
     }
 
     // The greatest number on a whole page of an unmarked block, and the lowest block that holds it.
-    fn greatest(&self) -> (u32, usize) {
+    fn greatest(&self) -> (u64, usize) {
         let mut found = None;
         for (block, summary) in self.summaries.iter().enumerate() {
             let Some(number) = summary.greatest.filter(|_| !summary.marked) else { continue };
@@ -1115,17 +1180,17 @@ impl Scan {
 }
 
 fn clash(geometry: &Geometry, copies: &[(usize, Label)]) -> bool {
-    let mut numbers: Vec<u32> = copies.iter().map(|(_, label)| label.number).collect();
+    let mut numbers: Vec<u64> = copies.iter().map(|(_, label)| label.number).collect();
     numbers.sort();
     let twice = numbers.windows(2).any(|pair| pair[0] == pair[1]);
-    let beyond = |label: &Label| label.kind == DATA && label.logical as usize >= geometry.logical;
+    let beyond = |label: &Label| label.is_data() && label.logical as usize >= geometry.logical;
     twice || copies.iter().any(|(_, label)| beyond(label))
 }
 
 fn current_copies(geometry: &Geometry, copies: &[(usize, Label)]) -> Vec<u16> {
     let mut map = vec![EMPTY; MOST_BLOCKS];
     let mut numbers = vec![None; geometry.logical];
-    for (block, label) in copies.iter().filter(|(_, label)| label.kind == DATA) {
+    for (block, label) in copies.iter().filter(|(_, label)| label.is_data()) {
         let logical = label.logical as usize;
         if numbers[logical].map_or(true, |number| label.number > number) {
             numbers[logical] = Some(label.number);
@@ -1199,8 +1264,15 @@ fn lent_rightly(request: &Request, side: &Side) -> bool {
         && (side.sizes.len() == SIZE_WORDS || !matches!(request, Request::Identify))
 }
 
-// One call; the answer.
-pub fn call(geometry: &Geometry, request: &Request, side: &mut Side, call: &Call, watch: &mut Watch) -> usize {
+// One call of a store that writes this layout; the answer.
+pub fn call(
+    layout: Layout,
+    geometry: &Geometry,
+    request: &Request,
+    side: &mut Side,
+    call: &Call,
+    watch: &mut Watch,
+) -> usize {
     side.chip.set_line(call.protected);
     if !lent_rightly(request, side) {
         return BAD_BUFFER;
@@ -1222,7 +1294,7 @@ pub fn call(geometry: &Geometry, request: &Request, side: &mut Side, call: &Call
         chip.interface[ILLEGAL_SEEN] = 0;
     }
     let bus = Bus { geometry: *geometry, chip, parameters, call, watch, sent: 0 };
-    let mut store = Store { bus, state: before, held: Vec::new(), failed: false };
+    let mut store = Store { layout, bus, state: before, held: Vec::new(), failed: false };
     let answer = match carry_out(&mut store, request, buffer, sizes) {
         Ok(answer) => answer,
         Err(stop) => {

@@ -1,11 +1,11 @@
 -- The pieces of a state in a buffer, as they are written and read: numbers, bitmaps, the map. Assumes nothing.
-use Prim.Native.Nat.{ℕ, zero, suc, _+_, _*_, _/_, _≤_, _<_, zero-le}
+use Prim.Native.Nat.{ℕ, zero, suc, _+_, _*_, _≤_, _<_, zero-le}
 use mathlib.Core.List.{List, [], _∷_, _++_, append-nil, append-assoc}
 use mathlib.Core.Path.{_≡_, refl, sym, ap, ap₂, _∙_}
-use native.Mathlib.Nat.{zero-add, div-div-eq-div-mul}
+use native.Mathlib.Nat.{zero-add}
 use native.Mathlib.Numerals.{add-one}
 use native.Mathlib.Omega.{arith}
-use lib.ListN.{length, getD, take, drop, set, length-append, length-drop, length-set, take-append-drop, drop-of-length-le}
+use lib.ListN.{length, getD, take, drop, set, length-append, length-set, take-append-drop, drop-of-length-le}
 use lib.Seq.{length-take-le, take-suc, take-all, drop-drop}
 use Rattle.cells.specs.Cells.{over}
 use Rattle.cells.specs.Part.{part, put}
@@ -28,54 +28,6 @@ put-whole ys xs h = over-whole ys xs h
 pub put-none : (at : ℕ) (xs : List ℕ) → put at [] xs ≡ xs
 unfolding put
 put-none at xs = take-append-drop at xs
-
--- a number of eight bytes is four of two
-pub four-pairs : (n : ℕ) → bytesOf 2 n ++ (bytesOf 2 (n / 65536) ++ (bytesOf 2 (n / 65536 / 65536) ++ bytesOf 2 (n / 65536 / 65536 / 65536))) ≡ bytesOf 8 n
-unfolding bytesOf
-four-pairs n =
-    let z : (m : ℕ) → m / 65536 ≡ m / 256 / 256 = λ m. sym (div-div-eq-div-mul m 256 256) in
-    rw (z n, z (n / 256 / 256), z (n / 256 / 256 / 256 / 256))
-
-pub number-written : (at n : ℕ) (xs p₁ p₂ p₃ p₄ : List ℕ) → at ≤ length xs
-    → p₁ ≡ put at (bytesOf 2 n) xs
-    → p₂ ≡ put (at + 2) (bytesOf 2 (n / 65536)) p₁
-    → p₃ ≡ put (at + 4) (bytesOf 2 (n / 65536 / 65536)) p₂
-    → p₄ ≡ put (at + 6) (bytesOf 2 (n / 65536 / 65536 / 65536)) p₃
-    → p₄ ≡ put at (bytesOf 8 n) xs
-number-written at n xs p₁ p₂ p₃ p₄ h e₁ e₂ e₃ e₄ =
-    let b₁ : List ℕ = bytesOf 2 n in
-    let b₂ : List ℕ = bytesOf 2 (n / 65536) in
-    let b₃ : List ℕ = bytesOf 2 (n / 65536 / 65536) in
-    let b₄ : List ℕ = bytesOf 2 (n / 65536 / 65536 / 65536) in
-    let k₁ : length b₁ ≡ 2 = length-bytesOf 2 n in
-    let k₂ : length (b₁ ++ b₂) ≡ 4 = length-append b₁ b₂ ∙ ap₂ _+_ k₁ (length-bytesOf 2 (n / 65536)) in
-    let k₃ : length ((b₁ ++ b₂) ++ b₃) ≡ 6 = length-append (b₁ ++ b₂) b₃ ∙ ap₂ _+_ k₂ (length-bytesOf 2 (n / 65536 / 65536)) in
-    let q₂ : p₂ ≡ put at (b₁ ++ b₂) xs = e₂ ∙ ap (put (at + 2) b₂) e₁ ∙ put-next at 2 b₂ b₁ xs k₁ h in
-    let q₃ : p₃ ≡ put at ((b₁ ++ b₂) ++ b₃) xs = e₃ ∙ ap (put (at + 4) b₃) q₂ ∙ put-next at 4 b₃ (b₁ ++ b₂) xs k₂ h in
-    let q₄ : p₄ ≡ put at (((b₁ ++ b₂) ++ b₃) ++ b₄) xs = e₄ ∙ ap (put (at + 6) b₄) q₃ ∙ put-next at 6 b₄ ((b₁ ++ b₂) ++ b₃) xs k₃ h in
-    q₄ ∙ ap (λ (ys : List ℕ). put at ys xs) (append-assoc (b₁ ++ b₂) b₃ b₄ ∙ append-assoc b₁ b₂ (b₃ ++ b₄) ∙ four-pairs n)
-
--- two bytes and those after them
-pub number-pair : (k : ℕ) (xs : List ℕ) → 2 ≤ length xs → numberOf (take (suc (suc k)) xs) ≡ numberOf (take 2 xs) + 65536 * numberOf (take k (drop 2 xs))
-unfolding numberOf
-number-pair k [] h = absurd (omega (arith, h))
-number-pair k (a ∷ []) h = absurd (omega (arith, h))
-number-pair k (a ∷ b ∷ xs) h = omega arith
-
-pub number-read : (at : ℕ) (xs : List ℕ) → at + 8 ≤ length xs
-    → numberOf (part at 2 xs) + 65536 * (numberOf (part (at + 2) 2 xs) + 65536 * (numberOf (part (at + 4) 2 xs) + 65536 * numberOf (part (at + 6) 2 xs)))
-    ≡ numberOf (part at 8 xs)
-number-read at xs h =
-    let long : (k : ℕ) → at + k + 2 ≤ length xs → 2 ≤ length (drop (at + k) xs) = λ k l. rw length-drop (omega (arith, l)) in
-    let s₁ = number-pair 6 (drop at xs) (rw length-drop (omega (arith, h))) in
-    let s₂ = number-pair 4 (drop (at + 2) xs) (long 2 (omega (arith, h))) in
-    let s₃ = number-pair 2 (drop (at + 4) xs) (long 4 (omega (arith, h))) in
-    let d₁ : drop 2 (drop at xs) ≡ drop (at + 2) xs = drop-drop 2 at xs in
-    let f₂ : at + 2 + 2 ≡ at + 4 = omega arith in
-    let f₃ : at + 4 + 2 ≡ at + 6 = omega arith in
-    let d₂ : drop 2 (drop (at + 2) xs) ≡ drop (at + 4) xs = drop-drop 2 (at + 2) xs ∙ ap (λ (k : ℕ). drop k xs) f₂ in
-    let d₃ : drop 2 (drop (at + 4) xs) ≡ drop (at + 6) xs = drop-drop 2 (at + 4) xs ∙ ap (λ (k : ℕ). drop k xs) f₃ in
-    sym (s₁ ∙ rw (d₁, s₂, d₂, s₃, d₃))
 
 -- a bitmap, written into a lent part and read from one
 pub bits-written : (at k : ℕ) (bits p y : List ℕ) → k ≡ 512 → length bits ≡ 512 → y ≡ over bits (take k (drop at p)) → length (take k (drop at p)) ≤ 512

@@ -4,7 +4,6 @@ ghost use mathlib.Core.Path.{_≡_};
 ghost use Prim.Native.Nat.{_+_, _≤_};
 ghost use lib.ListN.{length, drop};
 ghost use Rattle.cells.specs.Part.{part, put};
-ghost use Rattle.pages.specs.Layout.{bytesOf, numberOf};
 ghost use Rattle.c_state.specs.StateBytes.{stateLength, pairs, entries, stateBytes, bytesState};
 
 // The bytes of a state.
@@ -14,32 +13,6 @@ fn wide(x: u16) -> usize
     ensures { λ r. ⌜ r ≡ x ⌝ }
 {
     x as usize
-}
-
-// Writes a number of eight bytes, low byte first.
-fn write_number(bytes: &mut [u8], at: usize, number: usize)
-    requires { ⌜ at + 8 ≤ length (now bytes) ⌝ }
-    ensures { λ _. ⌜ now (bytes .exit) ≡ put at (bytesOf 8 number) (now (bytes .entry)) ⌝ }
-{
-    let second = number / 65536;
-    let third = second / 65536;
-    let fourth = third / 65536;
-    pages::write_pair(bytes, at, number);
-    pages::write_pair(bytes, at + 2, second);
-    pages::write_pair(bytes, at + 4, third);
-    pages::write_pair(bytes, at + 6, fourth);
-}
-
-// A number of eight bytes, low byte first.
-fn number_at(bytes: &[u8], at: usize) -> usize
-    requires { ⌜ at + 8 ≤ length (now bytes) ⌝ }
-    ensures { λ r. ⌜ r ≡ numberOf (part at 8 (now (bytes .entry))) ⌝ }
-{
-    let first = pages::pair_at(bytes, at);
-    let second = pages::pair_at(bytes, at + 2);
-    let third = pages::pair_at(bytes, at + 4);
-    let fourth = pages::pair_at(bytes, at + 6);
-    first + 65536 * (second + 65536 * (third + 65536 * fourth))
 }
 
 // Writes a bitmap.
@@ -109,10 +82,10 @@ pub fn store(state: State, bytes: &mut [u8])
     let marked = state.marked;
     let invalid = state.invalid;
     let map = state.map;
-    write_number(bytes, 0, state.status);
-    write_number(bytes, 8, state.table);
-    write_number(bytes, 16, state.last);
-    write_number(bytes, 24, number);
+    pages::write_number(bytes, 0, state.status);
+    pages::write_number(bytes, 8, state.table);
+    pages::write_number(bytes, 16, state.last);
+    pages::write_number(bytes, 24, number);
     write_bitmaps(bytes, &marked, &invalid);
     write_map(bytes, &map);
 }
@@ -122,10 +95,10 @@ pub fn load(bytes: &[u8]) -> State
     requires { ⌜ length (now bytes) ≡ stateLength ⌝ }
     ensures { λ r. ⌜ r ≡ bytesState (now (bytes .entry)) ⌝ }
 {
-    let status = number_at(bytes, 0);
-    let table = number_at(bytes, 8);
-    let last = number_at(bytes, 16);
-    let number = number_at(bytes, 24) as u64;
+    let status = pages::number_at(bytes, 0);
+    let table = pages::number_at(bytes, 8);
+    let last = pages::number_at(bytes, 16);
+    let number = pages::number_at(bytes, 24) as u64;
     let marked = bits_at(bytes, 32);
     let invalid = bits_at(bytes, 544);
     let mut map = [0u16; 4096];

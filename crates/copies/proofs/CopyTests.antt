@@ -39,8 +39,8 @@ formatted = tableWith 1 0 ++ (blank ++ (blank ++ blank))
 abbrev written : ℕ → List ℕ
 written bits = tableWith 1 bits ++ (blank ++ (copyWith dataKind 1 2 (replicate 32 165) ++ blank))
 
--- table page 0 after formatting, number 1, has check 129
-table-check : storedCheck 32 (encoded 16 (label tableKind 0 0 1) (tablePage 32 4 2 (0 ∷ []))) ≡ 129
+-- table page 0 after formatting, number 1, has check 160
+table-check : storedCheck 32 (encoded 16 (label tableKind 0 0 1) (tablePage 32 4 2 (0 ∷ []))) ≡ 160
 unfolding whole allOnes storedCheck countedCheck kindOf numberWidth isDataKind isTableKind labelOf numberOf bytesOf labelBytes encoded zeroBits ones onesIn bitAt withBit countBits isMarked agrees completeTo isComplete isTable isData isCopyOf anyTo greatestTo hasNumber greatest better pick tablePage clearFrom clearWhere rightFirst rightPage rightTo rightTable currentTable currentCopy pageOf greatestBelow nextNumber filledLast someBelow sharesNumber clashesAt clashes judgeTable mountAnswer put
 table-check = refl
 
@@ -103,6 +103,38 @@ one-number = refl
 tie : currentTable small (blank ++ (tableWith 3 0 ++ (tableWith 3 0 ++ blank))) ≡ at 1
 unfolding whole allOnes storedCheck countedCheck kindOf numberWidth isDataKind isTableKind labelOf numberOf bytesOf labelBytes encoded zeroBits ones onesIn bitAt withBit countBits isMarked agrees completeTo isComplete isTable isData isCopyOf anyTo greatestTo hasNumber greatest better pick tablePage clearFrom clearWhere rightFirst rightPage rightTo rightTable currentTable currentCopy pageOf greatestBelow nextNumber filledLast someBelow sharesNumber clashesAt clashes judgeTable mountAnswer put
 tie = refl
+
+-- both layouts on one chip: a table of kind 54h, copies of logical block 0 of kind 44h in block 1 and of 64h in block 2
+abbrev bothLayouts : ℕ → ℕ → List ℕ
+bothLayouts narrow wide =
+    copyWith 84 0 1 (tablePage 32 4 2 (0 ∷ [])) ++ (copyWith 68 0 narrow (replicate 32 90) ++ (copyWith dataKind 0 wide (replicate 32 165) ++ blank))
+
+narrow-table : mountAnswer small (bothLayouts 2 3) ≡ 0
+unfolding whole allOnes storedCheck countedCheck kindOf numberWidth isDataKind isTableKind labelOf numberOf bytesOf labelBytes encoded zeroBits ones onesIn bitAt withBit countBits isMarked agrees completeTo isComplete isTable isData isCopyOf anyTo greatestTo hasNumber greatest better pick tablePage clearFrom clearWhere rightFirst rightPage rightTo rightTable currentTable currentCopy pageOf greatestBelow nextNumber filledLast someBelow sharesNumber clashesAt clashes judgeTable mountAnswer put
+narrow-table = refl
+
+-- the greater number is current, whichever layout it has
+wide-current : currentCopy small (bothLayouts 2 3) 0 0 ≡ at 2
+unfolding whole allOnes storedCheck countedCheck kindOf numberWidth isDataKind isTableKind labelOf numberOf bytesOf labelBytes encoded zeroBits ones onesIn bitAt withBit countBits isMarked agrees completeTo isComplete isTable isData isCopyOf anyTo greatestTo hasNumber greatest better pick tablePage clearFrom clearWhere rightFirst rightPage rightTo rightTable currentTable currentCopy pageOf greatestBelow nextNumber filledLast someBelow sharesNumber clashesAt clashes judgeTable mountAnswer put
+wide-current = refl
+
+narrow-current : currentCopy small (bothLayouts 3 2) 0 0 ≡ at 1
+unfolding whole allOnes storedCheck countedCheck kindOf numberWidth isDataKind isTableKind labelOf numberOf bytesOf labelBytes encoded zeroBits ones onesIn bitAt withBit countBits isMarked agrees completeTo isComplete isTable isData isCopyOf anyTo greatestTo hasNumber greatest better pick tablePage clearFrom clearWhere rightFirst rightPage rightTo rightTable currentTable currentCopy pageOf greatestBelow nextNumber filledLast someBelow sharesNumber clashesAt clashes judgeTable mountAnswer put
+narrow-current = refl
+
+-- also where one has no room for the other's
+past-narrow : currentCopy small (bothLayouts 4294967295 4294967296) 0 0 ≡ at 2
+unfolding whole allOnes storedCheck countedCheck kindOf numberWidth isDataKind isTableKind labelOf numberOf bytesOf labelBytes encoded zeroBits ones onesIn bitAt withBit countBits isMarked agrees completeTo isComplete isTable isData isCopyOf anyTo greatestTo hasNumber greatest better pick tablePage clearFrom clearWhere rightFirst rightPage rightTo rightTable currentTable currentCopy pageOf greatestBelow nextNumber filledLast someBelow sharesNumber clashesAt clashes judgeTable mountAnswer put
+past-narrow = refl
+
+-- one number in both clashes, and of two tables with one number the lower is current
+layouts-clash : mountAnswer small (bothLayouts 2 2) ≡ 6
+unfolding whole allOnes storedCheck countedCheck kindOf numberWidth isDataKind isTableKind labelOf numberOf bytesOf labelBytes encoded zeroBits ones onesIn bitAt withBit countBits isMarked agrees completeTo isComplete isTable isData isCopyOf anyTo greatestTo hasNumber greatest better pick tablePage clearFrom clearWhere rightFirst rightPage rightTo rightTable currentTable currentCopy pageOf greatestBelow nextNumber filledLast someBelow sharesNumber clashesAt clashes judgeTable mountAnswer put
+layouts-clash = refl
+
+layouts-tie : currentTable small (blank ++ (copyWith 84 0 3 (tablePage 32 4 2 (0 ∷ [])) ++ (tableWith 3 0 ++ blank))) ≡ at 1
+unfolding whole allOnes storedCheck countedCheck kindOf numberWidth isDataKind isTableKind labelOf numberOf bytesOf labelBytes encoded zeroBits ones onesIn bitAt withBit countBits isMarked agrees completeTo isComplete isTable isData isCopyOf anyTo greatestTo hasNumber greatest better pick tablePage clearFrom clearWhere rightFirst rightPage rightTo rightTable currentTable currentCopy pageOf greatestBelow nextNumber filledLast someBelow sharesNumber clashesAt clashes judgeTable mountAnswer put
+layouts-tie = refl
 
 -- a copy of a logical block that is none clashes
 past-last : mountAnswer small (tableWith 1 0 ++ (blank ++ (copyWith dataKind 2 2 (replicate 32 165) ++ blank))) ≡ 6

@@ -15,8 +15,7 @@ use Rattle.geometry.specs.Sizes.{pageSize}
 use Rattle.cells.specs.Bytes.{Bytes}
 use Rattle.pages.specs.Layout.{Label, label, labelOf, whole, numberWidth, Fits}
 use Rattle.pages.specs.Over.{Over}
-use Rattle.pages.proofs.LayoutLaws.{encoded-whole, encoded-label, encoded-first, encoded-main, bytes-encoded, raised-whole-any, erased-not-whole}
-use Rattle.pages.proofs.ByteLaws.{width-le}
+use Rattle.pages.proofs.LayoutLaws.{width-most, encoded-whole, encoded-label, encoded-first, encoded-main, bytes-encoded, raised-whole-any, erased-not-whole}
 use Rattle.pages.proofs.OverLaws.{over-getD, over-bytes-to}
 use Rattle.copies.specs.Blocks.{pageIn, wholeIn, labelIn, mainIn, markByte, isMarked, agrees, completeTo, isComplete, anyTo, greatestTo}
 use Rattle.copies.proofs.NumberLaws.{greatest-most, greatest-least, any-is}
@@ -68,7 +67,7 @@ module _ (g : Geometry) (v : Valid g) (c : Copy) (fits : Labelled c) (main : ℕ
   copy-bytes i h = bytes-encoded (g .spare) (labelAt i) (main i) (label-fits i h) (bytes i h)
 
   check-fits : (i : ℕ) → i < g .pages → 8 * (length (main i) + 5 + numberWidth (c .kind)) < 65536
-  check-fits i h = omega (arith, width-le (c .kind), long i h, v .main-most)
+  check-fits i h = omega (arith, width-most (c .kind), long i h, v .main-most)
 
   -- a law of an encoded page, said of the geometry's main bytes
   by-main : (P : ℕ → Type 0) (i : ℕ) → i < g .pages → P (length (main i)) → P (g .main)
@@ -133,7 +132,7 @@ module _ (g : Geometry) (v : Valid g) (c : Copy) (fits : Labelled c) (main : ℕ
     -- a page that is whole is the page that was meant
     pub raised-same : (i : ℕ) → i < g .pages → wholeIn g row i ≡ true → pageIn g row i ≡ pages i
     raised-same i h t =
-        raised-whole-any (g .spare) (labelAt i) (main i) (pageIn g row i) (label-fits i h) (check-fits i h) (over i h)
+        raised-whole-any (g .spare) (labelAt i) (main i) (pageIn g row i) (label-fits i h) (v .spare-least) (omega (arith, long i h, v .main-most, v .spare-most)) (over i h)
         (ap (λ (k : ℕ). whole k (pageIn g row i)) (long i h) ∙ t)
 
     raised-number : (i : ℕ) → i < g .pages → wholeIn g row i ≡ true → labelIn g row i .number ≡ c .number

@@ -46,7 +46,7 @@ fn show_order(store: Store) {
     show(b"protected-allowed-1", write(store, 1));
     show(b"protected-allowed-2", write(store, 2));
     let mut spent = store;
-    spent.state.number = 4294967296;
+    spent.state.number = 18446744073709551615;
     show(b"protected-number-spent", write(spent, UNCUT));
 }
 

@@ -34,7 +34,7 @@ pub(crate) fn show_write(label: &[u8], fates: &[u32], allowed: u32) {
 pub(crate) fn show_last_number() {
     let none = [0u32; 0];
     let mut store = formatted();
-    store.state.number = 4294967295;
+    store.state.number = 18446744073709551614;
     let last = write(store, &none, UNCUT, 0);
     show(b"last-number", last);
     show(b"number-spent", write(last.store, &none, UNCUT, 0));

@@ -39,14 +39,18 @@ bench r = r .answer ∷ r .sent ∷ []
 -- the state that it hands back
 abbrev pub formattedState : State
 formattedState =
-    record { status = 1; table = 0; last = 0; number = 2; marked = replicate 512 0; invalid = replicate 512 0; map = replicate 4096 65535 }
+    record { status = 1; table = 0; last = 0; number = 1; marked = replicate 512 0; invalid = replicate 512 0; map = replicate 4096 65535 }
 
--- a data page, all FFh, of logical block 0, page 0, number 2; and with byte 4 of its spare bytes raised to 01h
+-- a data page, all FFh, of logical block 0, page 0, number 2: of kind 44h, with a number of four bytes, and of kind 64h, with one of eight; and
+-- each with byte 4 of its spare bytes raised to 01h
+abbrev pub narrowPage : List ℕ
+narrowPage = encoded 16 (label 68 0 0 2) (replicate 32 255)
+
 abbrev pub dataPage : List ℕ
 dataPage = encoded 16 (label dataKind 0 0 2) (replicate 32 255)
 
-abbrev pub raisedPage : List ℕ
-raisedPage = set dataPage 36 1
+abbrev pub raisedPage : List ℕ → List ℕ
+raisedPage page = set page 36 1
 
 -- page 0 of the table that a formatting leaves in block 0
 abbrev pub tablePage : List ℕ
@@ -71,9 +75,10 @@ figures =
     ∷ figure (rowBytes (rowOf part 1024 0)) (0 ∷ 0 ∷ 1 ∷ [])
     ∷ figure (rowBytes (rowOf part 4095 63)) (255 ∷ 255 ∷ 3 ∷ [])
     ∷ figure (columnBytes 2048) (0 ∷ 8 ∷ [])
-    ∷ figure (storedCheck 32 dataPage ∷ wholeAs dataPage ∷ []) (61 ∷ 1 ∷ [])
-    ∷ figure (wholeAs raisedPage ∷ []) (0 ∷ [])
-    ∷ figure (storedCheck 32 tablePage ∷ []) (129 ∷ [])
+    ∷ figure (storedCheck 32 narrowPage ∷ wholeAs narrowPage ∷ []) (61 ∷ 1 ∷ [])
+    ∷ figure (storedCheck 32 dataPage ∷ wholeAs dataPage ∷ []) (92 ∷ 1 ∷ [])
+    ∷ figure (wholeAs (raisedPage narrowPage) ∷ wholeAs (raisedPage dataPage) ∷ []) (0 ∷ 0 ∷ [])
+    ∷ figure (storedCheck 32 tablePage ∷ []) (160 ∷ [])
     ∷ figure (wholeAs (replicate 48 255) ∷ []) (0 ∷ [])
     ∷ figure (formatted (255 ∷ []) .answer ∷ []) (0 ∷ [])
     ∷ figure (formatted (256 ∷ []) .answer ∷ []) (10 ∷ [])
@@ -146,12 +151,12 @@ mountRows =
     ∷ figure (mountAnswer small (set (arrayWith 0 (tableBlock 1 8)) 608 0) ∷ []) (5 ∷ [])
     ∷ []
 
--- formattings: number 4,294,967,295 is used, the next fill gets 9, and so does a first fill above it; 8 comes before 9
+-- formattings: number 18,446,744,073,709,551,615 is used, the next fill gets 9, and so does a first fill above it; 8 comes before 9
 -- where three blocks are left for N = 2
 abbrev pub formatRows : List Figure
 formatRows =
-    figure (formattedFrom 1 4294967294 eraseFails .answer ∷ formattedFrom 1 4294967294 eraseFails .state .number ∷ []) (0 ∷ 4294967296 ∷ [])
-    ∷ figure (formattedFrom 1 4294967294 programFails .answer ∷ []) (9 ∷ [])
-    ∷ figure (formattedFrom 1 4294967295 eraseFails .answer ∷ []) (9 ∷ [])
-    ∷ figure (formattedFrom 2 4294967295 eraseFails .answer ∷ []) (8 ∷ [])
+    figure (formattedFrom 1 18446744073709551614 eraseFails .answer ∷ formattedFrom 1 18446744073709551614 eraseFails .state .number ∷ []) (0 ∷ 18446744073709551615 ∷ [])
+    ∷ figure (formattedFrom 1 18446744073709551614 programFails .answer ∷ []) (9 ∷ [])
+    ∷ figure (formattedFrom 1 18446744073709551615 eraseFails .answer ∷ []) (9 ∷ [])
+    ∷ figure (formattedFrom 2 18446744073709551615 eraseFails .answer ∷ []) (8 ∷ [])
     ∷ []

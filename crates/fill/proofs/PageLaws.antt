@@ -9,8 +9,7 @@ use Rattle.geometry.specs.declared.Geometry.{Geometry}
 use Rattle.geometry.specs.Limits.{Valid}
 use Rattle.geometry.specs.Sizes.{pageSize}
 use Rattle.pages.specs.Layout.{label, encoded}
-use Rattle.pages.proofs.ByteLaws.{width-le}
-use Rattle.pages.proofs.LayoutLaws.{length-encoded}
+use Rattle.pages.proofs.LayoutLaws.{length-encoded, width-most}
 use Rattle.fill.specs.Fill.{copy, copyPage}
 
 -- a page as it is finished
@@ -23,7 +22,7 @@ as-page g kind logical number place page bytes h e =
 -- it is as long as a page
 pub page-long : (g : Geometry) → Valid g → (kind logical number place : ℕ) (main : List ℕ) → length main ≡ g .main → length (copyPage g (copy kind logical number) place main) ≡ pageSize g
 page-long g v kind logical number place main h =
-    length-encoded (g .spare) (label kind logical place number) main (omega (arith, width-le kind, v .spare-least)) ∙ ap (λ (k : ℕ). k + g .spare) h
+    length-encoded (g .spare) (label kind logical place number) main (omega (arith, width-most kind, v .spare-least)) ∙ ap (λ (k : ℕ). k + g .spare) h
 
 -- main bytes that were written into the buffer are as long as they are
 pub main-long : (g : Geometry) (page main : List ℕ) → length page ≡ pageSize g → take (g .main) page ≡ main → length main ≡ g .main

@@ -1,5 +1,5 @@
 -- A fill: a block is erased and its pages are programmed in order, each with its label and check.
-use Prim.Native.Nat.{ℕ, zero, suc, _+_, _-_, _*_, _<_, _^_}
+use Prim.Native.Nat.{ℕ, zero, suc, _+_, _-_, _*_, _<_}
 use mathlib.Core.Bool.{Bool, false, cond}
 use mathlib.Core.List.{List}
 use mathlib.Core.Path.{_≡_}
@@ -26,13 +26,12 @@ abbrev pub copy : ℕ → ℕ → ℕ → Copy
 copy k l n = record { kind = k; logical = l; number = n }
 
 -- a page that can be labelled so, in a buffer as long as a page
-pub record Fillable (g : Geometry) (block place kind logical number size : ℕ) : Type 0 where
+pub record Fillable (g : Geometry) (block place kind logical size : ℕ) : Type 0 where
   pub is-valid : Valid g
   pub block-below : block < g .blocks
   pub place-below : place < g .pages
-  pub width-some : 0 < numberWidth kind
+  pub width-is : numberWidth kind ≡ 8
   pub logical-fits : logical < 65536
-  pub number-fits : number < 256 ^ numberWidth kind
   pub page-long : size ≡ pageSize g
 
 -- where the main bytes of a page come from: given, or kept from the same page of another block

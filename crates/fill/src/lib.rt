@@ -54,7 +54,7 @@ pub fn program_page(
     content: Content,
     page: &mut [u8],
 ) -> Done
-    requires { ⌜ Fillable g block place (content .kind) (content .logical) (content .number) (length (now page)) ⌝ }
+    requires { ⌜ Fillable g block place (content .kind) (content .logical) (length (now page)) ⌝ }
     ensures { λ r. ⌜ line (r .bus) (now (array .exit)) (now (register .exit)) (now (history .exit)) ≡ sendAll (setting g (now (mask .entry)) (now (fates .entry))) (line from (now (array .entry)) (now (register .entry)) (now (history .entry))) (programCycles (setting g (now (mask .entry)) (now (fates .entry))) (line from (now (array .entry)) (now (register .entry)) (now (history .entry))) (rowOf g block place) (copyPage g (copy (content .kind) (content .logical) (content .number)) place (take (g .main) (now (page .entry))))) ⌝ }
     ensures { λ r. ⌜ r .outcome ≡ answerOf (line (r .bus) (now (array .exit)) (now (register .exit)) (now (history .exit))) ⌝ }
 {

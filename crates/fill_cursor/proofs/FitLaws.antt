@@ -74,7 +74,7 @@ module _ (g : Geometry) (long : ℕ) (c : Cursor) (st : State) (pages : 0 < g .p
       (λ a h. absurd (omega (arith, h)))
       (λ b e n h. (
         record {
-          fits = record { step-most = omega arith; logical-below = f .logical-below; bytes-long = f .bytes-long; page-below = pages; block-below = λ z. chosen-below _ _ _ (g .blocks) (st .last) b last e; number-fits = λ z. n };
+          fits = record { step-most = omega arith; logical-below = f .logical-below; bytes-long = f .bytes-long; page-below = pages; block-below = λ z. chosen-below _ _ _ (g .blocks) (st .last) b last e };
           last-below = last;
         },
         refl,
@@ -92,7 +92,7 @@ module _ (g : Geometry) (long : ℕ) (c : Cursor) (st : State) (pages : 0 < g .p
         by-after (g .pages) c st To (λ a s h. absurd (omega (arith, h))) o
         (λ t e h. (
           record {
-            fits = record { step-most = omega arith; logical-below = f .logical-below; bytes-long = f .bytes-long; page-below = e; block-below = λ z. f .block-below due; number-fits = λ z. f .number-fits due };
+            fits = record { step-most = omega arith; logical-below = f .logical-below; bytes-long = f .bytes-long; page-below = e; block-below = λ z. f .block-below due };
             last-below = last;
           },
           passed-answered o t,
@@ -101,7 +101,7 @@ module _ (g : Geometry) (long : ℕ) (c : Cursor) (st : State) (pages : 0 < g .p
         ))
         (λ t e h. (
           record {
-            fits = record { step-most = omega arith; logical-below = f .logical-below; bytes-long = f .bytes-long; page-below = pages; block-below = λ z. absurd (omega (arith, z)); number-fits = λ z. absurd (omega (arith, z)) };
+            fits = record { step-most = omega arith; logical-below = f .logical-below; bytes-long = f .bytes-long; page-below = pages; block-below = λ z. absurd (omega (arith, z)) };
             last-below = f .block-below due;
           },
           passed-answered o t,
@@ -110,7 +110,7 @@ module _ (g : Geometry) (long : ℕ) (c : Cursor) (st : State) (pages : 0 < g .p
         ))
         (λ t h. (
           record {
-            fits = record { step-most = omega arith; logical-below = f .logical-below; bytes-long = f .bytes-long; page-below = pages; block-below = λ z. absurd (omega (arith, z)); number-fits = λ z. absurd (omega (arith, z)) };
+            fits = record { step-most = omega arith; logical-below = f .logical-below; bytes-long = f .bytes-long; page-below = pages; block-below = λ z. absurd (omega (arith, z)) };
             last-below = last;
           },
           failed-answered o t,

@@ -9,7 +9,7 @@ use Rattle.bus_polling.specs.declared.Outcome.{Outcome}
 use Rattle.state_choose.specs.Choose.{chosen}
 use Rattle.state_choose.specs.declared.Choice.{Choice}
 use Rattle.state_choose.specs.declared.Choice.the-variants.{Block, Worn}
-use Rattle.state.specs.State.{blank, nextNumber, numberEnd, numbersLeft, spent, taken, withInvalid, withCopy, withTable, heldBits}
+use Rattle.state.specs.State.{blank, nextNumber, numbersLeft, spent, taken, withInvalid, withCopy, withTable, heldBits}
 use Rattle.state.specs.declared.State.{State}
 use Rattle.request.specs.Call.{stopAnswer}
 use Rattle.fill_cursor.specs.declared.Cursor.{Cursor}
@@ -116,7 +116,6 @@ pub record Fits (g : Geometry) (long : ℕ) (c : Cursor) : Type 0 where
   pub bytes-long : long ≡ c .count * g .main
   pub page-below : c .page < g .pages
   pub block-below : 0 < c .step → c .block < g .blocks
-  pub number-fits : 0 < c .step → c .number < numberEnd
 
 -- the most actions that can follow, with so many page programs left: each fill takes a number, and within a fill each
 -- action is an erase or takes one of the page programs

@@ -10,8 +10,8 @@ use Rattle.geometry.specs.Sizes.{pageSize}
 use Rattle.chip_array.specs.Device.{Setting}
 use Rattle.bus.specs.Line.{Line}
 use Rattle.bus_polling.specs.declared.Outcome.{Outcome}
-use Rattle.pages.specs.Layout.{numberWidth, dataKind, tableKind, isDataKind, isTableKind}
-use Rattle.state.specs.State.{numberEnd}
+use Rattle.pages.specs.Layout.{dataKind, tableKind}
+use Rattle.pages.proofs.LayoutLaws.{data-width, table-width}
 use Rattle.progress.specs.Progress.{Progress}
 use Rattle.progress.specs.Steps.{eraseOn, ComesTo}
 use Rattle.progress.proofs.ComesLaws.{comes-as}
@@ -42,8 +42,8 @@ module _ (c : Cursor) (k : Content) (is : k ≡ contentOf c) where
       comes-as (λ p. copy-due s c invalid bytes p n e)
       (subst (λ (x : Content). ComesTo s (pageFilled s (c .block) (copy (x .kind) (x .logical) (x .number)) (c .page) (dataSource (s .geometry) (x .old) (x .first) (x .count) bytes (c .page))) l m o) is r)
 
-  pub content-fillable : (g : Geometry) (size : ℕ) → Fillable g (c .block) (c .page) dataKind (c .logical) (c .number) size → Fillable g (c .block) (c .page) (k .kind) (k .logical) (k .number) size
-  content-fillable g size f = subst (λ (x : Content). Fillable g (c .block) (c .page) (x .kind) (x .logical) (x .number) size) (sym is) f
+  pub content-fillable : (g : Geometry) (size : ℕ) → Fillable g (c .block) (c .page) dataKind (c .logical) size → Fillable g (c .block) (c .page) (k .kind) (k .logical) size
+  content-fillable g size f = subst (λ (x : Content). Fillable g (c .block) (c .page) (x .kind) (x .logical) size) (sym is) f
 
   pub content-count : (n main : ℕ) → n ≡ c .count * main → n ≡ k .count * main
   content-count n main e = subst (λ (x : Content). n ≡ x .count * main) (sym is) e
@@ -54,13 +54,11 @@ unfolding pageAfter
 after-place c n = rw (ne-eqb (c .step) 1 n)
 
 -- a page of a copy and one of a table can be labelled so
-module _ (g : Geometry) (v : Valid g) (block place number size : ℕ) (b : block < g .blocks) (p : place < g .pages) (n : number < numberEnd) (e : size ≡ pageSize g) where
-  pub copy-fillable : (logical : ℕ) → logical < g .logical → Fillable g block place dataKind logical number size
-  unfolding numberWidth isDataKind isTableKind
+module _ (g : Geometry) (v : Valid g) (block place size : ℕ) (b : block < g .blocks) (p : place < g .pages) (e : size ≡ pageSize g) where
+  pub copy-fillable : (logical : ℕ) → logical < g .logical → Fillable g block place dataKind logical size
   copy-fillable logical h =
-      record { is-valid = v; block-below = b; place-below = p; width-some = omega arith; logical-fits = omega (arith, h, v .logical-most, v .blocks-most); number-fits = n; page-long = e }
+      record { is-valid = v; block-below = b; place-below = p; width-is = data-width; logical-fits = omega (arith, h, v .logical-most, v .blocks-most); page-long = e }
 
-  pub table-fillable : Fillable g block place tableKind 0 number size
-  unfolding numberWidth isDataKind isTableKind
+  pub table-fillable : Fillable g block place tableKind 0 size
   table-fillable =
-      record { is-valid = v; block-below = b; place-below = p; width-some = omega arith; logical-fits = omega arith; number-fits = n; page-long = e }
+      record { is-valid = v; block-below = b; place-below = p; width-is = table-width; logical-fits = omega arith; page-long = e }

@@ -35,7 +35,7 @@ module _ (s : Setting) (block : ℕ) (c : Copy) (n : ℕ) (source : Source) (l m
       record { line-is = on .line-is; outcome-is = on .outcome-is; next-called = on .next-called }
 
   -- its program leaves line m' and outcome o'
-  module _ (t : isPassed o ≡ true) (page : List ℕ) (f : Fillable (s .geometry) block n (c .kind) (c .logical) (c .number) (length page)) (main-is : take (s .geometry .main) page ≡ mainOf (s .geometry) (l .chip .array) n source)
+  module _ (t : isPassed o ≡ true) (page : List ℕ) (f : Fillable (s .geometry) block n (c .kind) (c .logical) (length page)) (main-is : take (s .geometry .main) page ≡ mainOf (s .geometry) (l .chip .array) n source)
       (in-order : getD (m .chip .history) block 0 ≤ n) (m' : Line) (o' : Outcome) (e : m' ≡ sendAll s m (programCycles s m (rowOf (s .geometry) block n) (copyPage (s .geometry) c n (take (s .geometry .main) page)))) (q : o' ≡ answerOf m') where
     bytes : List ℕ
     bytes = copyPage (s .geometry) c n (mainOf (s .geometry) (l .chip .array) n source)

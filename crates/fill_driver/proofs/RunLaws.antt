@@ -95,7 +95,7 @@ pub first-due : (s : Setting) → Valid (s .geometry) → (l : Line) (phase logi
 first-due s v l phase logical first count old c e h long k =
     subst (λ (x : Cursor). Due s long x l) (sym e)
     (record {
-      fits = record { step-most = omega arith; logical-below = h; bytes-long = k; page-below = omega (arith, v .pages-least); block-below = λ z. absurd (omega (arith, z)); number-fits = λ z. absurd (omega (arith, z)) };
+      fits = record { step-most = omega arith; logical-below = h; bytes-long = k; page-below = omega (arith, v .pages-least); block-below = λ z. absurd (omega (arith, z)) };
       ready = λ z. absurd (omega (arith, z));
       in-order = λ z. absurd (omega (arith, z));
     })

@@ -17,7 +17,6 @@ ghost use Rattle.bus.specs.Line.{line};
 ghost use Rattle.bus_polling.specs.Outcomes.{isPassed};
 ghost use Rattle.operations.specs.Ends.{Called, Lent};
 ghost use Rattle.progress.specs.Steps.{ComesTo};
-ghost use Rattle.state.specs.State.{numberEnd};
 ghost use Rattle.fill.specs.Fill.{copy, Fillable, pageFilled, dataSource, tableCopy, tableSource};
 ghost use Rattle.fill_cursor.specs.Cursor.{pageAfter, running};
 ghost use Rattle.fill_driver.specs.Driver.{contentOf, performed, Due, RanAs};
@@ -41,7 +40,7 @@ fn fill_page(
     page: &mut [u8],
 ) -> Done
     requires { ⌜ Called (setting g (now mask) (now fates)) (line from (now array) (now register) (now history)) ⌝ }
-    requires { ⌜ Fillable g block place (content .kind) (content .logical) (content .number) (length (now page)) ⌝ }
+    requires { ⌜ Fillable g block place (content .kind) (content .logical) (length (now page)) ⌝ }
     requires { ⌜ getD (now history) block 0 ≤ place ⌝ }
     requires { ⌜ length (now bytes) ≡ content .count * g .main ⌝ }
     ensures { λ r. ⌜ ComesTo (setting g (now (mask .entry)) (now (fates .entry))) (pageFilled (setting g (now (mask .entry)) (now (fates .entry))) block (copy (content .kind) (content .logical) (content .number)) place (dataSource g (content .old) (content .first) (content .count) (now (bytes .entry)) place)) (line from (now (array .entry)) (now (register .entry)) (now (history .entry))) (line (r .bus) (now (array .exit)) (now (register .exit)) (now (history .exit))) (r .outcome) ⌝ }
@@ -97,7 +96,6 @@ fn fill_table_page(
     requires { ⌜ Called (setting g (now mask) (now fates)) (line from (now array) (now register) (now history)) ⌝ }
     requires { ⌜ block < g .blocks ⌝ }
     requires { ⌜ place < g .pages ⌝ }
-    requires { ⌜ number < numberEnd ⌝ }
     requires { ⌜ getD (now history) block 0 ≤ place ⌝ }
     requires { ⌜ length (now page) ≡ pageSize g ⌝ }
     ensures { λ r. ⌜ ComesTo (setting g (now (mask .entry)) (now (fates .entry))) (pageFilled (setting g (now (mask .entry)) (now (fates .entry))) block (tableCopy number) place (tableSource g (now (invalid .entry)) place)) (line from (now (array .entry)) (now (register .entry)) (now (history .entry))) (line (r .bus) (now (array .exit)) (now (register .exit)) (now (history .exit))) (r .outcome) ⌝ }

@@ -6,6 +6,7 @@ use lib.Dec.{eqb}
 use Rattle.chip_array.specs.Device.{Setting}
 use Rattle.bus_polling.specs.Outcomes.{isFailed}
 use Rattle.state_choose.specs.Choose.{chosen}
+use Rattle.state.specs.State.{nextNumber}
 use Rattle.state.specs.declared.State.{State}
 use Rattle.state_choose.specs.declared.Choice.{Choice}
 use Rattle.state_choose.specs.declared.Choice.the-variants.{Block, Worn}
@@ -20,7 +21,7 @@ module _ (s : Setting) (P : Progress → Type 0) (k : Kept s P) where
   unfolding tryBlock
   block-keeps st p Worn h = h
   block-keeps st p (Block b) h =
-      filled-keeps s P k b (tableCopy (st .number)) (tableSource (s .geometry) (st .invalid)) p h
+      filled-keeps s P k b (tableCopy (nextNumber st)) (tableSource (s .geometry) (st .invalid)) p h
 
   pub try-keeps : (held : List ℕ) (st : State) (p : Progress) → P p → P (tryTable s held st p .progress)
   unfolding tryTable

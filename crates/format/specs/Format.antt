@@ -22,7 +22,7 @@ use Rattle.format_erase.specs.Round.{erasedTo}
 -- at block 0; there is no table, and no logical block has a copy
 unfoldable pub firstState : Geometry → List ℕ → List ℕ → ℕ → State
 firstState g marked invalid greatest =
-    mountedWith (greatest + 1) none (g .blocks - 1) marked invalid (replicate 4096 none)
+    mountedWith greatest none (g .blocks - 1) marked invalid (replicate 4096 none)
 
 -- under N + 2 blocks are unmarked and valid
 unfoldable pub tooFew : Geometry → List ℕ → List ℕ → Bool

@@ -20,7 +20,6 @@ ghost use Rattle.bus_polling.specs.declared.Outcome.the-variants.{Passed};
 ghost use Rattle.operations.specs.Ends.{Called};
 ghost use Rattle.operations.specs.Trace.{ArrayOperation};
 ghost use Rattle.progress.specs.Progress.{progress};
-ghost use Rattle.state.specs.State.{numberEnd};
 ghost use Rattle.request.specs.Call.{result};
 ghost use Rattle.fill_tables.specs.Tables.{endOfRun};
 ghost use Rattle.format.specs.Format.{firstState, tablesRun, roundRun, statusRun, marksRun, formatting};
@@ -28,7 +27,6 @@ ghost use Rattle.format.specs.Format.{firstState, tablesRun, roundRun, s
 // The state before the first table: the search starts at block 0, and no block holds anything current.
 fn first_state(g: Geometry, marked: [u8; 512], invalid: [u8; 512], greatest: u64) -> State
     requires { ⌜ Valid g ⌝ }
-    requires { ⌜ greatest < numberEnd ⌝ }
     ensures { λ r. ⌜ r ≡ firstState g marked invalid greatest ⌝ }
 {
     let last = g.blocks - 1;
@@ -53,7 +51,6 @@ fn fill_first(
     requires { ⌜ Called (setting g (now mask) (now fates)) (line from (now array) (now register) (now history)) ⌝ }
     requires { ⌜ length (now page) ≡ pageSize g ⌝ }
     requires { ⌜ from .left ≤ allowed ⌝ }
-    requires { ⌜ greatest < numberEnd ⌝ }
     ensures { λ r. ⌜ ((cs : List Cycle) (os : List ArrayOperation) → result (r .answer) (r .state) (device (r .interface) (now (array .exit)) (now (register .exit)) (now (history .exit))) (r .sent) ≡ endOfRun allowed (tablesRun (setting g (now (mask .entry)) (now (fates .entry))) marked invalid greatest (progress (line from (now (array .entry)) (now (register .entry)) (now (history .entry))) Passed cs os))) ⌝ }
 {
     let held = [0u8; 512];

@@ -1,5 +1,5 @@
 -- The numbers on a block, and those of two: the greatest of both, and 0 where there is none. Assumes nothing.
-use Prim.Native.Nat.{ℕ, max, _<_}
+use Prim.Native.Nat.{ℕ, max}
 use mathlib.Core.Bool.{Bool, cond}
 use mathlib.Core.List.{List}
 use mathlib.Core.Path.{_≡_, ap}
@@ -18,12 +18,6 @@ numbers-none g block z =
     cases (anyTo g block (g .pages)) (λ t. absurd (omega (arith, z, ap {B = ℕ} (λ (b : Bool). cond b 1 0) t))) (λ f. none-to g block (g .pages) f)
 
 module _ (a b : Numbers) where
-  pub joined-fits : (k : ℕ) → a .greatest < k → b .greatest < k → joined a b .greatest < k
-  unfolding joined
-  joined-fits k h i =
-      cases (eqb (b .any) 0) (λ t. rw t h)
-      (λ f. cases (eqb (a .any) 0) (λ t. rw (f, t) i) (λ e. cases (ltb (a .greatest) (b .greatest)) (λ t. rw (f, e, t) i) (λ t. rw (f, e, t) h)))
-
   module _ (none-a : a .any ≡ 0 → a .greatest ≡ 0) (none-b : b .any ≡ 0 → b .greatest ≡ 0) where
     pub joined-most : joined a b .greatest ≡ max (a .greatest) (b .greatest)
     unfolding joined

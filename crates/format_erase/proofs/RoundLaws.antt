@@ -1,5 +1,5 @@
 -- The first round of erases on its way: one block after the other. Assumes nothing.
-use Prim.Native.Nat.{ℕ, zero, suc, _+_, _-_, _*_, _≤_, _<_, _^_}
+use Prim.Native.Nat.{ℕ, zero, suc, _+_, _-_, _≤_, _<_}
 use mathlib.Core.Bool.{Bool, true, false, cond, false≢true}
 use mathlib.Core.List.{List}
 use mathlib.Core.Path.{_≡_, refl, sym, ap, ap₂, subst, _∙_}
@@ -8,9 +8,7 @@ use native.Mathlib.Numerals.{add-one}
 use native.Mathlib.Omega.{arith}
 use lib.Dec.{eqb}
 use lib.ListN.{replicate}
-use Rattle.geometry.specs.Sizes.{rowOf, blockSize}
-use Rattle.cells.specs.Bytes.{Bytes}
-use Rattle.cells.proofs.PartLaws.{bytes-part}
+use Rattle.geometry.specs.Sizes.{rowOf}
 use Rattle.bitmaps.specs.Bitmap.{bitAt, withBit}
 use Rattle.chip_array.specs.Device.{Setting}
 use Rattle.chip.specs.Chip.{Cycle}
@@ -26,7 +24,7 @@ use Rattle.operations.specs.Trace.{ArrayOperation}
 use Rattle.copies.specs.Blocks.{blockIn, anyTo, greatestTo}
 use Rattle.scan_summary.specs.declared.Summary.{Summary}
 use Rattle.scan_summary.specs.Summary.{summed}
-use Rattle.scan_summary.proofs.BlockLaws.{summed-any, summed-greatest, greatest-fits}
+use Rattle.scan_summary.proofs.BlockLaws.{summed-any, summed-greatest}
 use Rattle.progress.specs.Progress.{Progress, progress}
 use Rattle.scan_block.specs.Pages.{pagesRead}
 use Rattle.bus_polling.proofs.OutcomeLaws.{is-passed, passed-answered}
@@ -36,7 +34,6 @@ use Rattle.progress.proofs.StepLaws.{erase-called, erase-on-line, erase-on-outc
 use Rattle.format_erase.specs.declared.BlockErased.{BlockErased}
 use Rattle.format_erase.specs.declared.Numbers.{Numbers}
 use Rattle.format_erase.specs.Round.{afterErase, blockErased, failedAt, noNumbers, numbersOf, joined, numbersAt, erasedTo, AfterDone, BlockDone, RoundDone}
-use Rattle.format_erase.proofs.NumberLaws.{joined-fits}
 
 -- after an erase that did not fail
 pub after-unfailed : (s : Setting) (from : Bus) (array register history : List ℕ) (block : ℕ) (o : Outcome) {r : BlockErased} → isFailed o ≡ false
@@ -51,17 +48,16 @@ after-unfailed s from array register history block o f called e =
       next = λ t. called (passed-answered o t);
       failed-is = rw f;
       numbers-are = λ t. rw f;
-      numbers-fit = λ t. omega arith;
     })
 
 -- after one that failed: the scan of the block leaves line m and outcome o
 pub after-failed : (s : Setting) (l : Line) (block : ℕ) → Called s l → (m : Line) (o : Outcome) (summary : Summary)
     → ((cs : List Cycle) (os : List ArrayOperation) → m ≡ pagesRead s block (s .geometry .pages) (progress l Passed cs os) .line)
     → ((cs : List Cycle) (os : List ArrayOperation) → o ≡ pagesRead s block (s .geometry .pages) (progress l Passed cs os) .outcome)
-    → (isPassed o ≡ true → Called s m) → Bytes (l .chip .array) → (isPassed o ≡ true → summary ≡ summed (s .geometry) (blockIn (s .geometry) (l .chip .array) block) (s .geometry .pages))
+    → (isPassed o ≡ true → Called s m) → (isPassed o ≡ true → summary ≡ summed (s .geometry) (blockIn (s .geometry) (l .chip .array) block) (s .geometry .pages))
     → AfterDone s l m Failed o block 1 (record { any = summary .any; greatest = summary .greatest })
 unfolding afterErase isFailed
-after-failed s l block called m o summary line-is outcome-is next bytes summary-is =
+after-failed s l block called m o summary line-is outcome-is next summary-is =
     let row = blockIn (s .geometry) (l .chip .array) block in
     let two : 2 ≤ s .geometry .pages = omega (arith, called .is-valid .pages-least) in
     let any-is : isPassed o ≡ true → summary .any ≡ cond (anyTo (s .geometry) row (s .geometry .pages)) 1 0 = λ t. ap (λ (x : Summary). x .any) (summary-is t) ∙ summed-any (s .geometry) row two in
@@ -72,9 +68,6 @@ after-failed s l block called m o summary line-is outcome-is next bytes summary-
       next = next;
       failed-is = refl;
       numbers-are = λ t i. record { any = any-is t i; greatest = greatest-is t i };
-      numbers-fit = λ t.
-          subst (λ (k : ℕ). k < 256 ^ 4) (sym (greatest-is t))
-          (greatest-fits (s .geometry) row (bytes-part (block * blockSize (s .geometry)) (blockSize (s .geometry)) (l .chip .array) bytes) (s .geometry .pages));
     }
 
 -- told of the outcome itself
@@ -95,7 +88,6 @@ block-marked s marked from array register history block t called e =
       next = λ p. called;
       failed-is = λ cs os. rw t;
       numbers-are = λ p cs os. rw t;
-      numbers-fit = λ p. omega arith;
     })
 
 -- a block whose erase leaves line m and outcome o
@@ -126,7 +118,6 @@ module _ (s : Setting) (marked : List ℕ) (l : Line) (block : ℕ) (clear : bit
             d .numbers-are t
             ∙ ap (λ (x : Progress). cond (isFailed (x .outcome)) (numbersOf (s .geometry) (blockIn (s .geometry) (x .line .chip .array) block)) noNumbers) (erased-is cs os)
             ∙ rw clear;
-        numbers-fit = d .numbers-fit;
       }
 
 -- once a block has not passed nothing more is sent
@@ -151,13 +142,12 @@ pub record Rounding (s : Setting) (marked : List ℕ) (l m : Line) (n : ℕ) (in
   pub called : Called s m
   pub invalid-is : (cs : List Cycle) (os : List ArrayOperation) → invalid ≡ erasedTo s marked n (progress l Passed cs os) .invalid
   pub numbers-are : (cs : List Cycle) (os : List ArrayOperation) → numbers ≡ erasedTo s marked n (progress l Passed cs os) .numbers
-  pub numbers-fit : numbers .greatest < 256 ^ 4
 
 pub round-begins : (s : Setting) (marked : List ℕ) (l : Line) {numbers : Numbers} → Called s l → numbers ≡ noNumbers → Rounding s marked l l 0 (replicate 512 0) numbers
 unfolding erasedTo
 round-begins s marked l called e =
     subst (λ (x : Numbers). Rounding s marked l l 0 (replicate 512 0) x) (sym e)
-    (record { reached = λ cs os. refl; passing = λ cs os. refl; called = called; invalid-is = λ cs os. refl; numbers-are = λ cs os. refl; numbers-fit = omega arith })
+    (record { reached = λ cs os. refl; passing = λ cs os. refl; called = called; invalid-is = λ cs os. refl; numbers-are = λ cs os. refl })
 
 module _ (s : Setting) (marked : List ℕ) (l m : Line) (n : ℕ) (invalid : List ℕ) (numbers : Numbers) (below : n < s .geometry .blocks) (r : Rounding s marked l m n invalid numbers)
     (m' : Line) (o : Outcome) (failed : ℕ) (more : Numbers) (d : BlockDone s marked m m' o n failed more) where
@@ -184,7 +174,6 @@ module _ (s : Setting) (marked : List ℕ) (l m : Line) (n : ℕ) (invalid : Lis
         next = λ t. absurd (false≢true (sym f ∙ t));
         invalid-is = λ t. absurd (false≢true (sym f ∙ t));
         numbers-are = λ t. absurd (false≢true (sym f ∙ t));
-        numbers-fit = λ t. absurd (false≢true (sym f ∙ t));
       }
 
   flag : (b : Bool) (x y : List ℕ) → cond (eqb (cond b 1 0) 0) x y ≡ cond b y x
@@ -207,10 +196,9 @@ module _ (s : Setting) (marked : List ℕ) (l m : Line) (n : ℕ) (invalid : Lis
             let p = erasedTo s marked n (progress l Passed cs os) .progress in
             let more-are : more ≡ numbersAt s marked n p = d .numbers-are t _ _ ∙ ap (numbersAt s marked n) (at cs os) in
             h ∙ ap₂ joined (r .numbers-are cs os) more-are;
-        numbers-fit = subst (λ (x : Numbers). x .greatest < 256 ^ 4) (sym h) (joined-fits numbers more (256 ^ 4) (r .numbers-fit) (d .numbers-fit t));
       })
 
 pub round-ends : (s : Setting) (marked : List ℕ) (l m : Line) (n : ℕ) (invalid : List ℕ) (numbers : Numbers) → n ≡ s .geometry .blocks → Rounding s marked l m n invalid numbers → RoundDone s marked l m Passed invalid numbers
 round-ends s marked l m n invalid numbers e r₀ =
     let r = subst (λ (k : ℕ). Rounding s marked l m k invalid numbers) e r₀ in
-    record { line-is = r .reached; outcome-is = r .passing; next = λ t. r .called; invalid-is = λ t. r .invalid-is; numbers-are = λ t. r .numbers-are; numbers-fit = λ t. r .numbers-fit }
+    record { line-is = r .reached; outcome-is = r .passing; next = λ t. r .called; invalid-is = λ t. r .invalid-is; numbers-are = λ t. r .numbers-are }

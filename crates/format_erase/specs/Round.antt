@@ -1,5 +1,5 @@
 -- The first round of erases: the blocks that failed, and the numbers on what is left of them.
-use Prim.Native.Nat.{ℕ, zero, suc, _<_, _^_}
+use Prim.Native.Nat.{ℕ, zero, suc}
 use mathlib.Core.Bool.{Bool, true, false, cond}
 use mathlib.Core.List.{List}
 use mathlib.Core.Path.{_≡_}
@@ -76,7 +76,6 @@ pub record AfterDone (s : Setting) (l m : Line) (o end : Outcome) (block failed 
   pub next : isPassed end ≡ true → Called s m
   pub failed-is : failed ≡ cond (isFailed o) 1 0
   pub numbers-are : isPassed end ≡ true → numbers ≡ cond (isFailed o) (numbersOf (s .geometry) (blockIn (s .geometry) (l .chip .array) block)) noNumbers
-  pub numbers-fit : isPassed end ≡ true → numbers .greatest < 256 ^ 4
 
 -- one block of the first round
 pub record BlockDone (s : Setting) (marked : List ℕ) (l m : Line) (o : Outcome) (block failed : ℕ) (numbers : Numbers) : Type 0 where
@@ -85,7 +84,6 @@ pub record BlockDone (s : Setting) (marked : List ℕ) (l m : Line) (o : Outcome
   pub next : isPassed o ≡ true → Called s m
   pub failed-is : (cs : List Cycle) (os : List ArrayOperation) → failed ≡ cond (failedAt s marked block (progress l Passed cs os)) 1 0
   pub numbers-are : isPassed o ≡ true → (cs : List Cycle) (os : List ArrayOperation) → numbers ≡ numbersAt s marked block (progress l Passed cs os)
-  pub numbers-fit : isPassed o ≡ true → numbers .greatest < 256 ^ 4
 
 -- the first round
 pub record RoundDone (s : Setting) (marked : List ℕ) (l m : Line) (o : Outcome) (invalid : List ℕ) (numbers : Numbers) : Type 0 where
@@ -94,4 +92,3 @@ pub record RoundDone (s : Setting) (marked : List ℕ) (l m : Line) (o : Outcome
   pub next : isPassed o ≡ true → Called s m
   pub invalid-is : isPassed o ≡ true → (cs : List Cycle) (os : List ArrayOperation) → invalid ≡ erasedTo s marked (s .geometry .blocks) (progress l Passed cs os) .invalid
   pub numbers-are : isPassed o ≡ true → (cs : List Cycle) (os : List ArrayOperation) → numbers ≡ erasedTo s marked (s .geometry .blocks) (progress l Passed cs os) .numbers
-  pub numbers-fit : isPassed o ≡ true → numbers .greatest < 256 ^ 4

@@ -24,10 +24,9 @@ use Rattle.bus_polling.proofs.OutcomeLaws.{is-passed, passed-answered}
 use Rattle.operations.specs.Ends.{Called}
 use Rattle.operations.specs.Trace.{ArrayOperation}
 use Rattle.copies.specs.Blocks.{blockIn, pageIn, isMarked}
-use Rattle.copies.specs.Current.{currentTable, filledLast, nextNumber}
+use Rattle.copies.specs.Current.{currentTable, filledLast, greatestBelow}
 use Rattle.state_choose.specs.Choose.{permitted, countPermitted}
 use Rattle.state.specs.State.{blank, numbersLeft}
-use Rattle.state.specs.State as state
 use Rattle.state.proofs.NumberLaws.{mounted-told}
 use Rattle.state.specs.declared.State.{State}
 use Rattle.scan_found.specs.Contents.{mapOf}
@@ -288,7 +287,7 @@ module _ (s : Setting) (v : Valid (s .geometry)) (mask-bytes : Bytes (s .mask)) 
       state-is =
           let table-is : t .state .table ≡ blockOf (currentTable g after) = sym (ap blockOf (settled.current-is (d .settled))) in
           let last-is : t .state .last ≡ blockOf (filledLast g after) = d .last-is ∙ sym (ap blockOf (settled.last-is (d .settled))) in
-          let number-is : state.nextNumber (t .state) ≡ nextNumber g after = d .number-is ∙ sym (settled.next-is (d .settled)) in
+          let number-is : t .state .number ≡ greatestBelow g after (g .blocks) = d .number-is ∙ sym (settled.greatest-is (d .settled)) in
           let invalid-is : t .state .invalid ≡ bitsAt g after (blockOf (currentTable g after)) = sym (settled.bitmap-back (d .settled)) ∙ ap (bitsAt g after) table-is in
           let map-is : t .state .map ≡ mapOf g after (blockOf (currentTable g after)) = d .map-same ∙ sym (settled.map-blank (d .settled)) ∙ ap (mapOf g after) table-is in
           mounted-told (t .state) (d .status-same) number-is table-is last-is marked-is invalid-is map-is
@@ -298,7 +297,7 @@ module _ (s : Setting) (v : Valid (s .geometry)) (mask-bytes : Bytes (s .mask)) 
           record {
             table-is = settled.current-is (d .settled);
             lists-are = settled.lists-invalid (d .settled);
-            number-next = d .number-is ∙ ap (λ (k : ℕ). k + 1) (sym (settled.number-is (d .settled)));
+            number-next = ap (λ (k : ℕ). k + 1) (d .number-is ∙ sym (settled.number-is (d .settled)));
             table-pages = λ i h.
                 d .settled .table-pages i h ∙ ap (λ (k : ℕ). copyPage g (tableCopy k) i (tableMain g (t .state .invalid) i)) (sym (settled.number-is (d .settled)));
             table-whole = settled.table-whole (d .settled);

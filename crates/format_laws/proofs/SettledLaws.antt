@@ -1,5 +1,5 @@
 -- On a settled array the table is current, lists what it should, and a mount succeeds. Assumes nothing.
-use Prim.Native.Nat.{ℕ, zero, suc, _+_, _≤_, _<_}
+use Prim.Native.Nat.{ℕ, zero, suc, _≤_, _<_}
 use mathlib.Core.Bool.{true, false, cond, false≢true}
 use mathlib.Core.List.{List}
 use mathlib.Core.Path.{_≡_, sym, ap, subst, _∙_}
@@ -17,7 +17,7 @@ use Rattle.bitmaps.specs.Bitmap.{bitAt}
 use Rattle.bitmaps.proofs.BitmapLaws.{Bitmap}
 use Rattle.copies.specs.Blocks.{blockIn, pageIn, wholeIn, isMarked, isComplete, isTable, isData, isCopyOf, greatestTo, hasNumber, greatest}
 use Rattle.copies.specs.Current as current
-use Rattle.copies.specs.Current.{currentTable, currentCopy, filledLast, nextNumber, numberAt, counts, unlisted, sharesNumber, clashesAt, clashes, mountAnswer, reading, greatestBelow}
+use Rattle.copies.specs.Current.{currentTable, currentCopy, filledLast, numberAt, counts, unlisted, sharesNumber, clashesAt, clashes, mountAnswer, reading, greatestBelow}
 use Rattle.copies.specs.Pick.{nothing, at}
 use Rattle.copies.specs.Table.{lists}
 use Rattle.copies.proofs.PickLaws.{picked-is, none-below}
@@ -147,9 +147,8 @@ module _ {g : Geometry} {array invalid : List ℕ} {table number : ℕ} (r : Set
       (λ e. omega (arith, less, ap (λ (b : ℕ). greatest g (row b)) (eqb-true n table e), greatest-table))
       (λ e. omega (arith, less, greatest-other n (omega (arith, h)) (eqb-false n table e)))
 
-  pub next-is : nextNumber g array ≡ number + 1
-  unfolding nextNumber
-  next-is =
+  pub greatest-is : greatestBelow g array (g .blocks) ≡ number
+  greatest-is =
       omega (arith, all-most (g .blocks) (omega arith), greatest-in g array (g .blocks) table (r .table-below), greatest-table)
 
   -- no data copy is current

@@ -70,7 +70,7 @@ pub record Ready (s : Setting) (p : Progress) (st : State) : Type 0 where
 -- after a table fill that passed
 pub record Done (s : Setting) (st : State) (q : Progress) (next : State) : Type 0 where
   pub number : ℕ
-  pub number-is : nextNumber next ≡ number + 1
+  pub number-is : next .number ≡ number
   pub status-same : next .status ≡ st .status
   pub last-is : next .last ≡ next .table
   pub marked-same : next .marked ≡ st .marked
@@ -97,7 +97,7 @@ pub record Left (s : Setting) (held : List ℕ) (st : State) (p : Progress) (t :
   pub unworn : (t .answer ≡ 8 → ⊥) → (t .answer ≡ 9 → ⊥) → Unfailed s (st .marked) (t .progress)
   pub spent-by : t .answer ≡ 9 → numberEnd + failedCount (p .started) (s .geometry .blocks) ≤ nextNumber st + failedCount (t .progress .started) (s .geometry .blocks)
   pub spent-so : numberEnd + failedCount (p .started) (s .geometry .blocks) ≤ nextNumber st + failedCount (t .progress .started) (s .geometry .blocks) → t .answer ≡ 9
-  pub spent-fails : t .answer ≡ 9 → (4294967296 ≤ st .number) ⊎ Failing (s .fates)
+  pub spent-fails : t .answer ≡ 9 → (numberEnd ≤ nextNumber st) ⊎ Failing (s .fates)
   pub silent-by : t .answer ≡ 10 → Slow (s .fates)
   pub used-up : t .answer ≡ 11 → t .progress .line .left ≡ 0
   pub failed-kept : (b : ℕ) → failedIn b (p .started) ≡ true → failedIn b (t .progress .started) ≡ true

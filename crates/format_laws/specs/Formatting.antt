@@ -18,7 +18,7 @@ use Rattle.scan_found.specs.Found.{marksTo}
 use Rattle.operations.specs.Trace.{ArrayOperation}
 use Rattle.bus_polling.specs.Outcomes.{isPassed, isProtected}
 use Rattle.bus_polling.specs.declared.Outcome.the-variants.{Passed}
-use Rattle.state.specs.State.{blank, numberEnd, mounted}
+use Rattle.state.specs.State.{blank, nextNumber, numberEnd, mounted}
 use Rattle.state.specs.declared.State.{State}
 use Rattle.request.specs.Call.{Result, sizedFor, callLine}
 use Rattle.progress.specs.Progress.{Progress, progress, resetOn, statusOn}
@@ -37,7 +37,7 @@ use Rattle.damage.specs.Run.{failedIn, failedCount, Slow, Failing, readMost, er
 pub record Formatted (g : Geometry) (array : List ℕ) (st : State) : Type 0 where
   pub table-is : currentTable g array ≡ at (st .table)
   pub lists-are : (b : ℕ) → b < g .blocks → lists g (blockIn g array (st .table)) b ≡ bitAt (st .invalid) b
-  pub number-next : st .number ≡ numberAt g array (st .table) + 1
+  pub number-next : nextNumber st ≡ numberAt g array (st .table) + 1
   pub table-pages : (i : ℕ) → i < g .pages
       → pageIn g (blockIn g array (st .table)) i ≡ copyPage g (tableCopy (numberAt g array (st .table))) i (tableMain g (st .invalid) i)
   pub table-whole : (i : ℕ) → i < g .pages → wholeIn g (blockIn g array (st .table)) i ≡ true
@@ -89,7 +89,7 @@ abbrev pub numberNeeded : Geometry → Round → List ArrayOperation → ℕ
 numberNeeded g r os =
     r .numbers .greatest + 1 + (failedCount os (g .blocks) - failedCount (r .progress .started) (g .blocks))
 
--- a table fill needs a number above 4,294,967,295: the first round passed and left N + 2 blocks, and the number needed is past the last
+-- a table fill needs a number above 18,446,744,073,709,551,615: the first round passed and left N + 2 blocks, and the number needed is past the last
 pub record NumbersEnd (g : Geometry) (array : List ℕ) (r : Round) (os : List ArrayOperation) : Type 0 where
   pub round-passed : isPassed (r .progress .outcome) ≡ true
   pub blocks-left : g .logical + 2 ≤ unfailed g array (r .progress .started) (g .blocks)

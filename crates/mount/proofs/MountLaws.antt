@@ -1,5 +1,5 @@
 -- What a mount makes of a scan is what the definitions on the array say. Assumes nothing.
-use Prim.Native.Nat.{ℕ, zero, suc, _+_, _≤_, _<_}
+use Prim.Native.Nat.{ℕ, zero, suc, _≤_, _<_}
 use mathlib.Core.Bool.{Bool, true, false, cond}
 use mathlib.Core.List.{List}
 use mathlib.Core.Logic.{⊎-elim}
@@ -15,7 +15,7 @@ use Rattle.geometry.specs.Sizes.{chipSize}
 use Rattle.bitmaps.specs.Bitmap.{bitAt, byteOf, withBit, neverBoth}
 use Rattle.bitmaps.proofs.BitLaws.{bit-set, bit-kept}
 use Rattle.copies.specs.Blocks.{blockIn, isMarked, isTable, mainIn}
-use Rattle.copies.specs.Current.{numberAt, nextNumber, currentTable, filledLast, judgeTable, mountAnswer}
+use Rattle.copies.specs.Current.{numberAt, currentTable, filledLast, judgeTable, mountAnswer}
 use Rattle.copies.specs.Pick.{Pick, nothing, at, pick, Picked, someBelow}
 use Rattle.copies.specs.Table.{bitmapOf, clearWhere, rightTo, rightTable}
 use Rattle.copies.proofs.PickLaws.{pick-is, up-to}
@@ -157,10 +157,6 @@ module _ (g : Geometry) (v : Valid g) (array : List ℕ) (long : length array �
   last-is =
       ⊎-elim (λ u. rw (u .picked) (sym (u .last-none))) (λ r. rw (r .picked)) (most-found g two array (g .blocks))
 
-  number-is : foundTo g array (g .blocks) .greatest + 1 ≡ nextNumber g array
-  unfolding nextNumber
-  number-is = ap (λ (k : ℕ). k + 1) (found-greatest g two array (g .blocks))
-
   state-found : Chosen g two array (g .blocks) (kept (foundTo g array (g .blocks))) → stateOf g (foundTo g array (g .blocks)) all ≡ mountedState g array
   unfolding mountedState blockOf
   state-found c =
@@ -172,7 +168,7 @@ module _ (g : Geometry) (v : Valid g) (array : List ℕ) (long : length array �
       ap (λ (x : List ℕ). mapTo all x (g .blocks) (g .logical) (replicate 4096 65535) (g .blocks)) (c .bits-are)
       ∙ map-is g v array long all all-told (f .table) (table-below (f .table) here)
       ∙ ap (mapOf g array) t in
-      λ i. mountedWith (number-is i) (t i) (sym last-is i) (found-marked g two array (g .blocks) i) (bits i) (map i)
+      λ i. mountedWith (found-greatest g two array (g .blocks) i) (t i) (sym last-is i) (found-marked g two array (g .blocks) i) (bits i) (map i)
 
   -- without a table there is no state
   missing-answer : Missing g two array (g .blocks) (kept (foundTo g array (g .blocks))) → mountAnswer g array ≡ 4

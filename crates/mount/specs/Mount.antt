@@ -8,7 +8,7 @@ use Rattle.chip_array.specs.Device.{Device, Setting}
 use Rattle.bus.specs.Line.{Line}
 use Rattle.bus_polling.specs.Outcomes.{isPassed}
 use Rattle.bus_polling.specs.declared.Outcome.the-variants.{Passed}
-use Rattle.copies.specs.Current.{currentTable, filledLast, nextNumber, mountAnswer}
+use Rattle.copies.specs.Current.{currentTable, filledLast, greatestBelow, mountAnswer}
 use Rattle.copies.specs.Pick.{Pick, nothing, at}
 use Rattle.state.specs.State.{blank, mountedWith}
 use Rattle.state.specs.declared.State.{State}
@@ -26,7 +26,7 @@ blockOf (at b) = b
 -- the state that a mount answered 0 gives
 unfoldable pub mountedState : Geometry → List ℕ → State
 mountedState g array =
-    mountedWith (nextNumber g array) (blockOf (currentTable g array)) (blockOf (filledLast g array)) (marksTo g array (g .blocks))
+    mountedWith (greatestBelow g array (g .blocks)) (blockOf (currentTable g array)) (blockOf (filledLast g array)) (marksTo g array (g .blocks))
     (bitsAt g array (blockOf (currentTable g array)))
     (mapOf g array (blockOf (currentTable g array)))
 

@@ -1,5 +1,5 @@
 -- The answer and the state of a mount, from what a scan found.
-use Prim.Native.Nat.{ℕ, _+_}
+use Prim.Native.Nat.{ℕ}
 use mathlib.Core.Bool.{cond}
 use lib.Dec.{eqb}
 use lib.ListN.{replicate}
@@ -23,5 +23,5 @@ judgedBy g f c =
 -- the state that a mount answered 0 gives
 abbrev pub stateOf : Geometry → Found → Contents → State
 stateOf g f c =
-    mountedWith (f .greatest + 1) (f .table) (f .last) (f .marked) (f .bits)
+    mountedWith (f .greatest) (f .table) (f .last) (f .marked) (f .bits)
     (mapTo c (f .bits) (g .blocks) (g .logical) (replicate 4096 65535) (g .blocks))

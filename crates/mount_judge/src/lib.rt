@@ -5,7 +5,6 @@ use state::State;
 ghost use mathlib.Core.Path.{_≡_};
 ghost use Prim.Native.Nat.{_<_};
 ghost use Rattle.geometry.specs.Limits.{Valid};
-ghost use Rattle.state.specs.State.{numberEnd};
 ghost use Rattle.scan_found.specs.Contents.{contents};
 ghost use Rattle.mount_judge.specs.Judging.{judgedBy, stateOf};
 
@@ -52,7 +51,6 @@ pub fn mounted_state(
     numbers: &[u64; 4096],
 ) -> State
     requires { ⌜ Valid g ⌝ }
-    requires { ⌜ found .greatest < numberEnd ⌝ }
     ensures { λ r. ⌜ r ≡ stateOf g found (contents (now (kinds .entry)) (now (logicals .entry)) (now (numbers .entry))) ⌝ }
 {
     let bits = found.bits;

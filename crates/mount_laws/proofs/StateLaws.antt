@@ -13,17 +13,20 @@ use lib.Seq.{getD-append-add, getD-drop, ext-getD}
 use Rattle.geometry.specs.declared.Geometry.{Geometry}
 use Rattle.geometry.specs.Limits.{Valid}
 use Rattle.geometry.specs.Sizes.{chipSize}
-use Rattle.bools.proofs.BoolLaws.{both, unless}
+use Rattle.bools.proofs.BoolLaws.{both, clash, unless}
 use Rattle.cells.specs.Part.{put}
 use Rattle.bitmaps.specs.Bitmap.{bitAt, bitIn, byteOf, placeOf, clearFrom, countBits, bitmapBytes}
 use Rattle.bitmaps.proofs.BitmapLaws.{bits-none}
-use Rattle.pages.specs.Layout.{labelOf, allOnes, dataKind, tableKind, isDataKind, isTableKind}
+use Rattle.pages.specs.Layout.{labelOf, allOnes, isDataKind, isTableKind}
+use Rattle.pages.proofs.LayoutLaws.{kinds-apart}
 use Rattle.copies.specs.Blocks.{blockIn, pageIn, mainIn, labelIn, isMarked, isComplete, isTable, isData, isCopyOf, hasNumber, greatest}
-use Rattle.copies.specs.Current.{currentTable, currentCopy, filledLast, nextNumber, numberAt, unlisted, clashes, judgeTable, mountAnswer}
+use Rattle.copies.specs.Current as current
+use Rattle.copies.specs.Current.{currentTable, currentCopy, filledLast, greatestBelow, numberAt, unlisted, clashes, judgeTable, mountAnswer}
 use Rattle.copies.specs.Pick.{Pick, nothing, at, Best, Picked, pick}
 use Rattle.copies.specs.Table.{bitmapOf, fieldOf, lists, clearWhere, rightFirst, rightPage, rightTo, rightTable}
 use Rattle.copies.proofs.PickLaws.{pick-is, up-to}
 use Rattle.copies.proofs.CompleteLaws.{complete-pages}
+use Rattle.state.specs.State as state
 use Rattle.state.specs.State.{none, mounted, mountedWith, Mounted}
 use Rattle.state.specs.declared.State.{State}
 use Rattle.state.proofs.MountedLaws.{clear-each, mounted-holds}
@@ -94,25 +97,25 @@ unfolding rightPage
 page-clear g page t = first-clear (g .blocks) (g .logical) (take (g .main) page) (both (eqb (labelOf (g .main) page .logical) 0) _ t .1)
 
 -- a table and a copy bear no mark
-table-kind : (g : Geometry) (x : List ℕ) → isTable g x ≡ true → (isMarked g x ≡ false) × (labelIn g x 0 .kind ≡ tableKind)
-unfolding isTable isTableKind
+table-kind : (g : Geometry) (x : List ℕ) → isTable g x ≡ true → (isMarked g x ≡ false) × (isTableKind (labelIn g x 0 .kind) ≡ true)
+unfolding isTable
 table-kind g x t =
     let parts = both (isComplete g x) _ t in
-    (complete-pages g x (parts .0) .unmarked, eqb-true (labelIn g x 0 .kind) tableKind (parts .1))
+    (complete-pages g x (parts .0) .unmarked, parts .1)
 
 record CopyLabel (g : Geometry) (logical : ℕ) (x : List ℕ) : Type 0 where
   unmarked : isMarked g x ≡ false
-  kind-is : labelIn g x 0 .kind ≡ dataKind
+  kind-is : isDataKind (labelIn g x 0 .kind) ≡ true
   logical-is : labelIn g x 0 .logical ≡ logical
 
 copy-label : (g : Geometry) (logical : ℕ) (x : List ℕ) → isCopyOf g logical x ≡ true → CopyLabel g logical x
-unfolding isCopyOf isData isDataKind
+unfolding isCopyOf isData
 copy-label g logical x t =
-    let parts = both (cond (isComplete g x) (eqb (labelIn g x 0 .kind) dataKind) false) _ t in
+    let parts = both (cond (isComplete g x) (isDataKind (labelIn g x 0 .kind)) false) _ t in
     let kind = both (isComplete g x) _ (parts .0) in
     record {
       unmarked = complete-pages g x (kind .0) .unmarked;
-      kind-is = eqb-true (labelIn g x 0 .kind) dataKind (kind .1);
+      kind-is = kind .1;
       logical-is = eqb-true (labelIn g x 0 .logical) logical (parts .1);
     }
 
@@ -274,12 +277,12 @@ module _ (g : Geometry) (v : Valid g) (array : List ℕ) (long : length array �
       let e = entry-is l h in
       subst (Entry l) (sym e) (pick-entry l (pick (copyTest l) (numberAt g array) (g .blocks)) (pick-is (copyTest l) (numberAt g array) (g .blocks)) (λ z. x (e ∙ z)))
 
-  table-parts : (isMarked g (row t) ≡ false) × (labelIn g (row t) 0 .kind ≡ tableKind)
+  table-parts : (isMarked g (row t) ≡ false) × (isTableKind (labelIn g (row t) 0 .kind) ≡ true)
   table-parts = table-kind g (row t) (r .is-table)
 
   off-table : (l : ℕ) → l < g .logical → (getD map l 0 ≡ none → ⊥) → getD map l 0 ≡ t → ⊥
   off-table l h x e =
-      omega (arith, entry l h x .label .kind-is, table-parts .1, ap (λ (b : ℕ). labelIn g (row b) 0 .kind) e)
+      clash (table-parts .1) (kinds-apart (labelIn g (row t) 0 .kind) (sym (ap (λ (b : ℕ). isDataKind (labelIn g (row b) 0 .kind)) e) ∙ entry l h x .label .kind-is))
 
   once-named : (l k : ℕ) → l < g .logical → k < g .logical → (l ≡ k → ⊥) → (getD map l 0 ≡ none → ⊥) → getD map l 0 ≡ getD map k 0 → ⊥
   once-named l k h i d x e =
@@ -312,10 +315,15 @@ module _ (g : Geometry) (v : Valid g) (array : List ℕ) (long : length array �
     pub known-mounted : mounted known (g .blocks) (g .logical) ≡ true
     known-mounted = mounted-holds known (g .blocks) (g .logical) (v .blocks-most) facts
 
+-- its next number is the one that the definitions on the array give
+pub mounted-next : (g : Geometry) (array : List ℕ) → state.nextNumber (mountedState g array) ≡ current.nextNumber g array
+unfolding mountedState current.nextNumber
+mounted-next g array = refl
+
 -- a state that is handed out with 0 counts as mounted
 pub mounted-state : (g : Geometry) → Valid g → (array : List ℕ) → length array ≡ chipSize g → mountAnswer g array ≡ 0 → mounted (mountedState g array) (g .blocks) (g .logical) ≡ true
 unfolding mountedState
 mounted-state g v array long z =
     let t = blockOf (currentTable g array) in
     let r = right-table g array z in
-    known-mounted g v array long t r (nextNumber g array) (blockOf (filledLast g array)) (last-on-chip g v array long t r)
+    known-mounted g v array long t r (greatestBelow g array (g .blocks)) (blockOf (filledLast g array)) (last-on-chip g v array long t r)

@@ -1,9 +1,8 @@
--- Laws of bytes: the count of zero bits of a part, numbers of two and of four bytes, the stores that make a page's spare bytes. Assumes nothing.
-use mathlib.Core.Logic.{⊎-elim}
+-- Laws of bytes: the count of zero bits of a part, numbers of two, four and eight bytes, the stores that make a page's spare bytes. Assumes nothing.
 use Rattle.pages.proofs.CheckLaws.{zeroBits-append}
-use Rattle.pages.proofs.LayoutLaws.{width-cases}
+use Rattle.pages.proofs.LayoutLaws.{Kinds, no-kind, narrow, wide, by-kind, length-bytesOf}
 use Prim.Native.Nat.{ℕ, suc, _+_, _-_, _*_, _/_, _%_, _≤_, _<_, zero-le}
-use mathlib.Core.Path.{_≡_, refl, sym, ap, _∙_}
+use mathlib.Core.Path.{_≡_, refl, sym, ap, ap₂, _∙_}
 use mathlib.Core.Bool.{true, false}
 use mathlib.Core.List.{List, [], _∷_, _++_, append-assoc, append-nil}
 use native.Mathlib.Nat.{add-zero, add-assoc, div-div-eq-div-mul}
@@ -77,17 +76,29 @@ pair-is at xs h =
 pub pair-lt : (at : ℕ) (xs : List ℕ) → at + 2 ≤ length xs → getD xs at 0 < 256 → getD xs (at + 1) 0 < 256 → numberOf (take 2 (drop at xs)) < 65536
 pair-lt at xs h p q = rw (pair-is at xs h) (omega arith)
 
--- a number of four bytes is one of two numbers of two bytes
+-- two bytes and those after them
+number-pair : (k : ℕ) (xs : List ℕ) → 2 ≤ length xs → numberOf (take (suc (suc k)) xs) ≡ numberOf (take 2 xs) + 65536 * numberOf (take k (drop 2 xs))
+unfolding numberOf
+number-pair k [] h = absurd (omega (arith, h))
+number-pair k (a ∷ []) h = absurd (omega (arith, h))
+number-pair k (a ∷ b ∷ xs) h = omega arith
+
+-- a number of k + 2 bytes at a place is one of two bytes and one of k
+pair-and : (k at : ℕ) (xs : List ℕ) → at + 2 ≤ length xs
+    → numberOf (take (suc (suc k)) (drop at xs)) ≡ numberOf (take 2 (drop at xs)) + 65536 * numberOf (take k (drop (at + 2) xs))
+pair-and k at xs h = number-pair k (drop at xs) (rw length-drop (omega (arith, h))) ∙ rw (drop-drop 2 at xs)
+
+-- a number of four bytes is one of two numbers of two bytes, and one of eight of two of four
 pub four-is : (at : ℕ) (xs : List ℕ) → at + 4 ≤ length xs
     → numberOf (take 4 (drop at xs)) ≡ numberOf (take 2 (drop at xs)) + 65536 * numberOf (take 2 (drop (at + 2) xs))
-unfolding numberOf
-four-is at xs h =
-    let h0 : at < length xs = omega arith in
-    let h1 : suc at < length xs = omega arith in
-    let h2 : suc (suc at) < length xs = omega arith in
-    let h3 : suc (suc (suc at)) < length xs = omega arith in
-    let e : at + 2 ≡ suc (suc at) = omega arith in
-    rw (e, drop-cons xs at 0 h0, drop-cons xs (suc at) 0 h1, drop-cons xs (suc (suc at)) 0 h2, drop-cons xs (suc (suc (suc at))) 0 h3) (omega arith)
+four-is at xs h = pair-and 2 at xs (omega (arith, h))
+
+pub eight-is : (at : ℕ) (xs : List ℕ) → at + 8 ≤ length xs
+    → numberOf (take 8 (drop at xs)) ≡ numberOf (take 4 (drop at xs)) + 4294967296 * numberOf (take 4 (drop (at + 4) xs))
+eight-is at xs h =
+    let e : at + 2 + 2 ≡ at + 4 = omega arith in
+    let next : numberOf (take 4 (drop (at + 2 + 2) xs)) ≡ numberOf (take 4 (drop (at + 4) xs)) = ap (λ (k : ℕ). numberOf (take 4 (drop k xs))) e in
+    omega (arith, pair-and 6 at xs (omega (arith, h)), pair-and 4 (at + 2) xs (omega (arith, h)), next, four-is at xs (omega (arith, h)))
 
 -- a store of one element
 pub set-put : (at v : ℕ) (xs : List ℕ) → at < length xs → set xs at v ≡ put at (v ∷ []) xs
@@ -167,23 +178,23 @@ filled-all {start} {xs} {from} {i} r h =
     let f : length start ≤ from + length ys = omega arith in
     r .is ∙ put-split from ys start ∙ rw (drop-of-length-le start {i = from + length ys} f, append-nil, e)
 
--- a kind's number has four bytes
-pub width-four : (k : ℕ) → (numberWidth k ≡ 0 → ⊥) → numberWidth k ≡ 4
-width-four k n = ⊎-elim (λ e. absurd (n e)) (λ e. e) (width-cases k)
-
-pub width-le : (k : ℕ) → numberWidth k ≤ 4
-width-le k = ⊎-elim (λ e. omega (arith, e)) (λ e. omega (arith, e)) (width-cases k)
+-- a kind's number has four bytes or eight
+pub width-eight : (k : ℕ) → (numberWidth k ≡ 0 → ⊥) → (numberWidth k ≡ 4 → ⊥) → numberWidth k ≡ 8
+width-eight k none four = by (by-kind k)
+  where
+    by : Kinds k → numberWidth k ≡ 8
+    by (no-kind e) = absurd (none e)
+    by (narrow e b) = absurd (four e)
+    by (wide e b) = e
 
 pub number-none : (main : ℕ) (p : List ℕ) → numberWidth (kindOf main p) ≡ 0 → 0 ≡ labelOf main p .number
 unfolding labelOf numberOf
 number-none main p e = rw e
 
-pub number-four : (main : ℕ) (p : List ℕ) → main + 9 ≤ length p → (numberWidth (kindOf main p) ≡ 0 → ⊥)
-    → numberOf (take 2 (drop (main + 5) p)) + 65536 * numberOf (take 2 (drop (main + 7) p)) ≡ labelOf main p .number
+-- the number on a page, of as many bytes as its kind says
+pub number-is : (main w : ℕ) (p : List ℕ) → numberWidth (kindOf main p) ≡ w → numberOf (take w (drop (main + 5) p)) ≡ labelOf main p .number
 unfolding labelOf
-number-four main p h n =
-    let a : main + 7 ≡ main + 5 + 2 = omega arith in
-    rw (width-four (kindOf main p) n, drop-drop 5 main p, a) (sym (four-is (main + 5) p (omega arith)))
+number-is main w p e = rw (e, drop-drop 5 main p)
 
 pub whole-none : (main : ℕ) (p : List ℕ) → numberWidth (kindOf main p) ≡ 0 → false ≡ whole main p
 unfolding whole
@@ -211,64 +222,72 @@ whole-check main p n f a =
 pub take-rest : (at : ℕ) (xs : List ℕ) → take (length xs - at) (drop at xs) ≡ drop at xs
 take-rest at xs = take-all (length xs - at) (drop at xs) (rw length-drop (omega arith))
 
--- the bytes of a number of two bytes that is cut out of a greater one
-pub low-byte : (n : ℕ) → n % 65536 % 256 ≡ n % 256
-low-byte n = omega arith
+-- a number of eight bytes is four of two
+four-pairs : (n : ℕ) → bytesOf 2 n ++ (bytesOf 2 (n / 65536) ++ (bytesOf 2 (n / 65536 / 65536) ++ bytesOf 2 (n / 65536 / 65536 / 65536))) ≡ bytesOf 8 n
+unfolding bytesOf
+four-pairs n =
+    let z : (m : ℕ) → m / 65536 ≡ m / 256 / 256 = λ m. sym (div-div-eq-div-mul m 256 256) in
+    rw (z n, z (n / 256 / 256), z (n / 256 / 256 / 256 / 256))
 
-pub next-byte : (n : ℕ) → n % 65536 / 256 % 256 ≡ n / 256 % 256
-next-byte n =
-    let z : n / 256 / 256 ≡ n / 65536 = div-div-eq-div-mul n 256 256 in
-    let e : n % 65536 ≡ 256 * (n / 256 % 256) + n % 256 = omega arith in
-    omega arith
+pub number-written : (at n : ℕ) (xs p₁ p₂ p₃ p₄ : List ℕ) → at ≤ length xs
+    → p₁ ≡ put at (bytesOf 2 n) xs
+    → p₂ ≡ put (at + 2) (bytesOf 2 (n / 65536)) p₁
+    → p₃ ≡ put (at + 4) (bytesOf 2 (n / 65536 / 65536)) p₂
+    → p₄ ≡ put (at + 6) (bytesOf 2 (n / 65536 / 65536 / 65536)) p₃
+    → p₄ ≡ put at (bytesOf 8 n) xs
+number-written at n xs p₁ p₂ p₃ p₄ h e₁ e₂ e₃ e₄ =
+    let b₁ : List ℕ = bytesOf 2 n in
+    let b₂ : List ℕ = bytesOf 2 (n / 65536) in
+    let b₃ : List ℕ = bytesOf 2 (n / 65536 / 65536) in
+    let b₄ : List ℕ = bytesOf 2 (n / 65536 / 65536 / 65536) in
+    let k₁ : length b₁ ≡ 2 = length-bytesOf 2 n in
+    let k₂ : length (b₁ ++ b₂) ≡ 4 = length-append b₁ b₂ ∙ ap₂ _+_ k₁ (length-bytesOf 2 (n / 65536)) in
+    let k₃ : length ((b₁ ++ b₂) ++ b₃) ≡ 6 = length-append (b₁ ++ b₂) b₃ ∙ ap₂ _+_ k₂ (length-bytesOf 2 (n / 65536 / 65536)) in
+    let q₂ : p₂ ≡ put at (b₁ ++ b₂) xs = e₂ ∙ ap (put (at + 2) b₂) e₁ ∙ put-next at 2 b₂ b₁ xs k₁ h in
+    let q₃ : p₃ ≡ put at ((b₁ ++ b₂) ++ b₃) xs = e₃ ∙ ap (put (at + 4) b₃) q₂ ∙ put-next at 4 b₃ (b₁ ++ b₂) xs k₂ h in
+    let q₄ : p₄ ≡ put at (((b₁ ++ b₂) ++ b₃) ++ b₄) xs = e₄ ∙ ap (put (at + 6) b₄) q₃ ∙ put-next at 6 b₄ ((b₁ ++ b₂) ++ b₃) xs k₃ h in
+    q₄ ∙ ap (λ (ys : List ℕ). put at ys xs) (append-assoc (b₁ ++ b₂) b₃ b₄ ∙ append-assoc b₁ b₂ (b₃ ++ b₄) ∙ four-pairs n)
 
--- the bytes of a label, one by one
-pub label-bytes : (kind logical place number : ℕ) → numberWidth kind ≡ 4 → place < 256
-    → 255 ∷ kind ∷ logical % 256 ∷ logical / 256 % 256 ∷ place % 256 ∷ number % 65536 % 256 ∷ number % 65536 / 256 % 256
-    ∷ number / 65536 % 65536 % 256 ∷ number / 65536 % 65536 / 256 % 256 ∷ []
-    ≡ labelBytes (label kind logical place number)
+-- the bytes of a label whose number has eight, as they are stored
+label-bytes : (kind logical place number : ℕ) → numberWidth kind ≡ 8 → place < 256
+    → (255 ∷ kind ∷ (bytesOf 2 logical ++ (place % 256 ∷ []))) ++ bytesOf 8 number ≡ labelBytes (label kind logical place number)
 unfolding labelBytes bytesOf
 label-bytes kind logical place number w h =
     let a : place % 256 ≡ place = omega arith in
-    let z : number / 65536 ≡ number / 256 / 256 = sym (div-div-eq-div-mul number 256 256) in
-    rw (w, a, low-byte number, next-byte number, z, low-byte (number / 256 / 256), next-byte (number / 256 / 256))
+    rw (w, a)
 
 -- the stores that make a page's spare bytes, in their order
-pub finished : (main kind logical place number check : ℕ) (xs p₁ p₂ p₃ p₄ p₅ : List ℕ) → main + 16 ≤ length xs → numberWidth kind ≡ 4 → place < 256
+pub finished : (main kind logical place number check : ℕ) (xs p₁ p₂ p₃ p₄ : List ℕ) → main + 16 ≤ length xs → numberWidth kind ≡ 8 → place < 256
     → p₁ ≡ put (main + 2) (bytesOf 2 logical) (set (set xs main 255) (main + 1) kind)
-    → p₂ ≡ put (main + 5) (bytesOf 2 (number % 65536)) (set p₁ (main + 4) (place % 256))
-    → p₃ ≡ put (main + 7) (bytesOf 2 (number / 65536 % 65536)) p₂
-    → check ≡ zeroBits (take (main + 9) p₃)
-    → p₄ ≡ put (main + 9) (bytesOf 2 check) p₃
-    → p₅ ≡ take (main + 11) p₄ ++ replicate (length p₄ - (main + 11)) 255
-    → p₅ ≡ encoded (length xs - main) (label kind logical place number) (take main xs)
-unfolding bytesOf encoded
-finished main kind logical place number check xs p₁ p₂ p₃ p₄ p₅ h w b e₁ e₂ e₃ e₄ e₅ e₆ =
+    → p₂ ≡ put (main + 5) (bytesOf 8 number) (set p₁ (main + 4) (place % 256))
+    → check ≡ zeroBits (take (main + 13) p₂)
+    → p₃ ≡ put (main + 13) (bytesOf 2 check) p₂
+    → p₄ ≡ take (main + 15) p₃ ++ replicate (length p₃ - (main + 15)) 255
+    → p₄ ≡ encoded (length xs - main) (label kind logical place number) (take main xs)
+unfolding encoded
+finished main kind logical place number check xs p₁ p₂ p₃ p₄ h w b e₁ e₂ e₃ e₄ e₅ =
     let m : main ≤ length xs = omega arith in
-    let l₀ : ℕ = logical % 256 in
-    let l₁ : ℕ = logical / 256 % 256 in
-    let n₀ : ℕ = number % 65536 % 256 in
-    let n₁ : ℕ = number % 65536 / 256 % 256 in
-    let n₂ : ℕ = number / 65536 % 65536 % 256 in
-    let n₃ : ℕ = number / 65536 % 65536 / 256 % 256 in
-    let c₀ : ℕ = check % 256 in
-    let c₁ : ℕ = check / 256 % 256 in
+    let ls : List ℕ = bytesOf 2 logical in
+    let ns : List ℕ = bytesOf 8 number in
+    let cs : List ℕ = bytesOf 2 check in
     let v : ℕ = place % 256 in
     let s₁ : List ℕ = 255 ∷ [] in
     let s₂ : List ℕ = 255 ∷ kind ∷ [] in
-    let s₄ : List ℕ = 255 ∷ kind ∷ l₀ ∷ l₁ ∷ [] in
-    let s₅ : List ℕ = 255 ∷ kind ∷ l₀ ∷ l₁ ∷ v ∷ [] in
-    let s₇ : List ℕ = 255 ∷ kind ∷ l₀ ∷ l₁ ∷ v ∷ n₀ ∷ n₁ ∷ [] in
-    let s₉ : List ℕ = 255 ∷ kind ∷ l₀ ∷ l₁ ∷ v ∷ n₀ ∷ n₁ ∷ n₂ ∷ n₃ ∷ [] in
+    let s₄ : List ℕ = 255 ∷ kind ∷ ls in
+    let s₅ : List ℕ = 255 ∷ kind ∷ (ls ++ (v ∷ [])) in
+    let k₄ : length s₄ ≡ 4 = ap (λ (n : ℕ). suc (suc n)) (length-bytesOf 2 logical) in
+    let k₅ : length s₅ ≡ 5 = ap (λ (n : ℕ). suc (suc n)) (length-append ls (v ∷ []) ∙ ap (λ (n : ℕ). n + 1) (length-bytesOf 2 logical)) in
+    let k : length (s₅ ++ ns) ≡ 13 = length-append s₅ ns ∙ ap₂ _+_ k₅ (length-bytesOf 8 number) in
+    let kc : length ((s₅ ++ ns) ++ cs) ≡ 15 = length-append (s₅ ++ ns) cs ∙ ap₂ _+_ k (length-bytesOf 2 check) in
     let q₁ : set xs main 255 ≡ put main s₁ xs = set-put main 255 xs (omega arith) in
     let q₂ : set (set xs main 255) (main + 1) kind ≡ put main s₂ xs = rw q₁ (set-next main 1 kind s₁ xs refl (omega arith)) in
-    let q₄ : p₁ ≡ put main s₄ xs = e₁ ∙ rw q₂ (put-next main 2 (l₀ ∷ l₁ ∷ []) s₂ xs refl m) in
-    let q₅ : set p₁ (main + 4) v ≡ put main s₅ xs = rw q₄ (set-next main 4 v s₄ xs refl (omega arith)) in
-    let q₇ : p₂ ≡ put main s₇ xs = e₂ ∙ rw q₅ (put-next main 5 (n₀ ∷ n₁ ∷ []) s₅ xs refl m) in
-    let q₉ : p₃ ≡ put main s₉ xs = e₃ ∙ rw q₇ (put-next main 7 (n₂ ∷ n₃ ∷ []) s₇ xs refl m) in
-    let q : p₄ ≡ put main (s₉ ++ (c₀ ∷ c₁ ∷ [])) xs = e₅ ∙ rw q₉ (put-next main 9 (c₀ ∷ c₁ ∷ []) s₉ xs refl m) in
-    let same : length p₄ ≡ length xs = ap length q ∙ length-put main (s₉ ++ (c₀ ∷ c₁ ∷ [])) xs (omega arith) in
-    let counted : check ≡ zeroBits (take main xs ++ s₉) = e₄ ∙ rw (q₉, take-put main 9 s₉ xs refl m) in
-    let front : take (main + 11) p₄ ≡ (take main xs ++ s₉) ++ (c₀ ∷ c₁ ∷ []) = rw q (take-put main 11 (s₉ ++ (c₀ ∷ c₁ ∷ [])) xs refl m ∙ sym (append-assoc (take main xs) s₉ (c₀ ∷ c₁ ∷ []))) in
-    let spare : length p₄ - (main + 11) ≡ length xs - main - 11 = omega arith in
-    let bytes : s₉ ≡ labelBytes (label kind logical place number) = label-bytes kind logical place number w b in
-    e₆ ∙ rw (front, spare, w, ← bytes, ← counted) (append-assoc (take main xs ++ s₉) (c₀ ∷ c₁ ∷ []) _)
+    let q₄ : p₁ ≡ put main s₄ xs = e₁ ∙ rw q₂ (put-next main 2 ls s₂ xs refl m) in
+    let q₅ : set p₁ (main + 4) v ≡ put main s₅ xs = rw q₄ (set-next main 4 v s₄ xs k₄ (omega arith)) in
+    let q : p₂ ≡ put main (s₅ ++ ns) xs = e₂ ∙ rw q₅ (put-next main 5 ns s₅ xs k₅ m) in
+    let qc : p₃ ≡ put main ((s₅ ++ ns) ++ cs) xs = e₄ ∙ rw q (put-next main 13 cs (s₅ ++ ns) xs k m) in
+    let same : length p₃ ≡ length xs = ap length qc ∙ length-put main ((s₅ ++ ns) ++ cs) xs (omega (arith, kc)) in
+    let counted : check ≡ zeroBits (take main xs ++ (s₅ ++ ns)) = e₃ ∙ rw (q, take-put main 13 (s₅ ++ ns) xs k m) in
+    let front : take (main + 15) p₃ ≡ (take main xs ++ (s₅ ++ ns)) ++ cs = rw qc (take-put main 15 ((s₅ ++ ns) ++ cs) xs kc m ∙ sym (append-assoc (take main xs) (s₅ ++ ns) cs)) in
+    let spare : length p₃ - (main + 15) ≡ length xs - main - 15 = omega arith in
+    let bytes : s₅ ++ ns ≡ labelBytes (label kind logical place number) = label-bytes kind logical place number w b in
+    e₅ ∙ rw (front, spare, w, ← bytes, ← counted) (append-assoc (take main xs ++ (s₅ ++ ns)) cs _)

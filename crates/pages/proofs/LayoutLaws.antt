@@ -1,23 +1,24 @@
 -- Laws of the layout of a page: what is encoded reads back, and a page with raised bits is whole only if none was raised. Assumes nothing.
 use Prim.Native.Nat.{ℕ, zero, suc, _+_, _-_, _*_, _/_, _≤_, _<_, _^_}
-use mathlib.Core.Bool.{Bool, true, false, cond, true≢false}
+use mathlib.Core.Bool.{true, false, cond, true≢false}
 use mathlib.Core.List.{List, [], _∷_, _++_, append-assoc}
-use mathlib.Core.Logic.{_⊎_, inl, inr, ⊎-elim}
 use mathlib.Core.Path.{_≡_, refl, sym, ap, ap₂, subst, _∙_}
 use native.Mathlib.Nat.{pow-suc}
 use native.Mathlib.Omega.{arith}
+use borrow.Table.Steps.{cases}
 use borrow.Author.Tests.{eqb-true, eq-eqb, ne-eqb}
+use lib.Bits.{bitAnd}
 use lib.Dec.{eqb}
-use lib.ListN.{length, getD, take, drop, replicate, length-append, length-replicate, take-append-drop}
+use lib.ListN.{length, getD, take, drop, replicate, length-append, length-replicate, take-append-drop, length-take, length-drop}
 use lib.Seq.{take-at, drop-at, take-append-seam, drop-append-seam, getD-drop, drop-drop}
 use Rattle.cells.specs.Bytes.{Bytes}
-use Rattle.cells.proofs.CellLaws.{bytes-append, bytes-replicate, bytes-drop}
+use Rattle.cells.proofs.CellLaws.{bytes-append, bytes-replicate}
 use Rattle.bools.proofs.BoolLaws.{both, unless}
 use Rattle.pages.specs.Check.{zeroBits}
-use Rattle.pages.specs.Layout.{Label, label, Fits, dataKind, tableKind, isDataKind, isTableKind, numberWidth, checkAt, restAt, bytesOf, numberOf, labelBytes, encoded, spareOf, kindOf, widthOf, labelOf, allOnes, storedCheck, countedCheck, whole}
+use Rattle.pages.specs.Layout.{Label, label, Fits, Sized, among, narrowKinds, wideKinds, dataKinds, dataKind, tableKind, isDataKind, isTableKind, numberWidth, checkAt, restAt, bytesOf, numberOf, labelBytes, encoded, spareOf, kindOf, widthOf, labelOf, allOnes, storedCheck, countedCheck, whole}
 use Rattle.pages.specs.Over.{Over, none, more}
 use Rattle.pages.proofs.CheckLaws.{zeroBits-most}
-use Rattle.pages.proofs.OverLaws.{zeroBits-over, zeroBits-same, over-take, over-drop, numberOf-over, numberOf-same}
+use Rattle.pages.proofs.OverLaws.{zeroBits-over, zeroBits-same, over-take, over-drop, over-length, over-getD, and-trans, number-over, numberOf-over, numberOf-same}
 
 -- the bytes of a number that fits them read back
 pub numberOf-bytesOf : (w n : ℕ) → n < 256 ^ w → numberOf (bytesOf w n) ≡ n
@@ -45,19 +46,49 @@ bytes-bytesOf zero n i = omega arith
 bytes-bytesOf (suc w) n zero = omega arith
 bytes-bytesOf (suc w) n (suc i) = bytes-bytesOf w (n / 256) i
 
--- the two widths of a choice of two kinds
-pub four-or-none : (b c : Bool) → (_≡_ {A = ℕ} (cond b 4 (cond c 4 0)) 0) ⊎ (_≡_ {A = ℕ} (cond b 4 (cond c 4 0)) 4)
-four-or-none true c = inr refl
-four-or-none false true = inr refl
-four-or-none false false = inl refl
+-- what a kind says, by cases: no kind, a narrow one, a wide one
+pub data Kinds (k : ℕ) : Type 0 where
+  no-kind : numberWidth k ≡ 0 → Kinds k
+  narrow : numberWidth k ≡ 4 → bitAnd 32 k ≡ 0 → Kinds k
+  wide : numberWidth k ≡ 8 → bitAnd 32 k ≡ 32 → Kinds k
 
--- a kind has a number of four bytes
-pub width-cases : (k : ℕ) → (numberWidth k ≡ 0) ⊎ (numberWidth k ≡ 4)
+-- what holds of each of these kinds
+unfoldable All : (ℕ → Type 0) → List ℕ → Type 0
+All P [] = Unit {0}
+All P (x ∷ xs) = P x × All P xs
+
+among-is : (P : ℕ → Type 0) (xs : List ℕ) (k : ℕ) → All P xs → among xs k ≡ true → P k
+unfolding All
+among-is P [] k a t = absurd (true≢false (sym t))
+among-is P (x ∷ xs) k a t = cases (eqb k x) (λ u. subst P (sym (eqb-true k x u)) (a .0)) (λ u. among-is P xs k (a .1) (sym (rw u) ∙ t))
+
+-- the bit 20h tells the layouts apart
+narrow-bits : All (λ k. bitAnd 32 k ≡ 0) narrowKinds
+unfolding All
+narrow-bits = (refl, (refl, tt))
+
+wide-bits : All (λ k. bitAnd 32 k ≡ 32) wideKinds
+unfolding All
+wide-bits = (refl, (refl, tt))
+
+pub by-kind : (k : ℕ) → Kinds k
 unfolding numberWidth
-width-cases k = four-or-none (isDataKind k) (isTableKind k)
+by-kind k =
+    cases (among narrowKinds k)
+    (λ t. narrow (rw t) (among-is (λ k. bitAnd 32 k ≡ 0) narrowKinds k narrow-bits t))
+    (λ t.
+    cases (among wideKinds k)
+    (λ u. wide (rw (t, u)) (among-is (λ k. bitAnd 32 k ≡ 32) wideKinds k wide-bits u))
+    (λ u. no-kind (rw (t, u))))
 
-pub width-four : (k : ℕ) → 0 < numberWidth k → numberWidth k ≡ 4
-width-four k h = ⊎-elim (λ e. omega arith) (λ e. e) (width-cases k)
+-- a number has at most eight bytes
+pub width-most : (k : ℕ) → numberWidth k ≤ 8
+width-most k = most (by-kind k)
+  where
+    most : Kinds k → numberWidth k ≤ 8
+    most (no-kind e) = omega (arith, e)
+    most (narrow e b) = omega (arith, e)
+    most (wide e b) = omega (arith, e)
 
 -- the two kinds, their tests and their widths
 pub data-is : isDataKind dataKind ≡ true
@@ -68,32 +99,31 @@ pub table-is : isTableKind tableKind ≡ true
 unfolding isTableKind
 table-is = refl
 
+-- no kind is a data page's and a table's
+data-not-table : All (λ k. isTableKind k ≡ false) dataKinds
+unfolding All isTableKind
+data-not-table = (refl, (refl, tt))
+
+pub kinds-apart : (k : ℕ) → isDataKind k ≡ true → isTableKind k ≡ false
+unfolding isDataKind
+kinds-apart k t = among-is (λ k. isTableKind k ≡ false) dataKinds k data-not-table t
+
 pub table-no-data : isDataKind tableKind ≡ false
 unfolding isDataKind
 table-no-data = refl
 
 -- 0 is no kind
 pub width-zero : numberWidth 0 ≡ 0
-unfolding numberWidth isDataKind isTableKind
+unfolding numberWidth
 width-zero = refl
 
-pub data-width : numberWidth dataKind ≡ 4
-unfolding numberWidth isDataKind
+pub data-width : numberWidth dataKind ≡ 8
+unfolding numberWidth
 data-width = refl
 
-pub table-width : numberWidth tableKind ≡ 4
-unfolding numberWidth isDataKind isTableKind
+pub table-width : numberWidth tableKind ≡ 8
+unfolding numberWidth
 table-width = refl
-
--- the number on a page of bytes has four of them
-pub number-fits : (main : ℕ) (p : List ℕ) → Bytes p → labelOf main p .number < 256 ^ 4
-unfolding labelOf
-number-fits main p b =
-    let fits = numberOf-fits (widthOf main p) (drop 5 (drop main p)) (bytes-drop 5 (drop main p) (bytes-drop main p b)) in
-    ⊎-elim
-    (λ e. omega (arith, subst (λ (w : ℕ). numberOf (take (widthOf main p) (drop 5 (drop main p))) < 256 ^ w) e fits))
-    (λ e. subst (λ (w : ℕ). numberOf (take (widthOf main p) (drop 5 (drop main p))) < 256 ^ w) e fits)
-    (width-cases (kindOf main p))
 
 pub length-labelBytes : (l : Label) → length (labelBytes l) ≡ 5 + numberWidth (l .kind)
 unfolding labelBytes bytesOf
@@ -256,7 +286,7 @@ encoded-whole spare l main f h =
 
 -- FFh is no kind, and neither is a byte that is not there
 pub width-erased : (n i : ℕ) → numberWidth (getD (replicate n 255) i 0) ≡ 0
-unfolding numberWidth isDataKind isTableKind
+unfolding numberWidth
 width-erased zero i = refl
 width-erased (suc n) zero = refl
 width-erased (suc n) (suc i) = width-erased n i
@@ -302,18 +332,72 @@ pub whole-over : (main : ℕ) {e p : List ℕ} → Over e p → whole main e ≡
 whole-over main {e} {p} o a b same =
     judged-same main (widthOf main e) o (judged main (widthOf main e) e a refl) (judged main (widthOf main e) p b same)
 
-pub whole-width : (main : ℕ) (p : List ℕ) → whole main p ≡ true → widthOf main p ≡ 4
-whole-width main p h = width-four (kindOf main p) (whole-parts main p h .width)
+-- FFh bytes stay so
+allOnes-over : {xs ys : List ℕ} → Over xs ys → allOnes xs ≡ true → allOnes ys ≡ true
+unfolding allOnes
+allOnes-over none e = refl
+allOnes-over (more {x} {y} {xs} {ys} h a b o) e =
+    let q = both (eqb x 255) (allOnes xs) e in
+    let same : bitAnd 255 y ≡ 255 = subst (λ (z : ℕ). bitAnd z y ≡ z) (eqb-true x 255 (q .0)) h in
+    let full : y ≡ 255 = omega (arith, number-over 255 y same, b) in
+    rw (eq-eqb y 255 full) (allOnes-over o (q .1))
 
--- of two whole pages, one over the other, both are the same
-pub whole-over-any : (main : ℕ) {e p : List ℕ} → Over e p → whole main e ≡ true → whole main p ≡ true → p ≡ e
-whole-over-any main {e} {p} o a b = whole-over main o a b (whole-width main p b ∙ sym (whole-width main e a))
+-- two of them are the greatest number of two bytes
+allOnes-pair : (n : ℕ) (xs : List ℕ) → n + 2 ≤ length xs → allOnes xs ≡ true → numberOf (take 2 (drop n xs)) ≡ 65535
+unfolding allOnes numberOf
+allOnes-pair zero [] h e = absurd (omega (arith, h))
+allOnes-pair zero (x ∷ []) h e = absurd (omega (arith, h))
+allOnes-pair zero (x ∷ y ∷ xs) h e =
+    let q = both (eqb x 255) (cond (eqb y 255) (allOnes xs) false) e in
+    let r = both (eqb y 255) (allOnes xs) (q .1) in
+    omega (arith, eqb-true x 255 (q .0), eqb-true y 255 (r .0))
+allOnes-pair (suc n) [] h e = absurd (omega (arith, h))
+allOnes-pair (suc n) (x ∷ xs) h e = allOnes-pair n xs (omega (arith, h)) (both (eqb x 255) (allOnes xs) e .1)
+
+module _ (main : ℕ) {e p : List ℕ} (size : Sized main e) (o : Over e p) (a : whole main e ≡ true) (b : whole main p ≡ true) where
+  -- a page with a narrow number has FFh where a wide one has its check, more than any count
+  not-wider : widthOf main e ≡ 4 → widthOf main p ≡ 8 → ⊥
+  not-wider we wp =
+      let long = over-length o in
+      let ja = judged main 4 e a we in
+      let jb = judged main 8 p b wp in
+      let rest : allOnes (drop 11 (drop main p)) ≡ true = allOnes-over (over-drop 11 (over-drop main o)) (ja .rest) in
+      let room : 2 + 2 ≤ length (drop 11 (drop main p)) = rw (length-drop, length-drop) (omega (arith, size .spare-least, long)) in
+      let stored : numberOf (take 2 (drop 13 (drop main p))) ≡ 65535 =
+      ap (λ (xs : List ℕ). numberOf (take 2 xs)) (sym (drop-drop 2 11 (drop main p))) ∙ allOnes-pair 2 (drop 11 (drop main p)) room rest in
+      let most = zeroBits-most (take (main + 13) p) in
+      let few : length (take (main + 13) p) ≤ main + 13 = rw length-take (omega arith) in
+      omega (arith, stored, jb .check, most, few, size .spare-least, size .most)
+
+  -- and a wide kind has a bit that no narrow kind has
+  not-narrower : bitAnd 32 (kindOf main e) ≡ 32 → bitAnd 32 (kindOf main p) ≡ 0 → ⊥
+  unfolding kindOf
+  not-narrower be bp =
+      let rises : bitAnd (kindOf main e) (kindOf main p) ≡ kindOf main e = over-getD 1 (over-drop main o) in
+      omega (arith, sym (and-trans 32 (kindOf main e) (kindOf main p) be rises) ∙ bp)
+
+  -- of two whole pages, one over the other, both are the same
+  pub whole-over-any : p ≡ e
+  whole-over-any = by (by-kind (kindOf main e)) (by-kind (kindOf main p))
+    where
+      by : Kinds (kindOf main e) → Kinds (kindOf main p) → p ≡ e
+      by (no-kind we) y = absurd (omega (arith, we, whole-parts main e a .width))
+      by (narrow we be) (no-kind wp) = absurd (omega (arith, wp, whole-parts main p b .width))
+      by (narrow we be) (narrow wp bp) = whole-over main o a b (wp ∙ sym we)
+      by (narrow we be) (wide wp bp) = absurd (not-wider we wp)
+      by (wide we be) (no-kind wp) = absurd (omega (arith, wp, whole-parts main p b .width))
+      by (wide we be) (narrow wp bp) = absurd (not-narrower be bp)
+      by (wide we be) (wide wp bp) = whole-over main o a b (wp ∙ sym we)
 
 -- what is left of an encoded page is whole only if no bit of it was raised, whatever kind it says it is
 pub raised-whole-any : (spare : ℕ) (l : Label) (main p : List ℕ)
     → Fits l
-    → 8 * (length main + 5 + numberWidth (l .kind)) < 65536
+    → 16 ≤ spare
+    → length main + spare ≤ 4352
     → Over (encoded spare l main) p
     → whole (length main) p ≡ true
     → p ≡ encoded spare l main
-raised-whole-any spare l main p f h o a = whole-over-any (length main) o (encoded-whole spare l main f h) a
+raised-whole-any spare l main p f least most o a =
+    let long = length-encoded spare l main (omega (arith, least, width-most (l .kind))) in
+    whole-over-any (length main) (record { spare-least = omega (arith, long, least); most = omega (arith, long, most) }) o
+    (encoded-whole spare l main f (omega (arith, least, most, width-most (l .kind)))) a

@@ -21,23 +21,41 @@ pub record Sized (main : ℕ) (p : List ℕ) : Type 0 where
   pub spare-least : main + 16 ≤ length p
   pub most : length p ≤ 4352
 
--- 44h data, 54h table
+-- the kinds that are written: 64h data, 74h table
 abbrev pub dataKind : ℕ
-dataKind = 68
+dataKind = 100
 
 abbrev pub tableKind : ℕ
-tableKind = 84
+tableKind = 116
 
--- the kinds of data pages, and of table pages
+-- one of these kinds
+abbrev pub among : List ℕ → ℕ → Bool
+among [] k = false
+among (x ∷ xs) k = cond (eqb k x) true (among xs k)
+
+-- the kinds of data pages, and of table pages: 44h and 54h are still read
+abbrev pub dataKinds : List ℕ
+dataKinds = 68 ∷ 100 ∷ []
+
+abbrev pub tableKinds : List ℕ
+tableKinds = 84 ∷ 116 ∷ []
+
 unfoldable pub isDataKind : ℕ → Bool
-isDataKind k = eqb k dataKind
+isDataKind k = among dataKinds k
 
 unfoldable pub isTableKind : ℕ → Bool
-isTableKind k = eqb k tableKind
+isTableKind k = among tableKinds k
+
+-- the kinds of each layout: a number of four bytes, 44h and 54h; one of eight, 64h and 74h
+abbrev pub narrowKinds : List ℕ
+narrowKinds = 68 ∷ 84 ∷ []
+
+abbrev pub wideKinds : List ℕ
+wideKinds = 100 ∷ 116 ∷ []
 
 -- the layout of a kind is given by the bytes of its number; 0 for what is no kind
 unfoldable pub numberWidth : ℕ → ℕ
-numberWidth k = cond (isDataKind k) 4 (cond (isTableKind k) 4 0)
+numberWidth k = cond (among narrowKinds k) 4 (cond (among wideKinds k) 8 0)
 
 -- spare bytes: 0 is FFh, 1 the kind, 2 and 3 the logical block, 4 the page, from 5 on the number, then two of check, then FFh
 abbrev pub checkAt : ℕ → ℕ

@@ -1,17 +1,22 @@
 // Pages byte by byte: the check, whether a page is whole, its label, and the spare bytes of a new page.
 ghost use mathlib.Core.Path.{_≡_};
-ghost use Prim.Native.Nat.{ℕ, _+_, _-_, _≤_, _<_, _^_};
+ghost use Prim.Native.Nat.{ℕ, _+_, _-_, _≤_, _<_};
 ghost use lib.Count.{ones};
 ghost use lib.ListN.{length, getD, take, drop, replicate};
 ghost use mathlib.Core.List.{_++_};
-ghost use Rattle.cells.specs.Part.{put};
+ghost use Rattle.cells.specs.Part.{part, put};
 ghost use Rattle.pages.specs.Check.{zeroBits, total};
 ghost use Rattle.pages.specs.Layout.{isDataKind, isTableKind, numberWidth, allOnes, bytesOf, numberOf, kindOf, whole, labelOf, label, encoded, Sized};
 
-// The kind byte of a data page, and of a table's.
-pub const DATA: u8 = 0x44;
+// The kind byte of a data page, and of a table's, as they are written: the number has eight bytes.
+pub const DATA: u8 = 0x64;
 
-pub const TABLE: u8 = 0x54;
+pub const TABLE: u8 = 0x74;
+
+// The same in the layout whose number has four bytes, which is read only.
+const NARROW_DATA: u8 = 0x44;
+
+const NARROW_TABLE: u8 = 0x54;
 
 fn wide(x: u8) -> usize
     ensures { λ r. ⌜ r ≡ x ⌝ }
@@ -114,6 +119,9 @@ pub fn all_ones(bytes: &[u8]) -> bool
 pub fn is_data(kind: usize) -> bool
     ensures { λ r. ⌜ r ≡ isDataKind kind ⌝ }
 {
+    if kind == NARROW_DATA as usize {
+        return true;
+    }
     kind == DATA as usize
 }
 
@@ -121,6 +129,9 @@ pub fn is_data(kind: usize) -> bool
 pub fn is_table(kind: usize) -> bool
     ensures { λ r. ⌜ r ≡ isTableKind kind ⌝ }
 {
+    if kind == NARROW_TABLE as usize {
+        return true;
+    }
     kind == TABLE as usize
 }
 
@@ -128,12 +139,17 @@ pub fn is_table(kind: usize) -> bool
 pub fn number_width(kind: u8) -> usize
     ensures { λ r. ⌜ r ≡ numberWidth kind ⌝ }
 {
-    let k = wide(kind);
-    if is_data(k) {
+    if kind == NARROW_DATA {
         return 4;
     }
-    if is_table(k) {
+    if kind == NARROW_TABLE {
         return 4;
+    }
+    if kind == DATA {
+        return 8;
+    }
+    if kind == TABLE {
+        return 8;
     }
     0
 }
@@ -145,6 +161,26 @@ pub fn pair_at(bytes: &[u8], at: usize) -> usize
 {
     let next = at + 1;
     wide(bytes[at]) + 256 * wide(bytes[next])
+}
+
+// A number of four bytes, low byte first.
+fn four_at(bytes: &[u8], at: usize) -> usize
+    requires { ⌜ at + 4 ≤ length (now bytes) ⌝ }
+    ensures { λ r. ⌜ (r ≡ numberOf (take 4 (drop at (now (bytes .entry))))) × (r < 4294967296) ⌝ }
+{
+    let low = pair_at(bytes, at);
+    let high = pair_at(bytes, at + 2);
+    low + 65536 * high
+}
+
+// A number of eight bytes, low byte first.
+pub fn number_at(bytes: &[u8], at: usize) -> usize
+    requires { ⌜ at + 8 ≤ length (now bytes) ⌝ }
+    ensures { λ r. ⌜ r ≡ numberOf (part at 8 (now (bytes .entry))) ⌝ }
+{
+    let low = four_at(bytes, at);
+    let high = four_at(bytes, at + 4);
+    low + 4294967296 * high
 }
 
 // The kind byte of a page.
@@ -182,9 +218,11 @@ pub fn number_of(page: &[u8], main: usize) -> u64
     if width == 0 {
         return 0;
     }
-    let low = pair_at(page, main + 5);
-    let high = pair_at(page, main + 7);
-    (low + 65536 * high) as u64
+    let at = main + 5;
+    if width == 4 {
+        return four_at(page, at) as u64;
+    }
+    number_at(page, at) as u64
 }
 
 // Whether a page is whole: kind, check and FFh places are right.
@@ -217,6 +255,20 @@ pub fn write_pair(bytes: &mut [u8], at: usize, number: usize)
     bytes[next] = (number / 256 % 256) as u8;
 }
 
+// Writes a number of eight bytes, low byte first.
+pub fn write_number(bytes: &mut [u8], at: usize, number: usize)
+    requires { ⌜ at + 8 ≤ length (now bytes) ⌝ }
+    ensures { λ _. ⌜ now (bytes .exit) ≡ put at (bytesOf 8 number) (now (bytes .entry)) ⌝ }
+{
+    let second = number / 65536;
+    let third = second / 65536;
+    let fourth = third / 65536;
+    write_pair(bytes, at, number);
+    write_pair(bytes, at + 2, second);
+    write_pair(bytes, at + 4, third);
+    write_pair(bytes, at + 6, fourth);
+}
+
 // Writes FFh from a place on.
 pub fn fill_ones(bytes: &mut [u8], from: usize)
     requires { ⌜ from ≤ length (now bytes) ⌝ }
@@ -229,7 +281,7 @@ pub fn fill_ones(bytes: &mut [u8], from: usize)
     }
 }
 
-// Writes the spare bytes of a page whose main bytes stand already.
+// Writes the spare bytes of a page whose main bytes stand already, in the layout whose number has eight bytes.
 pub fn finish_page(
     page: &mut [u8],
     main: usize,
@@ -239,10 +291,9 @@ pub fn finish_page(
     number: u64,
 )
     requires { ⌜ Sized main (now page) ⌝ }
-    requires { ⌜ 0 < numberWidth kind ⌝ }
+    requires { ⌜ numberWidth kind ≡ 8 ⌝ }
     requires { ⌜ logical < 65536 ⌝ }
     requires { ⌜ place < 256 ⌝ }
-    requires { ⌜ number < 256 ^ numberWidth kind ⌝ }
     ensures { λ _. ⌜ now (page .exit) ≡ encoded (length (now (page .entry)) - main) (label kind logical place number) (take main (now (page .entry))) ⌝ }
 {
     let k = main + 1;
@@ -251,12 +302,9 @@ pub fn finish_page(
     write_pair(page, main + 2, logical);
     let p = main + 4;
     page[p] = (place % 256) as u8;
-    let low = (number % 65536) as usize;
-    let high = (number / 65536 % 65536) as usize;
-    write_pair(page, main + 5, low);
-    write_pair(page, main + 7, high);
-    let end = main + 9;
+    write_number(page, main + 5, number as usize);
+    let end = main + 13;
     let check = zero_bits(&page[0..end]);
-    write_pair(page, main + 9, check);
-    fill_ones(page, main + 11);
+    write_pair(page, end, check);
+    fill_ones(page, main + 15);
 }

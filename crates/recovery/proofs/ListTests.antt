@@ -55,7 +55,7 @@ formatted = tablePages 0 ++ (tablePages 1 ++ (tablePages 2 ++ (tablePages 3 ++ r
 
 abbrev state : State
 state =
-    record { status = 1; table = 0; last = 0; number = 2; marked = replicate 512 0; invalid = replicate 512 0; map = replicate 4096 65535 }
+    record { status = 1; table = 0; last = 0; number = 1; marked = replicate 512 0; invalid = replicate 512 0; map = replicate 4096 65535 }
 
 -- a write of logical block 0, page 0 that sends 237 cycles, cut before the last: its mask lets all or nothing of an operation
 -- under way through

@@ -31,7 +31,6 @@ use Rattle.fill.specs.Fill.{mainOf, mainRead, pageFilled, pagesFilled, tableMai
 use Rattle.fill_tables.specs.Tables.{afterFill, tryBlock, tryTable, tablesFilled, afterStatus}
 use Rattle.write_changes.specs.Changes.{writeUpdate, afterTry, copyTried, copiesFilled, thenTable, changeCall}
 use mathlib.Core.Bool.{cond}
-use Rattle.bus_polling.specs.declared.Outcome.the-variants.{Passed}
 use Rattle.recovery_cycles.specs.Starts.{takes, givesFailed, failsNext, Start, startsAt, startsIn}
 
 abbrev small : Geometry
@@ -47,7 +46,7 @@ chip = device poweredOn (replicate 768 255) (replicate 48 255) (replicate 4 0)
 -- the table in block 0, the copy of logical block 0 in block 1, filled last, the next number 3
 abbrev state : State
 state =
-    record { status = 1; table = 0; last = 1; number = 3; marked = replicate 512 0; invalid = replicate 512 0; map = set (replicate 4096 65535) 0 1 }
+    record { status = 1; table = 0; last = 1; number = 2; marked = replicate 512 0; invalid = replicate 512 0; map = set (replicate 4096 65535) 0 1 }
 
 -- a confirm cycle: its code, the block that the chip names, and 1 where E1h is read after it
 abbrev told : Start → List ℕ

@@ -74,7 +74,7 @@ tablePages i = encoded 16 (label tableKind 0 i 1) (tableMain small (replicate 51
 
 abbrev state : State
 state =
-    record { status = 1; table = 0; last = 0; number = 2; marked = replicate 512 0; invalid = replicate 512 0; map = replicate 4096 65535 }
+    record { status = 1; table = 0; last = 0; number = 1; marked = replicate 512 0; invalid = replicate 512 0; map = replicate 4096 65535 }
 
 abbrev chip : Device
 chip =

@@ -25,12 +25,13 @@ rightly-called =
     let s = settingOf g a in
     clash (fit-sizes s (chipOf a (y .chip)) (i .fits) long) (mount-unsized s (chipOf a (y .chip)) (a .allowed) (y .state) .0 z))
 
-pub comes-back : Always ComesBack
-comes-back =
-    by-inv ComesBack
-    (λ g y i a long fast h.
+pub comes-by : (g : Geometry) (y : Store) → Inv g y → ComesBack g y
+comes-by g y i a long fast h =
     let s = settingOf g a in
-    mount-heard s (chipOf a (y .chip)) (a .allowed) (y .state) (fit-sizes s (chipOf a (y .chip)) (i .fits) long) fast h ∙ i .stored .mounts)
+    mount-heard s (chipOf a (y .chip)) (a .allowed) (y .state) (fit-sizes s (chipOf a (y .chip)) (i .fits) long) fast h ∙ i .stored .mounts
+
+pub comes-back : Always ComesBack
+comes-back = by-inv ComesBack comes-by
 
 pub reads-answered : Always ReadsAnswered
 reads-answered = by-inv ReadsAnswered read-told

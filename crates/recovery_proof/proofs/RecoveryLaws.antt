@@ -40,7 +40,7 @@ event-inv : (g : Geometry) (e : Event) → Possible g e → (y : Store) → Inv 
 event-inv g (called c) t y i = step-inv g c t y i
 event-inv g (powerLost st register) t y i = unpowered-inv g st register t y i
 
-after-inv : (g : Geometry) (es : List Event) → AllPossible g es → (y : Store) → Inv g y → Inv g (after g es y)
+pub after-inv : (g : Geometry) (es : List Event) → AllPossible g es → (y : Store) → Inv g y → Inv g (after g es y)
 unfolding after AllPossible
 after-inv g [] t y i = i
 after-inv g (e ∷ es) t y i = after-inv g es (t .1) (happens g e y) (event-inv g e (t .0) y i)
@@ -56,16 +56,17 @@ by-inv P f g a d st mask-bytes z es t = f g (after g es (begun g a d st)) (alway
 pub recovers : Always Recovers
 recovers = by-inv Recovers inv-recovered
 
-pub read-right : Always ReadsRight
-read-right =
-    by-inv ReadsRight
-    (λ g y i a logical page buffer.
+pub reads-by : (g : Geometry) (y : Store) → Inv g y → ReadsRight g y
+reads-by g y i a logical page buffer =
     record {
       gives = read-gives-book g y i a logical page buffer;
       keeps = read-keeps (settingOf g a) (chipOf a (y .chip)) (a .allowed) (y .state) logical page buffer;
-    })
+    }
 
-spared-by : (g : Geometry) (y : Store) → Inv g y → Spares g y
+pub read-right : Always ReadsRight
+read-right = by-inv ReadsRight reads-by
+
+pub spared-by : (g : Geometry) (y : Store) → Inv g y → Spares g y
 spared-by g y i (toMount a) t = mount-spared g y a
 spared-by g y i (toRead a logical page buffer) t = read-spared g y a logical page buffer
 spared-by g y i (toWrite a logical page bytes) t = write-spared g y i a (t .0) logical page bytes (t .1)

@@ -20,7 +20,7 @@ use Rattle.copies.proofs.CompleteLaws.{mark-bytes}
 use Rattle.fill.specs.Fill.{Copy, copyPage}
 use Rattle.damage.specs.Run.{Labelled}
 use Rattle.damage.proofs.PlaceLaws.{page-long}
-use Rattle.damage.proofs.CopyLaws.{no-mark, page-whole, raised-same, raised-unmarked}
+use Rattle.damage.proofs.CopyLaws.{no-mark, copy-long, page-whole, raised-same, raised-unmarked}
 use Rattle.recovery_stored.specs.Stored.{Left}
 use Rattle.recovery_stored.specs.After.{After, Based}
 use Rattle.recovery_stored.proofs.PageLaws.{page-raised, left-raised, whole-kept}
@@ -64,8 +64,8 @@ module _ (g : Geometry) (before after : List ℕ) (t b : ℕ) (mask : List ℕ) 
       record {
         long = long;
         others = others;
-        only = λ i h w. page i ∙ whole-kept g (pageIn g row i) (drop (i * pageSize g) mask) (s .left i h) (more i) (sym (ap (whole (g .main)) (page i)) ∙ w);
-        left = λ i h. subst (Left g) (sym (page i)) (left-raised g (pageIn g row i) (drop (i * pageSize g) mask) (s .left i h) (more i));
+        only = λ i h w. page i ∙ whole-kept g (s .is-valid) (pageIn g row i) (drop (i * pageSize g) mask) (s .left i h) (more i) (sym (ap (whole (g .main)) (page i)) ∙ w);
+        left = λ i h. subst (Left g) (sym (page i)) (left-raised g (s .is-valid) (pageIn g row i) (drop (i * pageSize g) mask) (s .left i h) (more i));
         unmarked = ap (isMarked g) q ∙ unmarked-raised g (s .is-valid) row mask bytes (page-long g (s .is-valid) before (s .array-long) b (s .below)) (s .unmarked);
       }
 
@@ -81,6 +81,6 @@ after-new g v c fits main size bytes before after b long others over =
       long = long;
       others = others;
       only = raised-same g v c fits main size bytes (blockIn g after b) over;
-      left = λ i h. record { page = copyPage g c i (main i); is-whole = page-whole g v c fits main size bytes i h; is-over = over i h };
+      left = λ i h. record { page = copyPage g c i (main i); long = copy-long g v c fits main size bytes i h; is-whole = page-whole g v c fits main size bytes i h; is-over = over i h };
       unmarked = raised-unmarked g v c fits main size bytes (blockIn g after b) over;
     }

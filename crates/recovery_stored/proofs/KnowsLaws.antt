@@ -18,12 +18,11 @@ use Rattle.bitmaps.proofs.BitmapLaws.{Bitmap, bits-none}
 use Rattle.copies.specs.Blocks.{blockIn, pageIn, mainIn, isMarked}
 use Rattle.copies.specs.Table.{bitmapOf, lists}
 use Rattle.copies.specs.Current.{currentTable, currentCopy, mountAnswer}
-use Rattle.copies.specs.Current as current
 use Rattle.copies.proofs.CompleteLaws.{complete-pages, table-complete, complete-number}
 use Rattle.copies.proofs.NumberLaws.{greatest-in}
 use Rattle.scan_found.specs.Contents.{entryOf}
 use Rattle.scan_found.specs.Found.{bitsAt}
-use Rattle.state.specs.State.{nextNumber, mounted, Mounted, heldBits}
+use Rattle.state.specs.State.{mounted, Mounted, heldBits}
 use Rattle.state.specs.declared.State.{State}
 use Rattle.state.proofs.HeldLaws.{free-table, free-entry}
 use Rattle.state.proofs.MountedLaws.{mounted-facts}
@@ -36,7 +35,7 @@ use Rattle.recovery_stored.specs.After.{Free}
 use Rattle.recovery_stored.specs.Knows.{Knows}
 
 pub mounted-knows : (g : Geometry) → Valid g → (array : List ℕ) → length array ≡ chipSize g → mountAnswer g array ≡ 0 → Knows g array (mountedState g array)
-unfolding mountedState current.nextNumber
+unfolding mountedState
 mounted-knows g v array long z =
     let t = blockOf (currentTable g array) in
     let r = right-table g array z in
@@ -85,7 +84,7 @@ module _ (g : Geometry) (array : List ℕ) (st : State) (s : Stored g array) (k 
   knows-mounted =
       subst (λ (x : State). mounted x (g .blocks) (g .logical) ≡ true)
       (sym (mounted-told st (k .status-one) refl refl refl (k .marked-is) (k .invalid-is) (k .map-is)))
-      (known-mounted g v array (s .array-long) (st .table) found (nextNumber st) (st .last) (k .last-below))
+      (known-mounted g v array (s .array-long) (st .table) found (st .number) (st .last) (k .last-below))
 
   pub knows-facts : Mounted st (g .blocks) (g .logical)
   knows-facts = mounted-facts st (g .blocks) (g .logical) (v .blocks-most) knows-mounted

@@ -35,9 +35,9 @@ module _ (g : Geometry) (v : Valid g) (array : List ℕ) (long : length array �
   row b = blockIn g array b
 
   -- the table's own pages are whole
-  table-left : (i : ℕ) → i < g .pages → Left g (pageIn g (row (st .table)) i)
-  table-left i h =
-      record { page = pageIn g (row (st .table)) i; is-whole = f .table-whole i h; is-over = over-refl (pageIn g (row (st .table)) i) (f .table-bytes i h) }
+  table-left : st .table < g .blocks → (i : ℕ) → i < g .pages → Left g (pageIn g (row (st .table)) i)
+  table-left there i h =
+      record { page = pageIn g (row (st .table)) i; long = page-long g v array long (st .table) there i h; is-whole = f .table-whole i h; is-over = over-refl (pageIn g (row (st .table)) i) (f .table-bytes i h) }
 
   -- FFh is any of them with all bits raised
   erased-left : st .table < g .blocks → (i : ℕ) → i < g .pages → Left g (replicate (pageSize g) 255)
@@ -45,6 +45,7 @@ module _ (g : Geometry) (v : Valid g) (array : List ℕ) (long : length array �
       let page = pageIn g (row (st .table)) i in
       record {
         page = page;
+        long = page-long g v array long (st .table) there i hi;
         is-whole = f .table-whole i hi;
         is-over = subst (λ (n : ℕ). Over page (replicate n 255)) (page-long g v array long (st .table) there i hi) (over-erased page (f .table-bytes i hi));
       }
@@ -53,7 +54,7 @@ module _ (g : Geometry) (v : Valid g) (array : List ℕ) (long : length array �
     pages-left : (b i : ℕ) → b < g .blocks → i < g .pages → isMarked g (row b) ≡ false → lists g (row (st .table)) b ≡ false → Left g (pageIn g (row b) i)
     pages-left b i hb hi m l =
         cases (eqb b (st .table))
-        (λ e. subst (λ (k : ℕ). Left g (pageIn g (row k) i)) (sym (eqb-true b (st .table) e)) (table-left i hi))
+        (λ e. subst (λ (k : ℕ). Left g (pageIn g (row k) i)) (sym (eqb-true b (st .table) e)) (table-left below i hi))
         (λ e. subst (Left g) (sym (f .erased b hb (eqb-false b (st .table) e) m l i hi)) (erased-left below i hi))
 
     pub formatted-stored : Stored g array

@@ -6,7 +6,7 @@ use mathlib.Core.Path.{_≡_}
 use lib.ListN.{length}
 use Rattle.geometry.specs.declared.Geometry.{Geometry}
 use Rattle.geometry.specs.Limits.{Valid}
-use Rattle.geometry.specs.Sizes.{chipSize}
+use Rattle.geometry.specs.Sizes.{pageSize, chipSize}
 use Rattle.pages.specs.Layout.{whole}
 use Rattle.pages.specs.Over.{Over}
 use Rattle.copies.specs.Blocks.{blockIn, pageIn, isMarked}
@@ -17,6 +17,7 @@ use Rattle.copies.specs.Current.{currentTable, mountAnswer}
 -- a page that programs and erases of this store can leave: a whole page with bits raised; FFh is one
 pub record Left (g : Geometry) (x : List ℕ) : Type 0 where
   pub page : List ℕ
+  pub long : length page ≡ pageSize g
   pub is-whole : whole (g .main) page ≡ true
   pub is-over : Over page x
 

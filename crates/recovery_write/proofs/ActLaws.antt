@@ -144,7 +144,7 @@ module _ (s : Setting) (mask-bytes : Bytes (s .mask)) (first : Line) (called : C
     pub long-A : length A ≡ chipSize g
     pub before : List ArrayOperation
     pub state-is : st ≡ phase.moved s mask-bytes first called st₀ c book marked₀ failed₀ marks₀ agrees proper (st .number) (st .invalid)
-    pub rest : Rest (st .number) (st .invalid) A before
+    pub rest : Rest (nextNumber st) (st .invalid) A before
     pub clean : failed ≡ false → st .invalid ≡ st₀ .invalid
     pub block : ℕ
     pub below : block < g .blocks
@@ -156,7 +156,7 @@ module _ (s : Setting) (mask-bytes : Bytes (s .mask)) (first : Line) (called : C
     pub line-high : line .chip .interface .protected ≡ 0
     pub cycles : List Cycle
     pub started : List ArrayOperation
-    pub stands : Paused g A before block (dataPages (st .number)) page (line .chip) started
+    pub stands : Paused g A before block (dataPages (nextNumber st)) page (line .chip) started
     pub r-is : r ≡ running (onPage page (filling block (nextNumber st) (dataCursor failed))) (taken st)
     pub p-is : p ≡ progress line Passed cycles started
 
@@ -184,7 +184,7 @@ module _ (s : Setting) (mask-bytes : Bytes (s .mask)) (first : Line) (called : C
       pub before : List ArrayOperation
       pub state-is : st ≡ tables.moved s mask-bytes first called st₀ c book marked₀ failed₀ marks₀ agrees proper st₁ true p₁ d (st .number) (st .invalid)
       pub table : ℕ
-      pub rest : tables.Rest s mask-bytes first called st₀ c book marked₀ failed₀ marks₀ agrees proper st₁ true p₁ d (st .number) (st .invalid) table A before
+      pub rest : tables.Rest s mask-bytes first called st₀ c book marked₀ failed₀ marks₀ agrees proper st₁ true p₁ d (nextNumber st) (st .invalid) table A before
       pub block : ℕ
       pub below : block < g .blocks
       pub may : permitted (st .marked) (st .invalid) (heldBits st₁ (g .logical)) block ≡ true
@@ -195,7 +195,7 @@ module _ (s : Setting) (mask-bytes : Bytes (s .mask)) (first : Line) (called : C
       pub line-high : line .chip .interface .protected ≡ 0
       pub cycles : List Cycle
       pub started : List ArrayOperation
-      pub stands : Paused g A before block (tablePages (st .number) (st .invalid)) page (line .chip) started
+      pub stands : Paused g A before block (tablePages (nextNumber st) (st .invalid)) page (line .chip) started
       pub r-is : r ≡ running (onPage page (filling block (nextNumber st) tableCursor)) (taken st)
       pub p-is : p ≡ progress line Passed cycles started
 
@@ -318,7 +318,7 @@ module _ (s : Setting) (mask-bytes : Bytes (s .mask)) (first : Line) (called : C
   module _ {r : Running} {p : Progress} (w : InData r p) where
     abbrev dataNext : Progress
     dataNext =
-        pageFilled s (w .block) (copy dataKind (u .logical) (w .st .number)) (w .page) (dataSource g (u .old) (u .first) (u .count) (u .bytes) (w .page)) (progress (w .line) Passed (w .cycles) (w .started))
+        pageFilled s (w .block) (copy dataKind (u .logical) (nextNumber (w .st))) (w .page) (dataSource g (u .old) (u .first) (u .count) (u .bytes) (w .page)) (progress (w .line) Passed (w .cycles) (w .started))
 
     abbrev dataFill : Cursor
     dataFill = filling (w .block) (nextNumber (w .st)) (dataCursor (w .failed))
@@ -463,7 +463,7 @@ module _ (s : Setting) (mask-bytes : Bytes (s .mask)) (first : Line) (called : C
     -- table, step 2
     module _ {r : Running} {p : Progress} (w : InTable st₁ p₁ d r p) where
       abbrev tableNext : Progress
-      tableNext = pageFilled s (w .block) (tableCopy (w .st .number)) (w .page) (tableSource g (w .st .invalid) (w .page)) (progress (w .line) Passed (w .cycles) (w .started))
+      tableNext = pageFilled s (w .block) (tableCopy (nextNumber (w .st))) (w .page) (tableSource g (w .st .invalid) (w .page)) (progress (w .line) Passed (w .cycles) (w .started))
 
       abbrev tableFill : Cursor
       tableFill = filling (w .block) (nextNumber (w .st)) tableCursor

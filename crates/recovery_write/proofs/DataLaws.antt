@@ -1,9 +1,9 @@
 -- The data fills of a request: what holds before each of them, and how they end. Assumes nothing.
-use Prim.Native.Nat.{ℕ, _+_, _*_, _≤_, _<_, _^_}
+use Prim.Native.Nat.{ℕ, _+_, _≤_, _<_}
 use mathlib.Core.Bool.{Bool, true, false, cond}
 use mathlib.Core.List.{List, [], _++_}
 use mathlib.Core.Logic.{_⊎_, inl, inr, ⊎-elim}
-use mathlib.Core.Path.{_≡_, refl, sym, ap, ap₂, subst, _∙_}
+use mathlib.Core.Path.{_≡_, refl, sym, ap, subst, _∙_}
 use native.Mathlib.Omega.{arith}
 use borrow.Table.Steps.{cases}
 use borrow.Author.Tests.{eqb-true, eqb-false, ne-eqb}
@@ -24,8 +24,8 @@ use Rattle.bus_polling.specs.declared.Outcome.the-variants.{Passed}
 use Rattle.bus_polling.proofs.OutcomeLaws.{passed-answered, failed-answered, passed-unfailed, unfailed-end}
 use Rattle.operations.specs.Ends.{Called}
 use Rattle.operations.specs.Trace.{ArrayOperation}
-use Rattle.pages.specs.Layout.{dataKind, kindOf, isDataKind, numberWidth}
-use Rattle.pages.proofs.LayoutLaws.{data-is, data-width}
+use Rattle.pages.specs.Layout.{dataKind, kindOf, isDataKind}
+use Rattle.pages.proofs.LayoutLaws.{data-is}
 use Rattle.copies.specs.Blocks.{blockIn, isMarked, isComplete}
 use Rattle.copies.specs.Pick.{at}
 use Rattle.copies.specs.Table.{lists}
@@ -35,7 +35,6 @@ use Rattle.state_choose.specs.Choose.{permitted}
 use Rattle.state.specs.State.{blank, heldBits, nextNumber, numberEnd, numbersLeft, taken, withInvalid, withCopy}
 use Rattle.state.specs.declared.State.{State}
 use Rattle.state.proofs.HeldLaws.{held-table, held-entry}
-use Rattle.request.specs.Call.{stopAnswer}
 use Rattle.request.proofs.CallLaws.{stop-answer, stop-silent, stop-cut}
 use Rattle.progress.specs.Progress.{Progress, progress, lineOf}
 use Rattle.progress.specs.Steps.{resumed}
@@ -49,7 +48,7 @@ use Rattle.mount_laws.proofs.StateLaws.{right-at}
 use Rattle.write_changes.specs.Changes.{Update, Copied, copied, copyFilled, stoppedAt, copiesFilled}
 use Rattle.write_changes.proofs.LoopLaws.{Copying, copies-end}
 use Rattle.recovery_stored.specs.Stored.{Stored}
-use Rattle.recovery_stored.specs.After.{Below, Free, MarksSame, Calm, Renewed}
+use Rattle.recovery_stored.specs.After.{Below, Free, MarksSame, Renewed}
 use Rattle.recovery_stored.proofs.StoredLaws.{same-at}
 use Rattle.recovery_stored.proofs.KnowsLaws.{knows-facts, knows-marked, knows-invalid, knows-bits, knows-entry}
 use Rattle.recovery_stored.proofs.RenewedLaws.{near-data, data-below, data-label}
@@ -165,7 +164,7 @@ module _ (s : Setting) (mask-bytes : Bytes (s .mask)) (first : Line) (called : C
     pub sound : Sound s p
     pub long : Long (chipSize g) p
     pub high : lineOf p ≡ 0
-    pub rest : Rest (st .number) (st .invalid) (p .line .chip .array) (p .started)
+    pub rest : Rest (nextNumber st) (st .invalid) (p .line .chip .array) (p .started)
     pub clean : failed ≡ false → st .invalid ≡ st₀ .invalid
 
   -- after a data fill that passed: the block filled holds the current copy
@@ -183,7 +182,7 @@ module _ (s : Setting) (mask-bytes : Bytes (s .mask)) (first : Line) (called : C
     pub marks : MarksSame g array₀ (p .line .chip .array)
     pub bits : Bitmap (g .blocks) (st .invalid)
     pub more : (b : ℕ) → bitAt (st₀ .invalid) b ≡ true → bitAt (st .invalid) b ≡ true
-    pub numbers : Below g (p .line .chip .array) (st .number)
+    pub numbers : Below g (p .line .chip .array) (nextNumber st)
     pub copies : (l : ℕ) → l < g .logical → (l ≡ logical → ⊥) → currentCopy g (p .line .chip .array) t l ≡ currentCopy g array₀ t l
     pub copy-is : currentCopy g (p .line .chip .array) t logical ≡ at block
     pub valid : (b : ℕ) → bitAt held b ≡ true → bitAt (st₀ .invalid) b ≡ false → bitAt (st .invalid) b ≡ false
@@ -203,7 +202,7 @@ module _ (s : Setting) (mask-bytes : Bytes (s .mask)) (first : Line) (called : C
     pub stopped : (d .answer ≡ 0 → ⊥) → d .state ≡ blank 2
 
   -- the start
-  rest-first : Rest (st₀ .number) (st₀ .invalid) array₀ []
+  rest-first : Rest (nextNumber st₀) (st₀ .invalid) array₀ []
   unfolding Each Spared failedIn
   rest-first =
       record {
@@ -244,7 +243,7 @@ module _ (s : Setting) (mask-bytes : Bytes (s .mask)) (first : Line) (called : C
   module _ (st : State) (failed : Bool) (p : Progress) (m : Mid st failed p) (number-fits : nextNumber st < numberEnd) (b : ℕ) (below : b < g .blocks)
       (may : permitted (st .marked) (st .invalid) held b ≡ true) where
     abbrev n : ℕ
-    n = st .number
+    n = nextNumber st
 
     abbrev invalid : List ℕ
     invalid = st .invalid

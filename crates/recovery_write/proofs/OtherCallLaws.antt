@@ -14,6 +14,7 @@ use Rattle.bus_polling.specs.Outcomes.{isPassed, isFailed, isIllegal, isCut, is
 use Rattle.bus_polling.specs.declared.Outcome.the-variants.{Passed}
 use Rattle.operations.specs.Ends.{Called}
 use Rattle.operations.specs.Trace.{ArrayOperation}
+use Rattle.state.specs.State.{nextNumber}
 use Rattle.state.specs.declared.State.{State}
 use Rattle.progress.specs.Progress.{Progress, progress}
 use Rattle.fill_cursor.specs.declared.Running.{Running}
@@ -132,7 +133,7 @@ module _ (g : Geometry) (mask fates : List ℕ) (mask-bytes : Bytes mask) (first
           sound = here-sound;
           long = called' .array-long;
           high = high';
-          rest = subst (λ (a : List ℕ). phase.Rest s' mask-bytes' (holding l' (first .chip .array)) first-called' st₀ c book marked₀ failed₀ marks₀ agrees proper (st .number) (st .invalid) a (p .started)) (sym same) (rest-any (st .number) (st .invalid) (p .line .chip .array) (p .started) (m .rest));
+          rest = subst (λ (a : List ℕ). phase.Rest s' mask-bytes' (holding l' (first .chip .array)) first-called' st₀ c book marked₀ failed₀ marks₀ agrees proper (nextNumber st) (st .invalid) a (p .started)) (sym same) (rest-any (nextNumber st) (st .invalid) (p .line .chip .array) (p .started) (m .rest));
           clean = m .clean;
         }
 
@@ -147,8 +148,8 @@ module _ (g : Geometry) (mask fates : List ℕ) (mask-bytes : Bytes mask) (first
           long = called' .array-long;
           high = high';
           table = m .table;
-          rest = subst (λ (a : List ℕ). tables.Rest s' mask-bytes' (holding l' (first .chip .array)) first-called' st₀ c book marked₀ failed₀ marks₀ agrees proper st₁ f₁ (standing l' (p₁ .line .chip .array) (p₁ .started)) (done-any st₁ f₁ p₁ d) (st .number) (st .invalid) (m .table) a (p .started)) (sym same)
-              (table-rest-any st₁ f₁ p₁ d (st .number) (st .invalid) (m .table) (p .line .chip .array) (p .started) (m .rest));
+          rest = subst (λ (a : List ℕ). tables.Rest s' mask-bytes' (holding l' (first .chip .array)) first-called' st₀ c book marked₀ failed₀ marks₀ agrees proper st₁ f₁ (standing l' (p₁ .line .chip .array) (p₁ .started)) (done-any st₁ f₁ p₁ d) (nextNumber st) (st .invalid) (m .table) a (p .started)) (sym same)
+              (table-rest-any st₁ f₁ p₁ d (nextNumber st) (st .invalid) (m .table) (p .line .chip .array) (p .started) (m .rest));
         }
 
     -- wherever an open request stands
@@ -165,7 +166,7 @@ module _ (g : Geometry) (mask fates : List ℕ) (mask-bytes : Bytes mask) (first
           long-A = w .long-A;
           before = w .before;
           state-is = w .state-is;
-          rest = rest-any (w .st .number) (w .st .invalid) (w .A) (w .before) (w .rest);
+          rest = rest-any (nextNumber (w .st)) (w .st .invalid) (w .A) (w .before) (w .rest);
           clean = w .clean;
           block = w .block;
           below = w .below;
@@ -177,8 +178,8 @@ module _ (g : Geometry) (mask fates : List ℕ) (mask-bytes : Bytes mask) (first
           line-high = high';
           cycles = cs;
           started = p .started;
-          stands = subst (Paused g (w .A) (w .before) (w .block) (act.dataPages s' mask-bytes' (holding l' (first .chip .array)) first-called' st₀ c book marked₀ failed₀ marks₀ agrees proper (w .st .number)) (w .page) (l' .chip)) (sym (ap (λ (z : Progress). z .started) (w .p-is)))
-              (paused-chip g (w .A) (w .before) (w .block) (act.dataPages s' mask-bytes' (holding l' (first .chip .array)) first-called' st₀ c book marked₀ failed₀ marks₀ agrees proper (w .st .number)) (w .page) (w .line .chip) (l' .chip) (w .started)
+          stands = subst (Paused g (w .A) (w .before) (w .block) (act.dataPages s' mask-bytes' (holding l' (first .chip .array)) first-called' st₀ c book marked₀ failed₀ marks₀ agrees proper (nextNumber (w .st))) (w .page) (l' .chip)) (sym (ap (λ (z : Progress). z .started) (w .p-is)))
+              (paused-chip g (w .A) (w .before) (w .block) (act.dataPages s' mask-bytes' (holding l' (first .chip .array)) first-called' st₀ c book marked₀ failed₀ marks₀ agrees proper (nextNumber (w .st))) (w .page) (w .line .chip) (l' .chip) (w .started)
               (same ∙ ap (λ (z : Progress). z .line .chip .array) (w .p-is)) (history ∙ ap (λ (z : Progress). z .line .chip .history) (w .p-is)) (w .stands));
           r-is = w .r-is;
           p-is = refl;
@@ -197,7 +198,7 @@ module _ (g : Geometry) (mask fates : List ℕ) (mask-bytes : Bytes mask) (first
           before = w .before;
           state-is = w .state-is;
           table = w .table;
-          rest = table-rest-any st₁ true p₁ d (w .st .number) (w .st .invalid) (w .table) (w .A) (w .before) (w .rest);
+          rest = table-rest-any st₁ true p₁ d (nextNumber (w .st)) (w .st .invalid) (w .table) (w .A) (w .before) (w .rest);
           block = w .block;
           below = w .below;
           may = w .may;
@@ -208,8 +209,8 @@ module _ (g : Geometry) (mask fates : List ℕ) (mask-bytes : Bytes mask) (first
           line-high = high';
           cycles = cs;
           started = p .started;
-          stands = subst (Paused g (w .A) (w .before) (w .block) (act.tablePages s' mask-bytes' (holding l' (first .chip .array)) first-called' st₀ c book marked₀ failed₀ marks₀ agrees proper (w .st .number) (w .st .invalid)) (w .page) (l' .chip)) (sym (ap (λ (z : Progress). z .started) (w .p-is)))
-              (paused-chip g (w .A) (w .before) (w .block) (act.tablePages s' mask-bytes' (holding l' (first .chip .array)) first-called' st₀ c book marked₀ failed₀ marks₀ agrees proper (w .st .number) (w .st .invalid)) (w .page) (w .line .chip) (l' .chip) (w .started)
+          stands = subst (Paused g (w .A) (w .before) (w .block) (act.tablePages s' mask-bytes' (holding l' (first .chip .array)) first-called' st₀ c book marked₀ failed₀ marks₀ agrees proper (nextNumber (w .st)) (w .st .invalid)) (w .page) (l' .chip)) (sym (ap (λ (z : Progress). z .started) (w .p-is)))
+              (paused-chip g (w .A) (w .before) (w .block) (act.tablePages s' mask-bytes' (holding l' (first .chip .array)) first-called' st₀ c book marked₀ failed₀ marks₀ agrees proper (nextNumber (w .st)) (w .st .invalid)) (w .page) (w .line .chip) (l' .chip) (w .started)
               (same ∙ ap (λ (z : Progress). z .line .chip .array) (w .p-is)) (history ∙ ap (λ (z : Progress). z .line .chip .history) (w .p-is)) (w .stands));
           r-is = w .r-is;
           p-is = refl;

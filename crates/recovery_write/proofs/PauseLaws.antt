@@ -48,7 +48,7 @@ module _ (s : Setting) (mask-bytes : Bytes (s .mask)) (first : Line) (first-call
   -- the fill of block b began on array A, when the state was st
   module _ (st : State) (failed : Bool) (number-fits : nextNumber st < numberEnd) (A : List ℕ) (long-A : length A ≡ chipSize g) (before : List ArrayOperation)
       (state-is : st ≡ phase.moved s mask-bytes first first-called st₀ c book marked₀ failed₀ marks₀ agrees proper (st .number) (st .invalid))
-      (rest : phase.Rest s mask-bytes first first-called st₀ c book marked₀ failed₀ marks₀ agrees proper (st .number) (st .invalid) A before)
+      (rest : phase.Rest s mask-bytes first first-called st₀ c book marked₀ failed₀ marks₀ agrees proper (nextNumber st) (st .invalid) A before)
       (clean : failed ≡ false → st .invalid ≡ st₀ .invalid)
       (b : ℕ) (below : b < g .blocks) (may : permitted (st .marked) (st .invalid) (heldBits st₀ (g .logical)) b ≡ true) where
     abbrev from : Progress
@@ -62,9 +62,9 @@ module _ (s : Setting) (mask-bytes : Bytes (s .mask)) (first : Line) (first-call
     main = entered g c book (u .logical)
 
     abbrev pages : ℕ → List ℕ
-    pages i = copyPage g (copy dataKind (u .logical) (st .number)) i (main i)
+    pages i = copyPage g (copy dataKind (u .logical) (nextNumber st)) i (main i)
 
-    meant : Meant s A b (copy dataKind (u .logical) (st .number)) (dataSource g (u .old) (u .first) (u .count) (u .bytes)) pages
+    meant : Meant s A b (copy dataKind (u .logical) (nextNumber st)) (dataSource g (u .old) (u .first) (u .count) (u .bytes)) pages
     meant = phase.meant s mask-bytes first first-called st₀ c book marked₀ failed₀ marks₀ agrees proper st failed from mid number-fits b below may
 
     -- it stands at page n, and no cycle is left: what the chip shows
@@ -80,7 +80,7 @@ module _ (s : Setting) (mask-bytes : Bytes (s .mask)) (first : Line) (first-call
     -- it stands at page n, and that page is filled
     module _ (n : ℕ) (page-below : n < g .pages) (started : List ArrayOperation) (w : Paused g A before b pages n (l .chip) started) (cs : List Cycle) where
       abbrev next : Progress
-      next = pageFilled s b (copy dataKind (u .logical) (st .number)) n (dataSource g (u .old) (u .first) (u .count) (u .bytes) n) (progress l Passed cs started)
+      next = pageFilled s b (copy dataKind (u .logical) (nextNumber st)) n (dataSource g (u .old) (u .first) (u .count) (u .bytes) n) (progress l Passed cs started)
 
       next-long : Long (chipSize g) next
       next-long = page-keeps s (Long (chipSize g)) (long-kept s (chipSize g)) b _ n _ (progress l Passed cs started) (called .array-long)

@@ -1,16 +1,16 @@
 -- The table fills of a request whose data fill has passed after a failure: what holds before each of them, and how they end.
 -- Assumes nothing.
-use Prim.Native.Nat.{ℕ, _+_, _*_, _≤_, _<_}
+use Prim.Native.Nat.{ℕ, _+_, _≤_, _<_}
 use mathlib.Core.Bool.{Bool, true, false, cond}
-use mathlib.Core.List.{List, [], _++_}
+use mathlib.Core.List.{List, _++_}
 use mathlib.Core.Logic.{_⊎_, inl, inr, ⊎-elim}
-use mathlib.Core.Path.{_≡_, refl, sym, ap, ap₂, subst, _∙_}
+use mathlib.Core.Path.{_≡_, refl, sym, ap, subst, _∙_}
 use native.Mathlib.Omega.{arith}
 use borrow.Table.Steps.{cases}
-use borrow.Author.Tests.{eqb-true, eqb-false, ltb-true, lt-ltb, ne-eqb}
-use lib.Dec.{eqb, ltb}
-use lib.ListN.{length, getD, set, replicate, length-set}
-use lib.Seq.{getD-set-same, getD-set-other, ext-getD}
+use borrow.Author.Tests.{eqb-true, eqb-false, ne-eqb}
+use lib.Dec.{eqb}
+use lib.ListN.{length, getD, set, replicate}
+use lib.Seq.{getD-set-same, getD-set-other}
 use Rattle.geometry.specs.declared.Geometry.{Geometry}
 use Rattle.geometry.specs.Limits.{Valid}
 use Rattle.geometry.specs.Sizes.{chipSize}
@@ -29,9 +29,9 @@ use Rattle.copies.specs.Blocks.{blockIn, mainIn, isMarked, isComplete}
 use Rattle.copies.specs.Pick.{at}
 use Rattle.copies.specs.Table.{lists, bitmapOf}
 use Rattle.copies.specs.Current.{currentTable, currentCopy, reading}
-use Rattle.scan_found.specs.Contents.{entryOf, tabulate, mapOf}
+use Rattle.scan_found.specs.Contents.{entryOf, mapOf}
 use Rattle.scan_found.specs.Found.{bitsAt}
-use Rattle.scan_found.proofs.MapLaws.{length-tabulate, getD-tabulate}
+use Rattle.scan_found.proofs.MapLaws.{length-tabulate}
 use Rattle.state_choose.specs.Choose.{permitted}
 use Rattle.state.specs.State.{blank, heldBits, nextNumber, numberEnd, numbersLeft, taken, withInvalid, withTable}
 use Rattle.state.specs.declared.State.{State}
@@ -42,29 +42,29 @@ use Rattle.progress.specs.Progress.{Progress, lineOf}
 use Rattle.progress.specs.Steps.{resumed}
 use Rattle.fill.specs.Fill.{copyPage, tableCopy, tableMain, tableSource, tableFilled}
 use Rattle.fill.proofs.KeepLaws.{filled-keeps}
-use Rattle.fill_tables.specs.Tables.{Tabled, tabled, tablesFilled}
+use Rattle.fill_tables.specs.Tables.{tabled, tablesFilled}
 use Rattle.damage.specs.Run.{Labelled, Meant, from-caller, Sound, Filled, fillMost}
 use Rattle.damage.specs.Touched.{Touched}
 use Rattle.damage.proofs.CopyLaws.{copy-long, copy-bytes}
 use Rattle.recovery_write.proofs.LongLaws.{Long, long-kept}
 use Rattle.write_changes.proofs.LoopLaws.{Tabling, tables-end}
 use Rattle.recovery_stored.specs.Stored.{Stored}
-use Rattle.recovery_stored.specs.After.{Below, Free, MarksSame, Calm, Listed}
+use Rattle.recovery_stored.specs.After.{Below, Free, MarksSame, Listed}
 use Rattle.format_laws.proofs.TableBlockLaws.{table-label, table-long, table-bytes}
 use Rattle.recovery_stored.proofs.StoredLaws.{same-at}
 use Rattle.recovery_stored.proofs.FollowLaws.{marks-follow, map-renewed}
 use Rattle.recovery_stored.proofs.KnowsLaws.{knows-marked, knows-invalid, knows-entry}
 use Rattle.recovery_stored.proofs.ListedLaws.{near-table, bits-are, table-below}
 use Rattle.recovery.specs.Book.{Book, Same, Change, entered}
-use Rattle.recovery.specs.Copy.{sentPages, hasCopy}
+use Rattle.recovery.specs.Copy.{sentPages}
 use Rattle.recovery.specs.Calls.{failedAfter}
 use Rattle.recovery.specs.Recovery.{Spared}
 use Rattle.recovery.proofs.CopyLaws.{has-some}
 use Rattle.recovery.proofs.SparedLaws.{failed-after-append, spared-append, spared-steady}
 use Rattle.write_laws.specs.Changing.{ChangeAnswer, is-done, is-worn, is-spent, is-silent, is-cut}
-use Rattle.recovery_write.specs.Changed.{Agrees, MarkedBy, Proper, updateOf, arrayOf, Changed}
+use Rattle.recovery_write.specs.Changed.{Agrees, MarkedBy, Proper, updateOf, Changed}
 use Rattle.recovery_write.proofs.ContentLaws as content
-use Rattle.recovery_write.proofs.CopyLaws.{Permitted, permitted-so, now-set, still-set, was-clear, still-clear, sent-elsewhere}
+use Rattle.recovery_write.proofs.CopyLaws.{Permitted, permitted-so, now-set, still-set, still-clear, sent-elsewhere}
 use Rattle.recovery_write.proofs.TryLaws as tries
 use Rattle.recovery_write.proofs.DataLaws as phase
 use Rattle.recovery_write.proofs.DataLaws.{Halted}
@@ -201,7 +201,7 @@ module _ (s : Setting) (mask-bytes : Bytes (s .mask)) (first : Line) (called : C
     pub long : Long (chipSize g) p
     pub high : lineOf p ≡ 0
     pub table : ℕ
-    pub rest : Rest (st .number) (st .invalid) table (p .line .chip .array) (p .started)
+    pub rest : Rest (nextNumber st) (st .invalid) table (p .line .chip .array) (p .started)
 
   pub mid-first : Mid st₁ p₁
   mid-first =
@@ -244,7 +244,7 @@ module _ (s : Setting) (mask-bytes : Bytes (s .mask)) (first : Line) (called : C
   -- the fill of a permitted block b
   module _ (st : State) (p : Progress) (m : Mid st p) (number-fits : nextNumber st < numberEnd) (b : ℕ) (below : b < g .blocks) (may : permitted (st .marked) (st .invalid) held b ≡ true) where
     abbrev n : ℕ
-    n = st .number
+    n = nextNumber st
 
     abbrev invalid : List ℕ
     invalid = st .invalid

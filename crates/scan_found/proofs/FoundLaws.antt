@@ -23,7 +23,7 @@ use Rattle.copies.specs.Pick.{nothing, at, better, pick}
 use Rattle.scan_summary.specs.Summary.{saysComplete, saysNumber}
 use Rattle.scan_summary.specs.declared.Summary.{Summary}
 use Rattle.copies.proofs.NumberLaws.{none-greatest}
-use Rattle.scan_summary.proofs.BlockLaws.{says-complete, says-number, says-greatest, greatest-fits, says-marked, complete-label}
+use Rattle.scan_summary.proofs.BlockLaws.{says-complete, says-number, says-greatest, says-marked, complete-label}
 use Rattle.scan_found.specs.Found.{markNoted, isGreater, withGreatest, greatestNoted, isNewer, withTable, tableNoted, noted, foundTo, summaryAt, rightAt, bitsAt, marksTo}
 use Rattle.scan_found.specs.declared.Found.{Found}
 
@@ -175,18 +175,6 @@ module _ (g : Geometry) (two : 2 ≤ g .pages) (array : List ℕ) where
 
   pub found-greatest : (n : ℕ) → foundTo g array n .greatest ≡ greatestBelow g array n
   found-greatest n = ⊎-elim (λ u. u .greatest-none ∙ sym (u .below-none)) (λ r. r .greatest-below) (most-found n)
-
-  -- on an array of bytes
-  below-fits : Bytes array → (n : ℕ) → greatestBelow g array n < 256 ^ 4
-  unfolding greatestBelow greatest
-  below-fits b zero = omega arith
-  below-fits b (suc n) =
-      let less = below-fits b n in
-      let here = greatest-fits g (blockIn g array n) (bytes-part (n * blockSize g) (blockSize g) array b) (g .pages) in
-      cases (isMarked g (blockIn g array n)) (λ t. rw t (omega (arith, less))) (λ t. rw t (omega (arith, less, here)))
-
-  pub found-fits : Bytes array → (n : ℕ) → foundTo g array n .greatest < 256 ^ 4
-  found-fits b n = subst (λ (k : ℕ). k < 256 ^ 4) (sym (found-greatest n)) (below-fits b n)
 
 -- what is known of the current table
 pub record Kept : Type 0 where

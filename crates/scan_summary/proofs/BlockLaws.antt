@@ -1,5 +1,5 @@
 -- The summary of a block's pages says what the definitions say of the block. Assumes nothing.
-use Prim.Native.Nat.{ℕ, zero, suc, _-_, _*_, max, _≤_, _<_, _^_}
+use Prim.Native.Nat.{ℕ, zero, suc, _-_, max, _≤_}
 use mathlib.Core.Bool.{Bool, true, false, cond, false≢true}
 use mathlib.Core.List.{List}
 use mathlib.Core.Path.{_≡_, refl, sym, ap, subst, _∙_}
@@ -8,12 +8,9 @@ use borrow.Table.Steps.{cases}
 use borrow.Author.Tests.{eq-eqb, ne-eqb, le-ltb}
 use lib.Dec.{eqb}
 use Rattle.geometry.specs.declared.Geometry.{Geometry}
-use Rattle.geometry.specs.Sizes.{pageSize}
-use Rattle.cells.specs.Bytes.{Bytes}
-use Rattle.cells.proofs.PartLaws.{bytes-part}
 use Rattle.pages.specs.Layout.{Label, label, labelOf, kindOf, numberWidth}
 use Rattle.bools.proofs.BoolLaws.{unless}
-use Rattle.pages.proofs.LayoutLaws.{whole-width, width-zero, number-fits}
+use Rattle.pages.proofs.LayoutLaws.{whole-parts, width-zero}
 use Rattle.copies.specs.Blocks.{pageIn, agrees, wholeIn, labelIn, completeTo, isMarked, isComplete, markByte, anyTo, greatestTo, hasNumber, greatest}
 use Rattle.scan_summary.specs.Summary.{blankSummary, broken, summed, stepped, wholeStep, markedBy, saysComplete, saysNumber}
 use Rattle.scan_summary.specs.declared.Summary.{Summary}
@@ -205,16 +202,6 @@ module _ (g : Geometry) (block : List ℕ) where
       subst (λ (k : ℕ). saysNumber (summed g block k) ≡ cond (isMarked g block) false (anyTo g block k)) (more-than-one (g .pages) h)
       (number-after (g .pages - 2))
 
-  -- the numbers on pages of bytes have four of them
-  pub greatest-fits : Bytes block → (n : ℕ) → greatestTo g block n < 256 ^ 4
-  unfolding greatestTo
-  greatest-fits b zero = omega arith
-  greatest-fits b (suc n) =
-      let less = greatest-fits b n in
-      cases (wholeIn g block n)
-      (λ t. rw t (omega (arith, less, number-fits (g .main) (pageIn g block n) (bytes-part (n * pageSize g) (pageSize g) block b))))
-      (λ t. rw t less)
-
   -- the greatest number, where there is one
   pub says-greatest : 2 ≤ g .pages → hasNumber g block ≡ true → summed g block (g .pages) .greatest ≡ greatest g block
   unfolding hasNumber greatest
@@ -235,7 +222,7 @@ module _ (g : Geometry) (block : List ℕ) where
   unfolding labelOf
   no-kind w e =
       let z : numberWidth (kindOf (g .main) (pageIn g block 0)) ≡ 0 = ap numberWidth e ∙ width-zero in
-      omega (arith, z, whole-width (g .main) (pageIn g block 0) w)
+      omega (arith, z, whole-parts (g .main) (pageIn g block 0) w .width)
 
   pub complete-label : 2 ≤ g .pages → isComplete g block ≡ true → Labelled (summed g block (g .pages))
   unfolding isComplete

@@ -14,18 +14,18 @@ abbrev pub blank : ℕ → State
 blank status =
     record { status = status; table = 0; last = 0; number = 0; marked = replicate 512 0; invalid = replicate 512 0; map = replicate 4096 0 }
 
--- a mounted state: next number, table's block, block filled last, factory marks, invalid blocks, map
+-- a mounted state: one less than the next number, table's block, block filled last, factory marks, invalid blocks, map
 abbrev pub mountedWith : ℕ → ℕ → ℕ → List ℕ → List ℕ → List ℕ → State
 mountedWith n table last marked invalid map =
     record { status = 1; table = table; last = last; number = n; marked = marked; invalid = invalid; map = map }
 
--- the next number
+-- the next number: the state holds one less, the greatest found or taken, 0 for none
 abbrev pub nextNumber : State → ℕ
-nextNumber s = s .number
+nextNumber s = s .number + 1
 
--- the numbers end below 4,294,967,296 ("spent")
+-- the numbers end below 18,446,744,073,709,551,616 ("spent")
 abbrev pub numberEnd : ℕ
-numberEnd = 4294967296
+numberEnd = 18446744073709551616
 
 abbrev pub numbersLeft : State → ℕ
 numbersLeft s = numberEnd - nextNumber s
@@ -33,13 +33,14 @@ numbersLeft s = numberEnd - nextNumber s
 abbrev pub spent : State → Bool
 spent s = leb numberEnd (nextNumber s)
 
--- the number is taken
+-- another number
 abbrev pub withNumber : ℕ → State → State
 withNumber n s =
     record { status = s .status; table = s .table; last = s .last; number = n; marked = s .marked; invalid = s .invalid; map = s .map }
 
+-- the next number is taken
 abbrev pub taken : State → State
-taken s = withNumber (nextNumber s + 1) s
+taken s = withNumber (nextNumber s) s
 
 -- a block that failed is invalid
 abbrev pub withInvalid : ℕ → State → State

@@ -7,8 +7,8 @@ ghost use Rattle.bitmaps.specs.Bitmap.{withBit};
 ghost use Rattle.state_choose.specs.Choose.{chosen};
 ghost use Rattle.state.specs.State.{blank, mountedWith, nextNumber, numberEnd, spent, taken, withInvalid, withCopy, withTable, heldBits, emptyFrom, soundBlock, soundFrom, soundEntries, mounted, freeBlocks};
 
-// The numbers end below this.
-const NUMBER_END: u64 = 4294967296;
+// The last sequence number: all 64 bits set.
+const LAST_NUMBER: u64 = 18446744073709551615;
 
 // What a mount found and the fills since changed. It goes in by value and comes back.
 pub struct State {
@@ -18,7 +18,7 @@ pub struct State {
     pub table: usize,
     // The block filled last.
     pub last: usize,
-    // The next sequence number.
+    // One less than the next sequence number: the greatest found or taken, 0 for none.
     pub number: u64,
     // Factory marks and invalid blocks, one bit a block.
     pub marked: [u8; 512],
@@ -64,7 +64,7 @@ impl State {
         }
     }
 
-    // A mounted state whose next number is one above the greatest found, 0 if none was.
+    // A mounted state whose next number is one above the greatest found, which is 0 if none was.
     pub fn mounted_above(
         greatest: u64,
         table: usize,
@@ -73,14 +73,13 @@ impl State {
         invalid: [u8; 512],
         map: [u16; 4096],
     ) -> Self
-        requires { ⌜ greatest < numberEnd ⌝ }
-        ensures { λ r. ⌜ r ≡ mountedWith (greatest + 1) table last marked invalid map ⌝ }
+        ensures { λ r. ⌜ r ≡ mountedWith greatest table last marked invalid map ⌝ }
     {
         Self {
             status: 1,
             table,
             last,
-            number: greatest + 1,
+            number: greatest,
             marked,
             invalid,
             map,
@@ -89,9 +88,11 @@ impl State {
 
     // The next number.
     pub fn next_number(self) -> u64
+        requires { ⌜ nextNumber self < numberEnd ⌝ }
         ensures { λ r. ⌜ r ≡ nextNumber self ⌝ }
     {
-        self.number
+        let number = self.number;
+        number + 1
     }
 
     // Whether no number is left.
@@ -99,7 +100,7 @@ impl State {
         ensures { λ r. ⌜ r ≡ spent self ⌝ }
     {
         let number = self.number;
-        NUMBER_END <= number
+        number == LAST_NUMBER
     }
 
     // The state after its next number was taken.

@@ -40,7 +40,7 @@ call fates = setting small (replicate 192 0) fates
 abbrev chip : Device
 chip = device poweredOn (replicate 768 255) (replicate 48 255) (replicate 4 0)
 
--- the state with the table in block 0, block last filled last, this next number, and the copy of logical block 0 in block b
+-- the state with the table in block 0, block last filled last, this greatest number taken, and the copy of logical block 0 in block b
 abbrev state : ℕ → ℕ → ℕ → State
 state last number b =
     record { status = 1; table = 0; last = last; number = number; marked = replicate 512 0; invalid = replicate 512 0; map = set (replicate 4096 65535) 0 b }
@@ -49,46 +49,46 @@ state last number b =
 abbrev written : List ℕ → State → Result
 written fates st = changing (call fates) chip 10000 st (writeUpdate st 0 0 (replicate 32 165))
 
--- answer, cycles, the block of the table, the block filled last and the next number
+-- answer, cycles, the block of the table, the block filled last and the greatest number taken
 abbrev told : Result → List ℕ
 told r = r .answer ∷ r .sent ∷ r .state .table ∷ r .state .last ∷ r .state .number ∷ []
 
 -- without an old copy: 237 cycles, in block 1 under number 2
-first-write : told (written [] (state 0 2 65535)) ≡ 0 ∷ 237 ∷ 0 ∷ 1 ∷ 3 ∷ []
+first-write : told (written [] (state 0 1 65535)) ≡ 0 ∷ 237 ∷ 0 ∷ 1 ∷ 2 ∷ []
 unfolding ones begun statusMode readMode plainCommand addressFits latched addressed fateWord nextFate started statusByte fitting readStarted programStarted eraseStarted completed isConfirm confirmed confirmable commanded dataTaken dataGiven dataByte finished statusRead exec programmed weakened raised put mayGo cutAfter send byteOut sendAll sent goesOn waiting polls outcomeOf isPassed endedAs readCycles readOutcome putOut readOutputs startedBy readOn stopAnswer statusOn statusEnd afterStatus statusAnswer statusState isProtected isSilent isCut bitAt withBit zeroBits numberWidth bytesOf numberOf labelBytes encoded kindOf eraseOn programOn isFailed mainOf mainRead pageFilled pagesFilled tableMain permitted searchAfter afterFill tryBlock tryTable tablesFilled table.tablePage isDataKind isTableKind copyBits copyTried afterTry copiesFilled thenTable dataSource isGiven
 first-write = refl
 
 -- over an old copy in block 1 three pages are read: 363 cycles, in block 2
-second-write : told (written [] (state 1 3 1)) ≡ 0 ∷ 363 ∷ 0 ∷ 2 ∷ 4 ∷ []
+second-write : told (written [] (state 1 2 1)) ≡ 0 ∷ 363 ∷ 0 ∷ 2 ∷ 3 ∷ []
 unfolding ones begun statusMode readMode plainCommand addressFits latched addressed fateWord nextFate started statusByte fitting readStarted programStarted eraseStarted completed isConfirm confirmed confirmable commanded dataTaken dataGiven dataByte finished statusRead exec programmed weakened raised put mayGo cutAfter send byteOut sendAll sent goesOn waiting polls outcomeOf isPassed endedAs readCycles readOutcome putOut readOutputs startedBy readOn stopAnswer statusOn statusEnd afterStatus statusAnswer statusState isProtected isSilent isCut bitAt withBit zeroBits numberWidth bytesOf numberOf labelBytes encoded kindOf eraseOn programOn isFailed mainOf mainRead pageFilled pagesFilled tableMain permitted searchAfter afterFill tryBlock tryTable tablesFilled table.tablePage isDataKind isTableKind copyBits copyTried afterTry copiesFilled thenTable dataSource isGiven
 second-write = refl
 
 -- an erase fills a copy of FFh, with nothing read
-erase-copy : told (changing (call []) chip 10000 (state 1 3 1) (eraseUpdate 0)) ≡ 0 ∷ 237 ∷ 0 ∷ 2 ∷ 4 ∷ []
+erase-copy : told (changing (call []) chip 10000 (state 1 2 1) (eraseUpdate 0)) ≡ 0 ∷ 237 ∷ 0 ∷ 2 ∷ 3 ∷ []
 unfolding ones begun statusMode readMode plainCommand addressFits latched addressed fateWord nextFate started statusByte fitting readStarted programStarted eraseStarted completed isConfirm confirmed confirmable commanded dataTaken dataGiven dataByte finished statusRead exec programmed weakened raised put mayGo cutAfter send byteOut sendAll sent goesOn waiting polls outcomeOf isPassed endedAs readCycles readOutcome putOut readOutputs startedBy readOn stopAnswer statusOn statusEnd afterStatus statusAnswer statusState isProtected isSilent isCut bitAt withBit zeroBits numberWidth bytesOf numberOf labelBytes encoded kindOf eraseOn programOn isFailed mainOf mainRead pageFilled pagesFilled tableMain permitted searchAfter afterFill tryBlock tryTable tablesFilled table.tablePage isDataKind isTableKind copyBits copyTried afterTry copiesFilled thenTable dataSource isGiven
 erase-copy = refl
 
 -- the first erase fails: another fill in block 3, then a table in block 1, which the old copy left
-failed-erase : told (written (65536 ∷ []) (state 1 3 1)) ≡ 0 ∷ 605 ∷ 1 ∷ 1 ∷ 6 ∷ []
+failed-erase : told (written (65536 ∷ []) (state 1 2 1)) ≡ 0 ∷ 605 ∷ 1 ∷ 1 ∷ 5 ∷ []
 unfolding ones begun statusMode readMode plainCommand addressFits latched addressed fateWord nextFate started statusByte fitting readStarted programStarted eraseStarted completed isConfirm confirmed confirmable commanded dataTaken dataGiven dataByte finished statusRead exec programmed weakened raised put mayGo cutAfter send byteOut sendAll sent goesOn waiting polls outcomeOf isPassed endedAs readCycles readOutcome putOut readOutputs startedBy readOn stopAnswer statusOn statusEnd afterStatus statusAnswer statusState isProtected isSilent isCut bitAt withBit zeroBits numberWidth bytesOf numberOf labelBytes encoded kindOf eraseOn programOn isFailed mainOf mainRead pageFilled pagesFilled tableMain permitted searchAfter afterFill tryBlock tryTable tablesFilled table.tablePage isDataKind isTableKind copyBits copyTried afterTry copiesFilled thenTable dataSource isGiven
 failed-erase = refl
 
 -- the last number is used, and the next fill has none
-last-number : told (written [] (state 1 4294967295 1)) ≡ 0 ∷ 363 ∷ 0 ∷ 2 ∷ 4294967296 ∷ []
+last-number : told (written [] (state 1 18446744073709551614 1)) ≡ 0 ∷ 363 ∷ 0 ∷ 2 ∷ 18446744073709551615 ∷ []
 unfolding ones begun statusMode readMode plainCommand addressFits latched addressed fateWord nextFate started statusByte fitting readStarted programStarted eraseStarted completed isConfirm confirmed confirmable commanded dataTaken dataGiven dataByte finished statusRead exec programmed weakened raised put mayGo cutAfter send byteOut sendAll sent goesOn waiting polls outcomeOf isPassed endedAs readCycles readOutcome putOut readOutputs startedBy readOn stopAnswer statusOn statusEnd afterStatus statusAnswer statusState isProtected isSilent isCut bitAt withBit zeroBits numberWidth bytesOf numberOf labelBytes encoded kindOf eraseOn programOn isFailed mainOf mainRead pageFilled pagesFilled tableMain permitted searchAfter afterFill tryBlock tryTable tablesFilled table.tablePage isDataKind isTableKind copyBits copyTried afterTry copiesFilled thenTable dataSource isGiven
 last-number = refl
 
-spent : told (written [] (state 1 4294967296 1)) ≡ 9 ∷ 2 ∷ 0 ∷ 0 ∷ 0 ∷ []
+spent : told (written [] (state 1 18446744073709551615 1)) ≡ 9 ∷ 2 ∷ 0 ∷ 0 ∷ 0 ∷ []
 unfolding ones begun statusMode readMode plainCommand addressFits latched addressed fateWord nextFate started statusByte fitting readStarted programStarted eraseStarted completed isConfirm confirmed confirmable commanded dataTaken dataGiven dataByte finished statusRead exec programmed weakened raised put mayGo cutAfter send byteOut sendAll sent goesOn waiting polls outcomeOf isPassed endedAs readCycles readOutcome putOut readOutputs startedBy readOn stopAnswer statusOn statusEnd afterStatus statusAnswer statusState isProtected isSilent isCut bitAt withBit zeroBits numberWidth bytesOf numberOf labelBytes encoded kindOf eraseOn programOn isFailed mainOf mainRead pageFilled pagesFilled tableMain permitted searchAfter afterFill tryBlock tryTable tablesFilled table.tablePage isDataKind isTableKind copyBits copyTried afterTry copiesFilled thenTable dataSource isGiven
 spent = refl
 
 -- both blocks that are left fail: worn
-worn : told (written (65536 ∷ 65536 ∷ []) (state 1 3 1)) ≡ 8 ∷ 16 ∷ 0 ∷ 0 ∷ 0 ∷ []
+worn : told (written (65536 ∷ 65536 ∷ []) (state 1 2 1)) ≡ 8 ∷ 16 ∷ 0 ∷ 0 ∷ 0 ∷ []
 unfolding ones begun statusMode readMode plainCommand addressFits latched addressed fateWord nextFate started statusByte fitting readStarted programStarted eraseStarted completed isConfirm confirmed confirmable commanded dataTaken dataGiven dataByte finished statusRead exec programmed weakened raised put mayGo cutAfter send byteOut sendAll sent goesOn waiting polls outcomeOf isPassed endedAs readCycles readOutcome putOut readOutputs startedBy readOn stopAnswer statusOn statusEnd afterStatus statusAnswer statusState isProtected isSilent isCut bitAt withBit zeroBits numberWidth bytesOf numberOf labelBytes encoded kindOf eraseOn programOn isFailed mainOf mainRead pageFilled pagesFilled tableMain permitted searchAfter afterFill tryBlock tryTable tablesFilled table.tablePage isDataKind isTableKind copyBits copyTried afterTry copiesFilled thenTable dataSource isGiven
 worn = refl
 
 -- 256 busy status reads: silent, and stopped
-silent : told (written (256 ∷ []) (state 1 3 1)) ≡ 10 ∷ 264 ∷ 0 ∷ 0 ∷ 0 ∷ []
+silent : told (written (256 ∷ []) (state 1 2 1)) ≡ 10 ∷ 264 ∷ 0 ∷ 0 ∷ 0 ∷ []
 unfolding ones begun statusMode readMode plainCommand addressFits latched addressed fateWord nextFate started statusByte fitting readStarted programStarted eraseStarted completed isConfirm confirmed confirmable commanded dataTaken dataGiven dataByte finished statusRead exec programmed weakened raised put mayGo cutAfter send byteOut sendAll sent goesOn waiting polls outcomeOf isPassed endedAs readCycles readOutcome putOut readOutputs startedBy readOn stopAnswer statusOn statusEnd afterStatus statusAnswer statusState isProtected isSilent isCut bitAt withBit zeroBits numberWidth bytesOf numberOf labelBytes encoded kindOf eraseOn programOn isFailed mainOf mainRead pageFilled pagesFilled tableMain permitted searchAfter afterFill tryBlock tryTable tablesFilled table.tablePage isDataKind isTableKind copyBits copyTried afterTry copiesFilled thenTable dataSource isGiven
 silent = refl
 
@@ -102,20 +102,20 @@ abbrev untaken : ℕ → State → Result
 untaken allowed st = changing (call []) protectedChip allowed st (writeUpdate st 0 0 (replicate 32 165))
 
 -- the status shows a protected chip: 13 after two cycles, and the state is the one handed in
-protected-write : told (untaken 2 (state 1 3 1)) ≡ 13 ∷ 2 ∷ 0 ∷ 1 ∷ 3 ∷ []
+protected-write : told (untaken 2 (state 1 2 1)) ≡ 13 ∷ 2 ∷ 0 ∷ 1 ∷ 2 ∷ []
 unfolding ones begun statusMode readMode plainCommand addressFits latched addressed fateWord nextFate started statusByte fitting readStarted programStarted eraseStarted completed isConfirm confirmed confirmable commanded dataTaken dataGiven dataByte finished statusRead exec programmed weakened raised put mayGo cutAfter send byteOut sendAll sent goesOn waiting polls outcomeOf isPassed endedAs readCycles readOutcome putOut readOutputs startedBy readOn stopAnswer statusOn statusEnd afterStatus statusAnswer statusState isProtected isSilent isCut bitAt withBit zeroBits numberWidth bytesOf numberOf labelBytes encoded kindOf eraseOn programOn isFailed mainOf mainRead pageFilled pagesFilled tableMain permitted searchAfter afterFill tryBlock tryTable tablesFilled table.tablePage isDataKind isTableKind copyBits copyTried afterTry copiesFilled thenTable dataSource isGiven
 protected-write = refl
 
 -- so before the number is asked for, and before a block is
-protected-spent : told (untaken 10000 (state 1 4294967296 1)) ≡ 13 ∷ 2 ∷ 0 ∷ 1 ∷ 4294967296 ∷ []
+protected-spent : told (untaken 10000 (state 1 18446744073709551615 1)) ≡ 13 ∷ 2 ∷ 0 ∷ 1 ∷ 18446744073709551615 ∷ []
 unfolding ones begun statusMode readMode plainCommand addressFits latched addressed fateWord nextFate started statusByte fitting readStarted programStarted eraseStarted completed isConfirm confirmed confirmable commanded dataTaken dataGiven dataByte finished statusRead exec programmed weakened raised put mayGo cutAfter send byteOut sendAll sent goesOn waiting polls outcomeOf isPassed endedAs readCycles readOutcome putOut readOutputs startedBy readOn stopAnswer statusOn statusEnd afterStatus statusAnswer statusState isProtected isSilent isCut bitAt withBit zeroBits numberWidth bytesOf numberOf labelBytes encoded kindOf eraseOn programOn isFailed mainOf mainRead pageFilled pagesFilled tableMain permitted searchAfter afterFill tryBlock tryTable tablesFilled table.tablePage isDataKind isTableKind copyBits copyTried afterTry copiesFilled thenTable dataSource isGiven
 protected-spent = refl
 
-protected-erase : told (changing (call []) protectedChip 10000 (state 1 3 1) (eraseUpdate 0)) ≡ 13 ∷ 2 ∷ 0 ∷ 1 ∷ 3 ∷ []
+protected-erase : told (changing (call []) protectedChip 10000 (state 1 2 1) (eraseUpdate 0)) ≡ 13 ∷ 2 ∷ 0 ∷ 1 ∷ 2 ∷ []
 unfolding ones begun statusMode readMode plainCommand addressFits latched addressed fateWord nextFate started statusByte fitting readStarted programStarted eraseStarted completed isConfirm confirmed confirmable commanded dataTaken dataGiven dataByte finished statusRead exec programmed weakened raised put mayGo cutAfter send byteOut sendAll sent goesOn waiting polls outcomeOf isPassed endedAs readCycles readOutcome putOut readOutputs startedBy readOn stopAnswer statusOn statusEnd afterStatus statusAnswer statusState isProtected isSilent isCut bitAt withBit zeroBits numberWidth bytesOf numberOf labelBytes encoded kindOf eraseOn programOn isFailed mainOf mainRead pageFilled pagesFilled tableMain permitted searchAfter afterFill tryBlock tryTable tablesFilled table.tablePage isDataKind isTableKind copyBits copyTried afterTry copiesFilled thenTable dataSource isGiven
 protected-erase = refl
 
 -- cut before the status is read: stopped
-protected-cut : told (untaken 1 (state 1 3 1)) ≡ 11 ∷ 1 ∷ 0 ∷ 0 ∷ 0 ∷ []
+protected-cut : told (untaken 1 (state 1 2 1)) ≡ 11 ∷ 1 ∷ 0 ∷ 0 ∷ 0 ∷ []
 unfolding ones begun statusMode readMode plainCommand addressFits latched addressed fateWord nextFate started statusByte fitting readStarted programStarted eraseStarted completed isConfirm confirmed confirmable commanded dataTaken dataGiven dataByte finished statusRead exec programmed weakened raised put mayGo cutAfter send byteOut sendAll sent goesOn waiting polls outcomeOf isPassed endedAs readCycles readOutcome putOut readOutputs startedBy readOn stopAnswer statusOn statusEnd afterStatus statusAnswer statusState isProtected isSilent isCut bitAt withBit zeroBits numberWidth bytesOf numberOf labelBytes encoded kindOf eraseOn programOn isFailed mainOf mainRead pageFilled pagesFilled tableMain permitted searchAfter afterFill tryBlock tryTable tablesFilled table.tablePage isDataKind isTableKind copyBits copyTried afterTry copiesFilled thenTable dataSource isGiven
 protected-cut = refl

@@ -4,7 +4,7 @@ use mathlib.Core.List.{List}
 use mathlib.Core.Path.{sym, ap₂, subst, _∙_}
 use borrow.Author.Tests.{leb-false}
 use Rattle.state_choose.specs.Choose.{chosen}
-use Rattle.state.specs.State.{numberEnd, taken}
+use Rattle.state.specs.State.{nextNumber, numberEnd, taken}
 use Rattle.state.specs.declared.State.{State}
 use Rattle.fill_cursor.specs.Cursor.{running, filling}
 use Rattle.fill_cursor.proofs.NextLaws.{worn-by-tag, prepared-spent, prepared-worn, prepared-block}
@@ -24,12 +24,14 @@ returns c =
     c .stop .ensures ∙ prepared-spent (s .args .g) (s .args .c) (s .args .state) (sym (c .before .before .is-spent .ensures) ∙ c .before .if1 .taken)
 
 next-number-requires : tie.Need-next-number-requires
-next-number-requires c κs = search needs
+next-number-requires c κs =
+    let s = c .before .before in
+    leb-false numberEnd (nextNumber (s .args .state)) (sym (c .before .is-spent .ensures) ∙ c .if1 .left)
 
 take-number-requires : tie.Need-take-number-requires
 take-number-requires c κs =
     let s = c .before .before .before in
-    leb-false numberEnd (s .args .state .number) (sym (c .before .before .is-spent .ensures) ∙ c .before .if1 .left)
+    leb-false numberEnd (nextNumber (s .args .state)) (sym (c .before .before .is-spent .ensures) ∙ c .before .if1 .left)
 
 held-requires : tie.Need-held-requires
 held-requires c κs = search needs

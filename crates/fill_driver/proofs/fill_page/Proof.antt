@@ -48,7 +48,7 @@ program-page-requires c κs =
     let at-page = c .before .before .before .before .before .before .before in
     let s = at-page .before .before .before .before .before .before .before .before .before .before .before .before .before .before .before .before .before .before .before in
     let f = s .pre .1 .0 in
-    record { is-valid = f .is-valid; block-below = f .block-below; place-below = f .place-below; width-some = f .width-some; logical-fits = f .logical-fits; number-fits = f .number-fits; page-long = at-page .page .given ∙ f .page-long }
+    record { is-valid = f .is-valid; block-below = f .block-below; place-below = f .place-below; width-is = f .width-is; logical-fits = f .logical-fits; page-long = at-page .page .given ∙ f .page-long }
 
 same-length-5 : tie.Need-same-length-5
 same-length-5 c = search needs
@@ -75,7 +75,7 @@ returns-2 c =
     let d = at-put-main .put-main in
     let p = passed-by-tag _ (at-match .match .keys1) in
     let f = s .pre .1 .0 in
-    let fillable : Fillable (s .args .g) (s .args .block) (s .args .place) (s .args .content .kind) (s .args .content .logical) (s .args .content .number) _ = record { is-valid = f .is-valid; block-below = f .block-below; place-below = f .place-below; width-some = f .width-some; logical-fits = f .logical-fits; number-fits = f .number-fits; page-long = at-page .page .given ∙ f .page-long } in
+    let fillable : Fillable (s .args .g) (s .args .block) (s .args .place) (s .args .content .kind) (s .args .content .logical) _ = record { is-valid = f .is-valid; block-below = f .block-below; place-below = f .place-below; width-is = f .width-is; logical-fits = f .logical-fits; page-long = at-page .page .given ∙ f .page-long } in
     let order = subst (λ (x : List ℕ). getD x (s .args .block) 0 ≤ s .args .place) (sym (d .ensures .1 .1)) (s .pre .1 .1 .0) in
     (page-programmed set (s .args .block) k (s .args .place) (source (s .args .place)) _ _ (d .result .outcome) (d .ensures .0) p _ fillable (d .ensures .1 .0 p) order _ (at-program-page .program-page .result .outcome) (at-program-page .program-page .ensures .0) (at-program-page .program-page .ensures .1), page-order set (s .args .block) k (s .args .place) (source (s .args .place)) _ _ (d .result .outcome) (d .ensures .0) p _ fillable (d .ensures .1 .0 p) order _ (at-program-page .program-page .result .outcome) (at-program-page .program-page .ensures .0) (at-program-page .program-page .ensures .1))
 

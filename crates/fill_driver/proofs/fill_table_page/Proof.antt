@@ -47,7 +47,7 @@ fill-page-requires c κs =
     let s = at-build-first .before .before .before .before .before .before .before .before .before in
     let g = s .args .g in
     let v = s .pre .0 .is-valid in
-    (s .pre .0, (table-fillable g v (s .args .block) (s .args .place) (s .args .number) _ (s .pre .1 .0) (s .pre .1 .1 .0) (s .pre .1 .1 .1 .0) (s .pre .1 .1 .1 .1 .1), (s .pre .1 .1 .1 .1 .0, (lent-long (g .main) _ (put-fits (g .main) (replicate 4096 0) (first-room g v) (at-build-first .build-first .last .0) (drop (g .main - 0) (replicate 4096 0)) (at-build-first .build-first .kept .0)) ∙ sym (one-mul (g .main))))))
+    (s .pre .0, (table-fillable g v (s .args .block) (s .args .place) _ (s .pre .1 .0) (s .pre .1 .1 .0) (s .pre .1 .1 .1 .1), (s .pre .1 .1 .1 .0, (lent-long (g .main) _ (put-fits (g .main) (replicate 4096 0) (first-room g v) (at-build-first .build-first .last .0) (drop (g .main - 0) (replicate 4096 0)) (at-build-first .build-first .kept .0)) ∙ sym (one-mul (g .main))))))
 
 same-length : tie.Need-same-length
 same-length c = search needs

@@ -52,7 +52,7 @@ fill-table-page-requires c κs =
     let d = s .pre .1 .0 in
     let due = s .pre .1 .1 .0 in
     let page : s .args .c .step ≡ 2 = omega (arith, due, d .fits .step-most, at-if1 .if1 .left) in
-    (lent-called (s .pre .0) (d .ready page), (d .fits .block-below due, (d .fits .page-below, (d .fits .number-fits due, (d .in-order page, s .pre .1 .1 .1)))))
+    (lent-called (s .pre .0) (d .ready page), (d .fits .block-below due, (d .fits .page-below, (d .in-order page, s .pre .1 .1 .1))))
 
 same-length-4 : tie.Need-same-length-4
 same-length-4 c = search needs
@@ -87,7 +87,7 @@ fill-page-requires c κs =
     let due = s .pre .1 .1 .0 in
     let page : s .args .c .step ≡ 2 = omega (arith, due, d .fits .step-most, at-if1 .if1 .left) in
     let k = at-content .content-of in
-    let fillable = copy-fillable (s .args .g) (s .pre .0 .is-valid) (s .args .c .block) (s .args .c .page) (s .args .c .number) _ (d .fits .block-below due) (d .fits .page-below) (d .fits .number-fits due) (s .pre .1 .1 .1) (s .args .c .logical) (d .fits .logical-below) in
+    let fillable = copy-fillable (s .args .g) (s .pre .0 .is-valid) (s .args .c .block) (s .args .c .page) _ (d .fits .block-below due) (d .fits .page-below) (s .pre .1 .1 .1) (s .args .c .logical) (d .fits .logical-below) in
     (lent-called (s .pre .0) (d .ready page), (content-fillable (s .args .c) (k .result) (k .ensures) (s .args .g) _ fillable, (d .in-order page, content-count (s .args .c) (k .result) (k .ensures) _ (s .args .g .main) (d .fits .bytes-long))))
 
 same-length-8 : tie.Need-same-length-8

@@ -89,7 +89,7 @@ fill-first-requires c κs =
     let at-page-size = at-erase-all .before .before .before .before .before .before in
     let s = at-page-size .before .before .before .before .before .before in
     let size = at-page-size .page-size .ensures in
-    (at-erase-all .erase-all .ensures .next (passed-by-tag _ (at-match .match .keys1)), (lent-page _ _ (omega (arith, size, page-size-most (s .args .g) (s .pre .0 .is-valid))) size, (omega (arith, s .pre .1, round-left (setting (s .args .g) (now (s .args .mask)) (now (s .args .fates))) (s .args .t8) (line (s .args .from) (now (s .args .array)) (now (s .args .register)) (now (s .args .history))) _ _ _ _ (at-erase-all .erase-all .ensures)), at-erase-all .erase-all .ensures .numbers-fit (passed-by-tag _ (at-match .match .keys1)))))
+    (at-erase-all .erase-all .ensures .next (passed-by-tag _ (at-match .match .keys1)), (lent-page _ _ (omega (arith, size, page-size-most (s .args .g) (s .pre .0 .is-valid))) size, omega (arith, s .pre .1, round-left (setting (s .args .g) (now (s .args .mask)) (now (s .args .fates))) (s .args .t8) (line (s .args .from) (now (s .args .array)) (now (s .args .register)) (now (s .args .history))) _ _ _ _ (at-erase-all .erase-all .ensures))))
 
 same-length-4 : tie.Need-same-length-4
 same-length-4 c =

@@ -67,7 +67,7 @@ end-requires-2 c κs =
     let set = setting (s .args .g) (now (s .args .mask)) (now (s .args .fates)) in
     let l = line (s .args .from) (now (s .args .array)) (now (s .args .register)) (now (s .args .history)) in
     let r = at-run .run .result in
-    omega (arith, s .pre .1 .1 .0, run-left set _ _ _ l _ (running (r .cursor) (r .state)) (at-run .run .ensures))
+    omega (arith, s .pre .1 .1, run-left set _ _ _ l _ (running (r .cursor) (r .state)) (at-run .run .ensures))
 
 same-length : tie.Need-same-length
 same-length c = search needs

@@ -34,10 +34,9 @@ returns c =
     let way = c .before .before .before .before .before .before .before .before .before in
     let at-scan-block = way .before .before in
     let way-2 = at-scan-block .before .before .before .before .before .before .before .before .before in
-    let at-slice-known = way-2 .before .before in
-    let s = at-slice-known .before in
+    let s = way-2 .before .before .before in
     let f = at-scan-block .scan-block .ensures in
-    after-failed (setting (s .args .g) (now (s .args .mask)) (now (s .args .fates))) (line (s .args .from) (now (s .args .array)) (now (s .args .register)) (now (s .args .history))) (s .args .block) (s .pre .0) _ (at-scan-block .scan-block .result .outcome) (at-scan-block .scan-block .result .summary) (f .0) (f .1 .0) (f .1 .1 .1 .1 .0) (λ i. omega (arith, at-slice-known .slice-known .given i)) (f .1 .1 .1 .1 .1 .0)
+    after-failed (setting (s .args .g) (now (s .args .mask)) (now (s .args .fates))) (line (s .args .from) (now (s .args .array)) (now (s .args .register)) (now (s .args .history))) (s .args .block) (s .pre .0) _ (at-scan-block .scan-block .result .outcome) (at-scan-block .scan-block .result .summary) (f .0) (f .1 .0) (f .1 .1 .1 .1 .0) (f .1 .1 .1 .1 .1 .0)
 
 pub read-failed-spec : {M : Type 1} → statement M
 read-failed-spec =

@@ -12,8 +12,7 @@ use Rattle.bus_polling.specs.declared.Outcome.the-variants.{Passed}
 use Rattle.bus_polling.proofs.OutcomeLaws.{passed-by-tag, other-by-tag}
 use Rattle.progress.specs.Progress.{progress}
 use Rattle.scan.specs.Scan.{blocksRead}
-use Rattle.scan_found.proofs.FoundLaws.{table-small, found-fits}
-use Rattle.state.specs.State.{numberEnd}
+use Rattle.scan_found.proofs.FoundLaws.{table-small}
 use Rattle.mount.proofs.EndLaws.{scan-left, stopped-end, refused-end, mounted-end, answer-found, state-found, room}
 use Rattle.request.proofs.CallLaws.{lent-page}
 use borrow.Author.Needs.{needs}
@@ -159,12 +158,8 @@ mounted-state-requires c κs =
     let way-2 = at-match .before .before .before .before .before .before .before .before .before in
     let at-scan-chip = way-2 .before .before .before in
     let way-3 = at-scan-chip .before .before .before .before .before .before .before .before .before in
-    let at-slice-known = way-3 .before .before .before .before in
-    let s = at-slice-known .before in
-    let f = at-scan-chip .scan-chip .ensures in
-    let p = passed-by-tag _ (at-match .match .keys1) in
-    let v = s .pre .0 .is-valid in
-    (v, subst (λ (x : Found). x .greatest < numberEnd) (sym (f .1 .1 .1 .1 .1 .0 p)) (found-fits (s .args .g) (omega (arith, v .pages-least)) (now (s .args .array)) (λ i. omega (arith, at-slice-known .slice-known .given i)) (s .args .g .blocks)))
+    let s = way-3 .before .before .before .before .before in
+    s .pre .0 .is-valid
 
 end-requires-3 : tie.Need-end-requires-3
 end-requires-3 c κs =

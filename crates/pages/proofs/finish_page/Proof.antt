@@ -8,7 +8,6 @@ use borrow.Author.Needs.{needs}
 use lib.ListN.{length, take, length-set}
 use Rattle.pages.specs.Check.{zeroBits}
 use Rattle.pages.proofs.ByteLaws.{finished}
-use Rattle.pages.proofs.LayoutLaws.{width-four}
 use Rattle.pages.proofs.finish_page.Statement.{statement}
 use Rattle.pages.proofs.finish_page.Tie as tie
 
@@ -16,33 +15,27 @@ use Rattle.pages.proofs.finish_page.Tie as tie
 abbrev lent₁ : tie.After-write-pair → List ℕ
 lent₁ c = c .before .before .before .args .page .now
 
-abbrev lent₂ : tie.After-write-pair2 → List ℕ
+abbrev lent₂ : tie.After-write-number → List ℕ
 lent₂ c = lent₁ (c .before .before .before .before)
 
-abbrev lent₃ : tie.After-write-pair3 → List ℕ
-lent₃ c = lent₂ (c .before .before .before .before)
+abbrev lent₃ : tie.After-write-pair2 → List ℕ
+lent₃ c = lent₂ (c .before .before .before .before .before .before .before)
 
-abbrev lent₄ : tie.After-write-pair4 → List ℕ
-lent₄ c = lent₃ (c .before .before .before .before .before .before .before)
-
-abbrev lent₅ : tie.After-fill-ones → List ℕ
-lent₅ c = lent₄ (c .before .before .before .before)
+abbrev lent₄ : tie.After-fill-ones → List ℕ
+lent₄ c = lent₃ (c .before .before .before .before)
 
 -- the page stays as long as it is
 first : (c : tie.After-write-pair) → length (c .write-pair .last .0) ≡ length (lent₁ c)
 first c = c .write-pair .kept .0 ∙ simp length-set
 
-second : (c : tie.After-write-pair2) → length (c .write-pair2 .last .0) ≡ length (lent₂ c)
-second c = c .write-pair2 .kept .0 ∙ simp length-set (first (c .before .before .before .before))
+second : (c : tie.After-write-number) → length (c .write-number .last .0) ≡ length (lent₂ c)
+second c = c .write-number .kept .0 ∙ simp length-set (first (c .before .before .before .before))
 
-third : (c : tie.After-write-pair3) → length (c .write-pair3 .last .0) ≡ length (lent₃ c)
-third c = c .write-pair3 .kept .0 ∙ second (c .before .before .before .before)
+third : (c : tie.After-write-pair2) → length (c .write-pair2 .last .0) ≡ length (lent₃ c)
+third c = c .write-pair2 .kept .0 ∙ second (c .before .before .before .before .before .before .before)
 
-fourth : (c : tie.After-write-pair4) → length (c .write-pair4 .last .0) ≡ length (lent₄ c)
-fourth c = c .write-pair4 .kept .0 ∙ third (c .before .before .before .before .before .before .before)
-
-fifth : (c : tie.After-fill-ones) → length (c .fill-ones .last .0) ≡ length (lent₅ c)
-fifth c = c .fill-ones .kept .0 ∙ fourth (c .before .before .before .before)
+fourth : (c : tie.After-fill-ones) → length (c .fill-ones .last .0) ≡ length (lent₄ c)
+fourth c = c .fill-ones .kept .0 ∙ third (c .before .before .before .before)
 
 add-k : tie.Need-add-k
 add-k c = search needs
@@ -68,17 +61,11 @@ cast-page c = search needs
 slice-write-page-3 : tie.Need-slice-write-page-3
 slice-write-page-3 c = omega (arith, first (c .before .before))
 
-add-write-pair-2 : tie.Need-add-write-pair-2
-add-write-pair-2 c = search needs
+add-write-number : tie.Need-add-write-number
+add-write-number c = search needs
 
-write-pair-requires-2 : tie.Need-write-pair-requires-2
-write-pair-requires-2 c κs = simp length-set (omega (arith, first (c .before .before .before)))
-
-add-write-pair-3 : tie.Need-add-write-pair-3
-add-write-pair-3 c = search needs
-
-write-pair-requires-3 : tie.Need-write-pair-requires-3
-write-pair-requires-3 c κs = omega (arith, second (c .before .before .before))
+write-number-requires : tie.Need-write-number-requires
+write-number-requires c κs = simp length-set (omega (arith, first (c .before .before .before)))
 
 add-end : tie.Need-add-end
 add-end c = search needs
@@ -90,41 +77,37 @@ part-zero-bits-start : tie.Need-part-zero-bits-start
 part-zero-bits-start c = search needs
 
 part-zero-bits-end : tie.Need-part-zero-bits-end
-part-zero-bits-end c = omega (arith, third (c .before .before .before))
+part-zero-bits-end c = omega (arith, second (c .before .before .before))
 
 zero-bits-requires : tie.Need-zero-bits-requires
 zero-bits-requires c κs = search needs
 
-add-write-pair-4 : tie.Need-add-write-pair-4
-add-write-pair-4 c = search needs
-
-write-pair-requires-4 : tie.Need-write-pair-requires-4
-write-pair-requires-4 c κs = omega (arith, third (c .before .before .before .before .before .before))
+write-pair-requires-2 : tie.Need-write-pair-requires-2
+write-pair-requires-2 c κs = omega (arith, second (c .before .before .before .before .before .before))
 
 add-fill-ones : tie.Need-add-fill-ones
 add-fill-ones c = search needs
 
 fill-ones-requires : tie.Need-fill-ones-requires
-fill-ones-requires c κs = omega (arith, fourth (c .before .before .before))
+fill-ones-requires c κs = omega (arith, third (c .before .before .before))
 
 same-length : tie.Need-same-length
-same-length c = fifth (c .before .before)
+same-length c = fourth (c .before .before)
 
 returns : tie.Need-returns
 returns c =
     let fill = c .before .before in
-    let pair4 = fill .before .before .before .before in
-    let count = pair4 .before .before in
-    let pair3 = count .before .before .before .before .before in
-    let pair2 = pair3 .before .before .before .before in
-    let pair = pair2 .before .before .before .before in
+    let pair2 = fill .before .before .before .before in
+    let count = pair2 .before .before in
+    let number = count .before .before .before .before .before in
+    let pair = number .before .before .before .before in
     let s = pair .before .before .before in
     let a = s .args in
-    let counted : count .zero-bits .result ≡ zeroBits (take (a .main + 9) (pair3 .write-pair3 .last .0)) = count .zero-bits .ensures ∙ rw sub-zero in
+    let counted : count .zero-bits .result ≡ zeroBits (take (a .main + 13) (number .write-number .last .0)) = count .zero-bits .ensures ∙ rw sub-zero in
     finished (a .main) (a .kind) (a .logical) (a .place) (a .number) (count .zero-bits .result) (a .page .now)
-    (pair .write-pair .last .0) (pair2 .write-pair2 .last .0) (pair3 .write-pair3 .last .0) (pair4 .write-pair4 .last .0) (fill .fill-ones .last .0)
-    (omega (arith, s .pre)) (width-four (a .kind) (s .pre .1 .0)) (omega (arith, s .pre))
-    (pair .write-pair .ensures) (pair2 .write-pair2 .ensures) (pair3 .write-pair3 .ensures) counted (pair4 .write-pair4 .ensures) (fill .fill-ones .ensures)
+    (pair .write-pair .last .0) (number .write-number .last .0) (pair2 .write-pair2 .last .0) (fill .fill-ones .last .0)
+    (omega (arith, s .pre)) (s .pre .1 .0) (omega (arith, s .pre))
+    (pair .write-pair .ensures) (number .write-number .ensures) counted (pair2 .write-pair2 .ensures) (fill .fill-ones .ensures)
 
 pub finish-page-spec : {M : Type 1} → statement M
 finish-page-spec =
@@ -138,17 +121,14 @@ finish-page-spec =
     add-p
     cast-page
     slice-write-page-3
-    add-write-pair-2
-    write-pair-requires-2
-    add-write-pair-3
-    write-pair-requires-3
+    add-write-number
+    write-number-requires
     add-end
     sub-zero-bits
     part-zero-bits-start
     part-zero-bits-end
     zero-bits-requires
-    add-write-pair-4
-    write-pair-requires-4
+    write-pair-requires-2
     add-fill-ones
     fill-ones-requires
     same-length

@@ -1,16 +1,25 @@
 -- `pages::is_data` meets its contract. Assumes nothing.
-use mathlib.Core.Path.{refl}
+use mathlib.Core.Path.{sym}
 use borrow.Author.Needs.{needs}
+use borrow.Author.Tests.{ne-eqb}
+use Rattle.bools.proofs.BoolLaws.{or-none}
 use Rattle.pages.specs.Layout.{isDataKind}
 use Rattle.pages.proofs.is_data.Statement.{statement}
 use Rattle.pages.proofs.is_data.Tie as tie
 
-cast-result : tie.Need-cast-result
-cast-result c = search needs
+cast-if1 : tie.Need-cast-if1
+cast-if1 c = search needs
 
 returns : tie.Need-returns
 unfolding isDataKind
-returns c = refl
+returns c = rw (c .if1 .taken)
+
+cast-result : tie.Need-cast-result
+cast-result c = search needs
+
+returns-2 : tie.Need-returns-2
+unfolding isDataKind
+returns-2 c = rw (ne-eqb _ _ (c .if1 .left)) (sym (or-none _))
 
 pub is-data-spec : {M : Type 1} → statement M
-is-data-spec = tie.close (tie.spec cast-result returns)
+is-data-spec = tie.close (tie.spec cast-if1 returns cast-result returns-2)

@@ -7,7 +7,8 @@ use borrow.Author.Needs.{needs}
 use lib.ListN.{take, drop, length-take}
 use Rattle.pages.specs.Check.{zeroBits}
 use Rattle.pages.specs.Layout.{numberWidth, kindOf, allOnes}
-use Rattle.pages.proofs.ByteLaws.{width-le, take-rest, whole-none, whole-first, whole-rest, whole-check}
+use Rattle.pages.proofs.LayoutLaws.{width-most}
+use Rattle.pages.proofs.ByteLaws.{take-rest, whole-none, whole-first, whole-rest, whole-check}
 use Rattle.pages.proofs.is_whole.Statement.{statement}
 use Rattle.pages.proofs.is_whole.Tie as tie
 
@@ -21,8 +22,8 @@ number-width-requires c κs = search needs
 width : (c : tie.After-number-width) → numberWidth (kindOf (c .before .before .before .args .main) (c .before .before .before .args .page .now)) ≡ c .number-width .result
 width c = ap numberWidth (sym (c .before .kind-of .ensures)) ∙ sym (c .number-width .ensures)
 
-small : (c : tie.After-number-width) → c .number-width .result ≤ 4
-small c = rw (c .number-width .ensures) (width-le (c .before .kind-of .result))
+small : (c : tie.After-number-width) → c .number-width .result ≤ 8
+small c = rw (c .number-width .ensures) (width-most (c .before .kind-of .result))
 
 -- the kind is one
 known : (c : tie.Else1) → numberWidth (kindOf (c .before .before .before .before .args .main) (c .before .before .before .before .args .page .now)) ≡ 0 → ⊥

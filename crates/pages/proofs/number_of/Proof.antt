@@ -1,10 +1,8 @@
--- `pages::number_of` meets its contract: a number of four bytes is one of two numbers of two bytes. Assumes nothing.
-use Prim.Native.Nat.{_+_, _<_}
+-- `pages::number_of` meets its contract: the number has as many bytes as the kind says. Assumes nothing.
 use mathlib.Core.Path.{_≡_, sym, ap, _∙_}
-use native.Mathlib.Omega.{arith}
 use borrow.Author.Needs.{needs}
 use Rattle.pages.specs.Layout.{numberWidth, kindOf}
-use Rattle.pages.proofs.ByteLaws.{pair-lt, number-none, number-four}
+use Rattle.pages.proofs.ByteLaws.{width-eight, number-none, number-is}
 use Rattle.pages.proofs.number_of.Statement.{statement}
 use Rattle.pages.proofs.number_of.Tie as tie
 
@@ -21,45 +19,26 @@ width c = ap numberWidth (sym (c .before .kind-of .ensures)) ∙ sym (c .number-
 returns : tie.Need-returns
 returns c = number-none _ _ (width (c .before) ∙ c .if1 .taken)
 
-add-pair-at : tie.Need-add-pair-at
-add-pair-at c = search needs
+add-at : tie.Need-add-at
+add-at c = search needs
 
-pair-at-requires : tie.Need-pair-at-requires
-pair-at-requires c κs = search needs
-
-add-pair-at-2 : tie.Need-add-pair-at-2
-add-pair-at-2 c = search needs
-
-pair-at-requires-2 : tie.Need-pair-at-requires-2
-pair-at-requires-2 c κs = search needs
-
-low : (c : tie.After-pair-at) → c .pair-at .result < 65536
-low c =
-    let known = c .before .before .before .before in
-    let s = known .before in
-    let at = s .args .main + 5 in
-    rw (c .pair-at .ensures)
-    (pair-lt at (s .args .page .now) (omega arith) (omega (arith, known .shared-slice-known .given at)) (omega (arith, known .shared-slice-known .given (at + 1))))
-
-high : (c : tie.After-pair-at2) → c .pair-at2 .result < 65536
-high c =
-    let known = c .before .before .before .before .before in
-    let s = known .before in
-    let at = s .args .main + 7 in
-    rw (c .pair-at2 .ensures)
-    (pair-lt at (s .args .page .now) (omega arith) (omega (arith, known .shared-slice-known .given at)) (omega (arith, known .shared-slice-known .given (at + 1))))
-
-mul-result : tie.Need-mul-result
-mul-result c = omega (arith, high c)
-
-add-result : tie.Need-add-result
-add-result c = omega (arith, high c, low (c .before))
+four-at-requires : tie.Need-four-at-requires
+four-at-requires c κs = search needs
 
 returns-2 : tie.Need-returns-2
 returns-2 c =
     let s = c .before .before .before .before .before .before in
-    rw (c .pair-at2 .ensures, c .before .pair-at .ensures)
-    (number-four (s .args .main) (s .args .page .now) (omega arith) (λ e. c .before .before .if1 .left (sym (width (c .before .before .before)) ∙ e)))
+    rw (c .four-at .ensures .0) (number-is (s .args .main) 4 (s .args .page .now) (width (c .before .before .before) ∙ c .before .if2 .taken))
+
+number-at-requires : tie.Need-number-at-requires
+number-at-requires c κs = search needs
+
+returns-3 : tie.Need-returns-3
+returns-3 c =
+    let at-width = c .before .before .before in
+    let s = at-width .before .before .before in
+    let eight = width-eight _ (λ e. c .before .before .if1 .left (sym (width at-width) ∙ e)) (λ e. c .before .if2 .left (sym (width at-width) ∙ e)) in
+    rw (c .number-at .ensures) (number-is (s .args .main) 8 (s .args .page .now) eight)
 
 pub number-of-spec : {M : Type 1} → statement M
 number-of-spec =
@@ -68,10 +47,8 @@ number-of-spec =
     kind-of-requires
     number-width-requires
     returns
-    add-pair-at
-    pair-at-requires
-    add-pair-at-2
-    pair-at-requires-2
-    mul-result
-    add-result
-    returns-2)
+    add-at
+    four-at-requires
+    returns-2
+    number-at-requires
+    returns-3)

@@ -1,9 +1,9 @@
--- `c_state::write_number` meets its contract. Assumes nothing.
-use Rattle.c_state.proofs.PieceLaws.{number-written}
+-- `pages::write_number` meets its contract. Assumes nothing.
+use Rattle.pages.proofs.ByteLaws.{number-written}
 use native.Mathlib.Omega.{arith}
 use borrow.Author.Needs.{needs}
-use Rattle.c_state.proofs.write_number.Statement.{statement}
-use Rattle.c_state.proofs.write_number.Tie as tie
+use Rattle.pages.proofs.write_number.Statement.{statement}
+use Rattle.pages.proofs.write_number.Tie as tie
 
 write-pair-requires : tie.Need-write-pair-requires
 write-pair-requires c κs = search needs
