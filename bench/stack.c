@@ -20,6 +20,7 @@ enum {
 
 static uint8_t array[BLOCK * BLOCKS], page_register[PAGE], history[BLOCKS], mask[BLOCK], page[MAIN], stack[STACK];
 static uint8_t parameters[FLASH_STORE_PARAMETER_BYTES];
+static uint32_t words[21];
 static struct flash_store_sizes sizes;
 static struct flash_store store = {
     .main = MAIN,
@@ -44,6 +45,7 @@ static void read_page(void) { answer = flash_store_do_read(&store, &call, 0, 0, 
 static void write_page(void) { answer = flash_store_do_write(&store, &call, 0, 0, page, MAIN); }
 static void erase(void) { answer = flash_store_do_erase(&store, &call, 0); }
 static void identify(void) { answer = flash_store_do_identify(&store, &call, parameters, sizeof parameters, &sizes); }
+static void dearest(void) { answer = flash_store_do_dearest_write(&store, 1, words, 21, &call.sent); }
 static void nothing(void) {}
 
 /* The third copy of the parameter page is that of the small chip, with its CRC, E6D5h; the others are blank. */
@@ -91,6 +93,7 @@ int main(void) {
     memset(array, 0xff, sizeof array);
     make_parameters();
     differs |= measure("identify", identify, 776);
+    differs |= measure("dearest write", dearest, 6314);
     differs |= measure("format", format, 356);
     differs |= measure("mount", mount, 931);
     differs |= measure("write of a page without a copy", write_page, 237);

@@ -16,8 +16,8 @@
  *   the line         write_protected of each call tells whether the chip's write-protect line is low
  *
  * Stack that a call takes, measured as docs/BENCHMARKS.md says: format under 95,000 bytes, mount under 75,000, read under
- * 65,000, write under 95,000, erase under 85,000, identify under 25,000. No call takes memory from a heap, and the library
- * keeps nothing between calls.
+ * 65,000, write under 95,000, erase under 85,000, identify under 25,000, the dearest write under 1,000. No call takes memory
+ * from a heap, and the library keeps nothing between calls.
  */
 #ifndef FLASH_STORE_H
 #define FLASH_STORE_H
@@ -33,17 +33,17 @@ _Static_assert(sizeof(size_t) == 8, "the library is built for a size_t of 8 byte
 #endif
 
 /* The version of this header and its archive: docs/CHANGES.md. */
-#define FLASH_STORE_VERSION "4.7"
+#define FLASH_STORE_VERSION "4.8"
 
 /* The answers, in the order in which they are tested; SILENT and CUT come as they happen, CUT first. */
 enum flash_store_answer {
     FLASH_STORE_DONE = 0,
-    FLASH_STORE_BAD_BUFFER = 100, /* state, interface, sent or sizes has the wrong length: no cycle, nothing changed */
+    FLASH_STORE_BAD_BUFFER = 100, /* state, interface, sent, sizes or cycles has the wrong length: no cycle, nothing changed */
     FLASH_STORE_GEOMETRY = 1,     /* a limit broken, or the chip or the mask has the wrong length: no cycle, nothing changed;
                                      of identify see there */
     FLASH_STORE_MOUNT_FIRST = 7,  /* state not mounted, or stopped by 8 to 11 or 255: no cycle, nothing changed */
-    FLASH_STORE_ADDRESS = 2,      /* no such logical block or page: no cycle, nothing changed */
-    FLASH_STORE_LENGTH = 3,       /* page buffer not main bytes long: no cycle, nothing changed */
+    FLASH_STORE_ADDRESS = 2,      /* no such logical block or page: no cycle, nothing changed; of the dearest write see there */
+    FLASH_STORE_LENGTH = 3,       /* page buffer not main bytes long: no cycle, nothing changed; of the dearest write see there */
     FLASH_STORE_NO_TABLE = 4,     /* no complete table: not mounted, chip unchanged */
     FLASH_STORE_WRONG_TABLE = 5,  /* the current table is wrong: not mounted, chip unchanged */
     FLASH_STORE_CLASH = 6,        /* two blocks with one number, or a copy of a logical block >= N: not mounted, chip unchanged */
@@ -179,6 +179,39 @@ size_t flash_store_identify(size_t logical, uint8_t *state, size_t state_len, si
                             const uint32_t *fates, size_t fates_len, uint32_t allowed, size_t *sent, size_t sent_len,
                             const uint8_t *parameters, size_t parameters_len, size_t *sizes, size_t sizes_len);
 
+/*
+ * The dearest write, for whoever sizes the capacitor that carries the box through a write when its supply fails. Of all page
+ * writes that are acknowledged though `failed` fills failed on the way, none sends more bus cycles than are told here, whatever
+ * the chip holds and however it behaves; and over an old copy some write does send as many. It needs no chip and no state, and
+ * sends no cycle.
+ *   failed              how many blocks the write may find bad: 0 to blocks - 3
+ *   words               flash_store_dearest_words(pages, failed) of them: set to the fate words of that write, to be handed to a
+ *                       write as its fates
+ *   cycles              1: set to the cycles, with every answer but BAD_BUFFER; 0 unless it is 0
+ * Answers: GEOMETRY as above, then ADDRESS for more failed fills than blocks - 3, then LENGTH for another number of words. A
+ * refusal leaves the words as they were.
+ *
+ * From cycles to time: in each operation 256 of the cycles are status reads, and there are as many operations as words. The
+ * others follow each other as fast as the bus goes (002 part: 20 ns each at 3 V); status reads come as often as the driver asks.
+ * An operation whose 256 status reads are all busy counts as silent, so a driver asks no oftener than its longest busy time
+ * allows (002 part: an erase takes up to 10 ms, so every 40 us). flash_store_dearest_ns adds the two up. From time to charge:
+ * times the supply current while the chip programs and erases (002 part: up to 30 mA), and that of the rest of the box. The
+ * capacitor is the charge divided by how far its voltage may fall.
+ */
+size_t flash_store_dearest_write(size_t main, size_t spare, size_t pages, size_t blocks, size_t logical, size_t failed,
+                                 uint32_t *words, size_t words_len, size_t *cycles, size_t cycles_len);
+
+/* The words, one for each operation: 2 x pages for each data fill, of which the last passes; then a table fill if any failed. */
+static inline size_t flash_store_dearest_words(size_t pages, size_t failed) {
+    return 2 * pages * (failed + 1) + (failed ? pages + 1 : 0);
+}
+
+/* Nanoseconds, where a bus cycle takes bus_ns and a status read comes every poll_ns. */
+static inline uint64_t flash_store_dearest_ns(size_t cycles, size_t words, uint64_t bus_ns, uint64_t poll_ns) {
+    uint64_t status_reads = 256 * (uint64_t)words;
+    return (cycles - status_reads) * bus_ns + status_reads * poll_ns;
+}
+
 /* What stays from call to call. Set to 0 and filled in once; after that only calls change what it holds and points to. */
 struct flash_store {
     size_t main, spare, pages, blocks, logical; /* the geometry */
@@ -302,6 +335,13 @@ static inline enum flash_store_answer flash_store_do_identify(struct flash_store
     sizes->pages = words[2];
     sizes->blocks = words[3];
     return (enum flash_store_answer)answer;
+}
+
+/* The dearest write of the store's geometry. */
+static inline enum flash_store_answer flash_store_do_dearest_write(const struct flash_store *store, size_t failed,
+                                                                   uint32_t *words, size_t words_len, size_t *cycles) {
+    return (enum flash_store_answer)flash_store_dearest_write(store->main, store->spare, store->pages, store->blocks,
+                                                              store->logical, failed, words, words_len, cycles, 1);
 }
 
 #undef FLASH_STORE_LENT

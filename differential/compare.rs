@@ -1,9 +1,11 @@
-// Compares the library, call by call and byte for byte, with the second implementation in store.rs, prices.rs, sales.rs and
-// draws.rs.
+// Compares the library, call by call and byte for byte, with the second implementation in store.rs, dearest.rs, prices.rs, sales.rs
+// and draws.rs.
 // `compare` runs a fixed selection, `compare COUNT SEED` random lists until COUNT calls were made.
 
 mod book;
 mod chips;
+mod dearest;
+mod dearest_writes;
 #[allow(dead_code)]
 mod draws;
 mod fixed;
@@ -19,6 +21,7 @@ mod updates;
 
 use book::*;
 use chips::*;
+use dearest_writes::*;
 use fixed::*;
 use identify::*;
 use library::*;
@@ -110,13 +113,15 @@ impl Random {
 
 // ---- counting and reporting ----
 
-const KINDS: [&str; 9] = ["format", "mount", "read", "write", "erase", "identify", "check", "price", "reconcile"];
+const KINDS: [&str; 10] =
+    ["format", "mount", "read", "write", "erase", "identify", "check", "price", "reconcile", "dearest"];
 const ANSWERS: [usize; 18] = [0, 1, 2, 3, 4, 5, 6, 7, 8, 9, 10, 11, 12, 13, 17, 18, 100, 255];
 
-// Calls that are no requests to the store: the check of price rules, a price, sales held against each other.
+// Calls that are no requests to the store: the check of price rules, a price, sales held against each other, the dearest write.
 const CHECK: usize = 6;
 const PRICE: usize = 7;
 const RECONCILE: usize = 8;
+const DEAREST: usize = 9;
 
 fn kind_of(request: &Request) -> usize {
     match request {

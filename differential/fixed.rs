@@ -1,7 +1,7 @@
 // The fixed selection: the paper's bench figures, then every cut, failure and silence of requests on small chips, with the
 // write-protect line high and low, forged states and interfaces, wrong lengths, chips in both layouts and updated boxes,
-// parameter pages, a chip with rows past sixteen bits, and random lists; and beside the store the draws of the test load, price
-// rules and lists of sales.
+// parameter pages, a chip with rows past sixteen bits, random lists and the dearest writes; and beside the store the draws of the
+// test load, price rules and lists of sales.
 
 use super::*;
 use crate::draws::drawn;
@@ -30,6 +30,7 @@ pub fn fixed_selection(run: &mut Run) {
     parameter_pages(run);
     large_chip(run);
     random_lists(run, RANDOM_CALLS, 1);
+    dearest_writes(run);
     draws_alike(run);
     price_tables(run);
     sale_lists(run);

@@ -29,7 +29,7 @@ right-long state interface sent h =
     record { state-long = eqb-true state stateLength (p .0); interface-long = eqb-true interface 12 (q .0); sent-long = eqb-true sent 1 (q .1) }
 
 -- what a request hands back, written into the buffers
-single : (xs : List ℕ) (n : ℕ) → length xs ≡ 1 → set xs 0 n ≡ n ∷ []
+pub single : (xs : List ℕ) (n : ℕ) → length xs ≡ 1 → set xs 0 n ≡ n ∷ []
 single (x ∷ []) n h = refl
 single [] n h = absurd (omega (arith, h))
 single (x ∷ y ∷ xs) n h = absurd (omega (arith, h))

@@ -1,3 +1,4 @@
+pub mod DearestLaws
 pub mod KeptLaws
 pub mod LibraryLaws
 pub mod SizeLaws

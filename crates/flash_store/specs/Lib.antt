@@ -1,2 +1,3 @@
+pub mod Dearest
 pub mod Identify
 pub mod Library

@@ -1,5 +1,6 @@
-// The library for programs in C: format, mount, read, write and erase, on numbers and lent buffers; the sizes that the chip tells;
-// price rules; sales held against each other; the draws of the test load.
+// The library for programs in C: format, mount, read, write and erase, on numbers and lent buffers; the sizes that the chip tells; the
+// dearest write; price rules; sales held against each other; the draws of the test load.
+mod costs;
 mod load;
 mod prices;
 mod sales;

@@ -94,7 +94,7 @@ module _ (s : Setting) (d : Device) (n : ℕ) (st : State) (u : Update) (sized :
         let x = subst (SameLengths (callLine d n .chip)) (read-completing s d last) (run-lengths s (callLine d n .chip) statusCycles) in
         record { array = x .array; register = x .register; history = x .history }
 
-    first-called : Called s (first .line)
+    pub first-called : Called s (first .line)
     first-called =
         let z = sizes (s .geometry) (length (d .array)) (length (d .register)) (length (d .history)) (length (s .mask)) sized in
         record {
@@ -108,7 +108,7 @@ module _ (s : Setting) (d : Device) (n : ℕ) (st : State) (u : Update) (sized :
           uncut = refl;
         }
 
-    first-range : InRange s (completedBy s d) st
+    pub first-range : InRange s (completedBy s d) st
     unfolding run
     first-range =
         record {

@@ -47,7 +47,7 @@ use Rattle.fill_tables.proofs.StatusLaws.{after-passed, after-stopped}
 use Rattle.request_refusals.specs.Refusals.{refusalOf}
 use Rattle.request_refusals.proofs.RefusalLaws.{accepts}
 use Rattle.damage.specs.Replay.{Replayed}
-use Rattle.damage.specs.Run.{Sound, Slow, Filled, failedIn, failedCount, blockOn, fillMost, tableFillMost, readMost, programMost}
+use Rattle.damage.specs.Run.{Sound, Slow, Meant, Filled, failedIn, failedCount, blockOn, fillMost, tableFillMost, readMost, programMost}
 use Rattle.damage.proofs.TraceLaws.{unfailed-none}
 use Rattle.damage.proofs.FailedLaws.{failed-none, failed-same}
 use Rattle.damage.proofs.FillLaws.{fill-leaves, fill-given}
@@ -77,7 +77,7 @@ module _ (s : Setting) (first : Progress) (st₀ : State) (u : Update) (ranged :
   abbrev held : List ℕ
   held = heldBits st₀ (g .logical)
 
-  v : Valid g
+  pub v : Valid g
   v = first-called .is-valid
 
   facts : Mounted st₀ (g .blocks) (g .logical)
@@ -100,13 +100,13 @@ module _ (s : Setting) (first : Progress) (st₀ : State) (u : Update) (ranged :
   abbrev flag : Progress → Bool
   flag p = ltb 0 (failedCount (p .started) (g .blocks))
 
-  record Before (st : State) (f : Bool) (p : Progress) : Type 0 where
-    mid : Mid st p
-    any-failed : f ≡ flag p
+  pub record Before (st : State) (f : Bool) (p : Progress) : Type 0 where
+    pub mid : Mid st p
+    pub any-failed : f ≡ flag p
 
   pub record Copies (c : Copied) : Type 0 where
-    ended : phase.Ended s v st₀ held st₀ CopyMade first (fillMost g) total 0 (c .answer) (c .state) (c .progress)
-    any-failed : c .answer ≡ 0 → c .failed ≡ flag (c .progress)
+    pub ended : phase.Ended s v st₀ held st₀ CopyMade first (fillMost g) total 0 (c .answer) (c .state) (c .progress)
+    pub any-failed : c .answer ≡ 0 → c .failed ≡ flag (c .progress)
 
   first-is : first .outcome ≡ Passed
   first-is = is-passed (first .outcome) first-passed
@@ -155,26 +155,29 @@ module _ (s : Setting) (first : Progress) (st₀ : State) (u : Update) (ranged :
     abbrev q : Progress
     q = copyFilled s u st b p
 
-    p-called : Called s (p .line)
+    pub p-called : Called s (p .line)
     p-called = x .sound .called (passed-answered (p .outcome) (x .passed))
 
     -- the old copy is as it was
     old-same : u .old < g .blocks → blockOn s p (u .old) ≡ blockIn g array₀ (u .old)
     old-same h = x .kept (u .old) h (held-unpermitted (st₀ .marked) (st₀ .invalid) held (u .old) (proper .old-held h))
 
-    old-bytes : u .old < g .blocks → Bytes (blockOn s p (u .old))
+    pub old-bytes : u .old < g .blocks → Bytes (blockOn s p (u .old))
     old-bytes h = subst Bytes (sym (old-same h)) (bytes-part (u .old * blockSize g) (blockSize g) array₀ (ranged .array-bytes))
 
-    unheld : bitAt held b ≡ false
+    pub unheld : bitAt held b ≡ false
     unheld = unheld-so (st .marked) (st .invalid) held b may
 
-    abbrev pages : ℕ → List ℕ
+    abbrev pub pages : ℕ → List ℕ
     pages = meant.pagesNew s v held u proper (p .line .chip .array) (p-called .array-long) old-bytes (nextNumber st) fits b unheld
+
+    pub copy-meant : Meant s (p .line .chip .array) b (copy dataKind (u .logical) (nextNumber st)) (dataSource g (u .old) (u .first) (u .count) (u .bytes)) pages
+    copy-meant = meant.data-meant s v held u proper (p .line .chip .array) (p-called .array-long) old-bytes (nextNumber st) fits b unheld
 
     left : Filled s p q b pages (g .pages) (fillMost g)
     left =
-        fill-leaves s p b below (copy dataKind (u .logical) (nextNumber st)) (dataSource g (u .old) (u .first) (u .count) (u .bytes)) pages
-        (meant.data-meant s v held u proper (p .line .chip .array) (p-called .array-long) old-bytes (nextNumber st) fits b unheld) (ranged .mask-bytes) (x .high) (x .passed) p-called
+        fill-leaves s p b below (copy dataKind (u .logical) (nextNumber st)) (dataSource g (u .old) (u .first) (u .count) (u .bytes)) pages copy-meant
+        (ranged .mask-bytes) (x .high) (x .passed) p-called
 
     -- it passed
     module _ (y : isPassed (q .outcome) ≡ true) where
@@ -211,7 +214,7 @@ module _ (s : Setting) (first : Progress) (st₀ : State) (u : Update) (ranged :
           any-failed = λ z. absurd (omega (arith, z, stop-least (q .outcome)));
         }
 
-    copy-failed : isFailed (q .outcome) ≡ true → Before (withInvalid b (taken st)) true (resumed q)
+    pub copy-failed : isFailed (q .outcome) ≡ true → Before (withInvalid b (taken st)) true (resumed q)
     copy-failed w =
         let next = phase.mid-failed s v st₀ held st₀ CopyMade first (fillMost g) total 0 st p x b below may q pages (g .pages) left w in
         record { mid = next; any-failed = sym (lt-ltb 0 (failedCount (q .started) (g .blocks)) (omega (arith, next .numbers, x .numbers))) }
@@ -230,7 +233,7 @@ module _ (s : Setting) (first : Progress) (st₀ : State) (u : Update) (ranged :
   abbrev made : Copied
   made = copiesFilled s held u (numbersLeft st₀) false st₀ first
 
-  before-first : Before st₀ false first
+  pub before-first : Before st₀ false first
   before-first = record { mid = mid-first; any-failed = sym (le-ltb 0 (failedCount (first .started) (g .blocks)) (omega (arith, no-failures))) }
 
   pub copies : Copies made
@@ -320,7 +323,7 @@ module _ (s : Setting) (first : Progress) (st₀ : State) (u : Update) (ranged :
     bits : Bitmap (g .blocks) (next .invalid)
     marked-same : next .marked ≡ st₀ .marked
     failures : (b : ℕ) → b < g .blocks → bitAt (next .invalid) b ≡ cond (bitAt (st₀ .invalid) b) true (failedIn b (q .started))
-    numbers : nextNumber next ≡ nextNumber st₀ + (failedCount (q .started) (g .blocks) + (1 + tables))
+    pub numbers : nextNumber next ≡ nextNumber st₀ + (failedCount (q .started) (g .blocks) + (1 + tables))
 
   -- the request as a whole; held₁ has the blocks that hold something current in the end, used is 1 after a data fill that passed
   pub record Whole (held₁ : List ℕ) (used tables : ℕ) (t : Tabled) : Type 0 where
@@ -328,7 +331,7 @@ module _ (s : Setting) (first : Progress) (st₀ : State) (u : Update) (ranged :
     pub at-most : t .answer ≤ 11
     sound : Sound s (t .progress)
     stopped : (t .answer ≡ 0 → ⊥) → t .state ≡ blank 2
-    done : t .answer ≡ 0 → Done tables (t .state) (t .progress)
+    pub done : t .answer ≡ 0 → Done tables (t .state) (t .progress)
     untouched : (b : ℕ) → b < g .blocks → (bitAt (st₀ .marked) b ≡ true) ⊎ (bitAt (st₀ .invalid) b ≡ true) → blockOn s (t .progress) b ≡ blockIn g array₀ b
     current : (b : ℕ) → b < g .blocks → bitAt held₁ b ≡ true → blockOn s (t .progress) b ≡ blockOn s (made .progress) b
     pub spent : first .line .left ≤ t .progress .line .left + fillsMost g
@@ -485,11 +488,11 @@ module _ (s : Setting) (d : Device) (n : ℕ) (st₀ : State) (u : Update) (rang
         uncut = refl;
       }
 
-  status-left : StatusLeft s begun shown
+  pub status-left : StatusLeft s begun shown
   unfolding isPassed
   status-left = status-leaves s begun refl begun-called
 
-  shown-started : shown .started ≡ []
+  pub shown-started : shown .started ≡ []
   unfolding isPassed
   shown-started = status-started s begun refl begun-called
 
@@ -512,10 +515,10 @@ module _ (s : Setting) (d : Device) (n : ℕ) (st₀ : State) (u : Update) (rang
 
   -- its fills, where the status shows that the chip may be written
   module _ (passed : isPassed (shown .outcome) ≡ true) where
-    shown-called : Called s (shown .line)
+    pub shown-called : Called s (shown .line)
     shown-called = status-left .next-called (passed-answered (shown .outcome) passed)
 
-    shown-range : InRange s (shown .line .chip) st₀
+    pub shown-range : InRange s (shown .line .chip) st₀
     shown-range =
         record {
           array-bytes = subst Bytes (sym (status-left .same-array)) (ranged .array-bytes);
@@ -525,7 +528,7 @@ module _ (s : Setting) (d : Device) (n : ℕ) (st₀ : State) (u : Update) (rang
           map-long = ranged .map-long;
         }
 
-    line-high : lineOf shown ≡ 0
+    pub line-high : lineOf shown ≡ 0
     unfolding isPassed
     line-high = shown-high s begun refl passed
 

@@ -35,10 +35,10 @@ permitted-free marked invalid held other b t f =
     rw (parts .0, parts .1, f)
 
 -- one of the first n entries is of this block
-record Named (map : List ℕ) (n c : ℕ) : Type 0 where
-  place : ℕ
-  within : place < n
-  is : getD map place 0 ≡ c
+pub record Named (map : List ℕ) (n c : ℕ) : Type 0 where
+  pub place : ℕ
+  pub within : place < n
+  pub is : getD map place 0 ≡ c
 
 add-from : (x : ℕ) (bits : List ℕ) (c : ℕ) → bitAt (addBlock x bits) c ≡ true → (bitAt bits c ≡ true) ⊎ (x ≡ c)
 add-from x bits c t =
@@ -55,7 +55,7 @@ copies-from map bits (suc n) c t =
     (λ e. inr (record { place = n; within = omega arith; is = e }))
     (add-from (getD map n 0) (copyBits map n bits) c t)
 
-held-from : (st : State) (n c : ℕ) → bitAt (heldBits st n) c ≡ true → (st .table ≡ c) ⊎ Named (st .map) n c
+pub held-from : (st : State) (n c : ℕ) → bitAt (heldBits st n) c ≡ true → (st .table ≡ c) ⊎ Named (st .map) n c
 held-from st n c t =
     ⊎-elim
     (λ u. inl (⊎-elim (λ w. clash w (blank-bit 512 c)) (λ e. e) (add-from (st .table) (replicate 512 0) c u)))

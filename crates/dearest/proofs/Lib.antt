@@ -1,0 +1,4 @@
+pub mod CycleLaws
+pub mod DearestTests
+pub mod ToldLaws
+pub mod WordLaws

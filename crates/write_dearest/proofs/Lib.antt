@@ -1,0 +1,12 @@
+pub mod AttainedLaws
+pub mod ChipLaws
+pub mod CostLaws
+pub mod DearestLaws
+pub mod ExistsLaws
+pub mod FillWordLaws
+pub mod MostLaws
+pub mod OldLaws
+pub mod OperationLaws
+pub mod SourceLaws
+pub mod SumLaws
+pub mod WriteLaws

@@ -1,0 +1,1 @@
+// The write that sends the most cycles and is still acknowledged: laws.
