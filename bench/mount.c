@@ -1,4 +1,7 @@
-/* Times a full mount through the chip model against one pass that counts the zero bits of the same array, by bytes and by words. */
+/*
+ * Times a full mount through the chip model against one pass that counts the zero bits of the same array, by bytes and by words; and a
+ * quick mount against a full one.
+ */
 #include <stdio.h>
 #include <stdlib.h>
 #include <string.h>
@@ -54,10 +57,11 @@ static void finish(uint8_t *page, uint8_t kind, size_t logical, size_t place, si
     put_number(spare + 13, 2, zero_bits(page, MAIN + 13));
 }
 
-/* Block 0 holds the table, with no invalid block; every other block a complete copy. */
-static void fill(uint8_t *array, size_t blocks) {
+/* Block 0 holds the table, with no invalid block; so many blocks in all are filled, the others each with a complete copy. */
+static void fill(uint8_t *array, size_t blocks, size_t filled) {
     uint64_t random = 1;
-    for (size_t b = 0; b < blocks; b++) {
+    memset(array, 0xff, BLOCK * blocks);
+    for (size_t b = 0; b < filled; b++) {
         for (size_t p = 0; p < PAGES; p++) {
             uint8_t *page = array + b * BLOCK + p * PAGE;
             memset(page, 0xff, MAIN);
@@ -76,6 +80,39 @@ static void fill(uint8_t *array, size_t blocks) {
             finish(page, b > 0 ? 0x64 : 0x74, b > 0 ? (b - 1) % (blocks - 2) : 0, p, b + 1);
         }
     }
+}
+
+typedef size_t mount_call(size_t, size_t, size_t, size_t, size_t, uint8_t *, size_t, size_t *, size_t, uint8_t *, size_t, uint8_t *,
+                          size_t, uint8_t *, size_t, const uint8_t *, size_t, const uint32_t *, size_t, uint32_t, size_t *,
+                          size_t);
+
+/* One mount of the 002 part, full or quick: its time, 0 where it was not answered 0 after so many cycles. */
+static double time_mount(mount_call *call, uint8_t *array, size_t cycles) {
+    size_t sent[1] = {0};
+    double t = now();
+    size_t answer = call(MAIN, SPARE, PAGES, MOST, MOST - 2, state, sizeof state, interface, FLASH_STORE_INTERFACE_WORDS, array,
+                         (size_t)BLOCK * MOST, page_register, PAGE, history, MOST, mask, BLOCK, fates, 0, FLASH_STORE_UNCUT,
+                         sent, 1);
+    t = now() - t;
+    return answer == FLASH_STORE_DONE && sent[0] == cycles ? t : 0;
+}
+
+/* A quick mount against a full one, in turn, best of the repeats; 1 where an answer or the cycles are not the expected ones. */
+static int compare(const char *name, uint8_t *array, size_t filled) {
+    size_t page = PAGE + 10, full_cycles = 3 + MOST * PAGES * page;
+    size_t quick_cycles = 3 + filled * (PAGES * page + 11) + (MOST - filled) * (2 * page + 11);
+    double full = 1e9, quick = 1e9;
+    for (int k = 0; k < REPEATS; k++) {
+        full = least(full, time_mount(flash_store_mount, array, full_cycles));
+        quick = least(quick, time_mount(flash_store_quick_mount, array, quick_cycles));
+    }
+    print_row_of(name, filled);
+    printf(" | ");
+    print_number(full_cycles);
+    printf(" | ");
+    print_number(quick_cycles);
+    printf(" | %.3f s | %.3f s | %.3f |\n", full, quick, quick / full);
+    return full == 0 || quick == 0;
 }
 
 /* Mount and counts, best of the repeats; 1 where an answer, the cycles or the counts are not the expected ones. */
@@ -113,13 +150,21 @@ int main(void) {
     printf("\n| Chip | Blocks | Answer | Cycles | Mount | Count by bytes | Times | Count by words | Times |\n");
     printf("|---|---|---|---|---|---|---|---|---|\n");
     for (size_t blocks = MOST / 8; blocks <= MOST; blocks *= 2) {
-        fill(array, blocks);
+        fill(array, blocks, blocks);
         differs |= measure("whole pages", array, blocks, FLASH_STORE_DONE);
     }
     for (size_t blocks = MOST / 8; blocks <= MOST; blocks *= 2) {
         memset(array, 0xff, BLOCK * blocks);
         differs |= measure("erased", array, blocks, FLASH_STORE_NO_TABLE);
     }
+    printf("\n| Chip | Filled blocks | Mount, cycles | Quick mount, cycles | Mount | Quick mount | Share |\n");
+    printf("|---|---|---|---|---|---|---|\n");
+    fill(array, MOST, 1);
+    differs |= compare("just formatted", array, 1);
+    fill(array, MOST, MOST / 2);
+    differs |= compare("half full", array, MOST / 2);
+    fill(array, MOST, MOST);
+    differs |= compare("full", array, MOST);
     free(array);
     return differs;
 }

@@ -41,6 +41,7 @@ static ucontext_t caller, callee;
 
 static void format(void) { answer = flash_store_do_format(&store, &call); }
 static void mount(void) { answer = flash_store_do_mount(&store, &call); }
+static void quick_mount(void) { answer = flash_store_do_quick_mount(&store, &call); }
 static void read_page(void) { answer = flash_store_do_read(&store, &call, 0, 0, page, MAIN); }
 static void write_page(void) { answer = flash_store_do_write(&store, &call, 0, 0, page, MAIN); }
 static void erase(void) { answer = flash_store_do_erase(&store, &call, 0); }
@@ -96,6 +97,7 @@ int main(void) {
     differs |= measure("dearest write", dearest, 6314);
     differs |= measure("format", format, 356);
     differs |= measure("mount", mount, 931);
+    differs |= measure("quick mount", quick_mount, 627);
     differs |= measure("write of a page without a copy", write_page, 237);
     differs |= measure("read of a page with a copy", read_page, MAIN + 10);
     call.fates = erase_fails;

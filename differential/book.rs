@@ -48,7 +48,7 @@ impl Book {
                     run.fail("a read differs from the book");
                 }
             }
-            Request::Mount => self.step_mount(run, world, answer),
+            Request::Mount | Request::QuickMount => self.step_mount(run, world, answer),
             _ => {}
         }
     }

@@ -288,6 +288,7 @@ fn usual_cycles(geometry: &Geometry, request: &Request) -> usize {
     match request {
         Request::Format => 5 + geometry.blocks * 29 + geometry.pages * page + 20,
         Request::Mount => 3 + geometry.blocks * geometry.pages * page,
+        Request::QuickMount => 3 + geometry.blocks * (geometry.pages * page + 11),
         Request::Read { .. } => 10 + geometry.main,
         Request::Identify => ASKED as usize,
         _ => 9 + geometry.pages * 2 * page,

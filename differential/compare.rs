@@ -113,8 +113,8 @@ impl Random {
 
 // ---- counting and reporting ----
 
-const KINDS: [&str; 10] =
-    ["format", "mount", "read", "write", "erase", "identify", "check", "price", "reconcile", "dearest"];
+const KINDS: [&str; 11] =
+    ["format", "mount", "read", "write", "erase", "identify", "check", "price", "reconcile", "dearest", "quick mount"];
 const ANSWERS: [usize; 18] = [0, 1, 2, 3, 4, 5, 6, 7, 8, 9, 10, 11, 12, 13, 17, 18, 100, 255];
 
 // Calls that are no requests to the store: the check of price rules, a price, sales held against each other, the dearest write.
@@ -131,6 +131,7 @@ fn kind_of(request: &Request) -> usize {
         Request::Write { .. } => 3,
         Request::Erase { .. } => 4,
         Request::Identify => 5,
+        Request::QuickMount => 10,
     }
 }
 
@@ -360,6 +361,10 @@ impl World {
 
     fn mount(&mut self, run: &mut Run) -> usize {
         self.simple(run, &Request::Mount, &[])
+    }
+
+    fn quick_mount(&mut self, run: &mut Run) -> usize {
+        self.simple(run, &Request::QuickMount, &[])
     }
 
     fn write(&mut self, run: &mut Run, block: usize, page: usize, byte: u8) -> usize {

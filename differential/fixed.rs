@@ -291,10 +291,11 @@ fn bench_line_first(run: &mut Run, base: &World) {
 
 // ---- every place of a request ----
 
-pub fn requests() -> [Request; 8] {
+pub fn requests() -> [Request; 9] {
     [
         Request::Format,
         Request::Mount,
+        Request::QuickMount,
         Request::Read { block: 0, page: 0 },
         Request::Write { block: 0, page: 1 },
         Request::Write { block: 1, page: 3 },
@@ -308,7 +309,7 @@ pub fn requests() -> [Request; 8] {
 pub fn masks(world: &World, request: &Request) -> Vec<Vec<u8>> {
     let random = Random::new(77).bytes(world.geometry.block_bytes());
     match request {
-        Request::Mount | Request::Read { .. } | Request::Identify => vec![random],
+        Request::Mount | Request::QuickMount | Request::Read { .. } | Request::Identify => vec![random],
         _ => vec![random, world.mask(0xFF), world.mask(0)],
     }
 }
@@ -334,9 +335,13 @@ fn try_call(run: &mut Run, base: &(World, Book), request: &Request, call: &Call)
         return;
     }
     book.step(run, &world, request, answer, &buffer);
+    let (mut quick, mut beside) = (world.duplicate(), book.clone());
     let answer = world.mount(run);
     book.step(run, &world, &Request::Mount, answer, &[]);
     book.compare_all(run, &world);
+    let answer = quick.quick_mount(run);
+    beside.step(run, &quick, &Request::QuickMount, answer, &[]);
+    beside.compare_all(run, &quick);
 }
 
 // Cycles and fate words of a request that is not cut, with these words at hand and this line.
@@ -395,7 +400,7 @@ pub fn cuts_of(run: &mut Run, base: &(World, Book), request: &Request, call: &Ca
 // Every cycle, but every seventh one of the longest mount.
 fn stride(world: &World, request: &Request) -> usize {
     match request {
-        Request::Mount if world.geometry.pages > 4 => 7,
+        Request::Mount | Request::QuickMount if world.geometry.pages > 4 => 7,
         _ => 1,
     }
 }
@@ -618,7 +623,7 @@ fn limits(run: &mut Run) {
 // Buffers of the right lengths: only the limits can refuse.
 fn at_limit(run: &mut Run, geometry: Geometry) {
     run.origin = format!("limits at {geometry:?}");
-    for request in [Request::Mount, Request::Format] {
+    for request in [Request::Mount, Request::QuickMount, Request::Format] {
         for allowed in [0, 11] {
             let mut world = World::fresh(geometry);
             let call = Call { allowed, ..world.plain() };
@@ -632,9 +637,11 @@ fn at_limit(run: &mut Run, geometry: Geometry) {
 
 fn mount_array(run: &mut Run, array: Vec<u8>) {
     let mut world = World::new(SMALL, array);
-    world.mount(run);
-    for block in 0..SMALL.logical {
-        world.read(run, block, 1);
+    for request in [Request::Mount, Request::QuickMount] {
+        world.simple(run, &request, &[]);
+        for block in 0..SMALL.logical {
+            world.read(run, block, 1);
+        }
     }
 }
 

@@ -1,4 +1,4 @@
-// The library's six calls from Rust.
+// The library's seven calls from Rust.
 
 use crate::store::*;
 
@@ -27,6 +27,7 @@ macro_rules! request_call {
 extern "C" {
     request_call!(flash_store_format);
     request_call!(flash_store_mount);
+    request_call!(flash_store_quick_mount);
     request_call!(flash_store_read, block: usize, page: usize, buffer: Lent<u8>, buffer_len: usize);
     request_call!(flash_store_write, block: usize, page: usize, bytes: *const u8, bytes_len: usize);
     request_call!(flash_store_erase, block: usize);
@@ -63,6 +64,7 @@ pub fn library(geometry: &Geometry, request: &Request, side: &mut Side, call: &C
         match request {
             Request::Format => lend!(flash_store_format, geometry, side, call),
             Request::Mount => lend!(flash_store_mount, geometry, side, call),
+            Request::QuickMount => lend!(flash_store_quick_mount, geometry, side, call),
             Request::Read { block, page } => {
                 lend!(flash_store_read, geometry, side, call, *block, *page, buffer, length)
             }

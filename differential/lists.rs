@@ -12,12 +12,21 @@ fn random_request(random: &mut Random, geometry: &Geometry) -> Request {
         page = random.pick(&[page, geometry.pages, far, usize::MAX]);
     }
     match random.below(11) {
-        0 | 1 => Request::Mount,
+        0 => Request::Mount,
+        1 => Request::QuickMount,
         2 | 3 | 4 => Request::Read { block, page },
         5 | 6 | 7 => Request::Write { block, page },
         8 => Request::Erase { block },
         9 => Request::Identify,
         _ => Request::Format,
+    }
+}
+
+fn either_mount(random: &mut Random) -> Request {
+    if random.one_in(2) {
+        Request::Mount
+    } else {
+        Request::QuickMount
     }
 }
 
@@ -44,7 +53,8 @@ fn wild_list(run: &mut Run, random: &mut Random) {
     world.both(|side| side.chip.history = history.clone());
     world.both(|side| side.chip.register = register.clone());
     if random.one_in(2) {
-        world.mount(run);
+        let request = either_mount(random);
+        world.simple(run, &request, &[]);
     }
     for _ in 0..1 + random.below(10) {
         forge(random, &mut world);
@@ -145,7 +155,7 @@ fn book_call(run: &mut Run, random: &mut Random, world: &mut World, book: &mut B
     let mounted = world.state().status == 1;
     let mut request = random_request(random, &geometry);
     if matches!(request, Request::Format) || !mounted && random.one_in(2) {
-        request = Request::Mount;
+        request = either_mount(random);
     }
     let call = random_call(random, &geometry, &request);
     let buffer = random_buffer(random, &geometry, &request);
@@ -164,7 +174,7 @@ fn book_call(run: &mut Run, random: &mut Random, world: &mut World, book: &mut B
     if answer == CUT && random.one_in(2) {
         power_on(random, world);
     }
-    if matches!(request, Request::Mount) && answer == DONE {
+    if request.mounts() && answer == DONE {
         world.watch.failed.clear();
         if random.one_in(4) {
             book.compare_all(run, world);
@@ -181,11 +191,12 @@ fn power_on(random: &mut Random, world: &mut World) {
 
 // A mount that is neither cut nor silent, with any other fates.
 fn last_mount(run: &mut Run, random: &mut Random, world: &mut World, book: &mut Book) {
-    let mut call = random_call(random, &world.geometry, &Request::Mount);
+    let request = either_mount(random);
+    let mut call = random_call(random, &world.geometry, &request);
     call.allowed = u32::MAX;
     call.fates.iter_mut().for_each(|fate| *fate &= 0xFFFF_00FF);
-    let answer = world.right(run, &Request::Mount, &call, &[]);
-    book.step(run, world, &Request::Mount, answer, &[]);
+    let answer = world.right(run, &request, &call, &[]);
+    book.step(run, world, &request, answer, &[]);
     if answer != DONE {
         run.fail("the mount after a list is refused");
     }

@@ -1,4 +1,4 @@
-// A second implementation of the flash store: chip model, page layout, mounted state and the six requests.
+// A second implementation of the flash store: chip model, page layout, mounted state and the seven requests.
 
 #[path = "parameters.rs"]
 pub mod parameters;
@@ -1100,18 +1100,38 @@ impl<'a> Store<'a> {
 
     // ---- mounting ----
 
-    fn scan(&mut self) -> Result<Scan, Stop> {
+    fn scan(&mut self, quick: bool) -> Result<Scan, Stop> {
         let geometry = self.geometry();
         let mut scan = Scan { summaries: Vec::new(), table: None, pages: Vec::new() };
         self.bus.reset()?;
         for block in 0..geometry.blocks {
-            let mut bytes = Vec::with_capacity(geometry.block_bytes());
-            for page in 0..geometry.pages {
-                bytes.extend(self.bus.read_page(block, page)?);
-            }
-            scan.add(&geometry, block, bytes);
+            let pages = if quick { self.ends_first(block)? } else { self.in_order(block)? };
+            scan.add(&geometry, block, pages.concat());
         }
         Ok(scan)
+    }
+
+    fn in_order(&mut self, block: usize) -> Result<Vec<Vec<u8>>, Stop> {
+        (0..self.geometry().pages).map(|page| self.bus.read_page(block, page)).collect()
+    }
+
+    // The first page, the last page, the mark byte of page 1; then the others where these two are whole. A page that is not read is all
+    // zeros but for its mark byte, so that it is not whole.
+    fn ends_first(&mut self, block: usize) -> Result<Vec<Vec<u8>>, Stop> {
+        let geometry = self.geometry();
+        let mut unread = vec![0; geometry.page_bytes()];
+        unread[geometry.main] = 0xFF;
+        let mut pages = vec![unread; geometry.pages];
+        let last = geometry.pages - 1;
+        pages[0] = self.bus.read_page(block, 0)?;
+        pages[last] = self.bus.read_page(block, last)?;
+        pages[1][geometry.main] = self.bus.read(block, 1, geometry.main, 1)?[0];
+        if whole_page(&geometry, &pages[0]).is_some() && whole_page(&geometry, &pages[last]).is_some() {
+            for page in 1..last {
+                pages[page] = self.bus.read_page(block, page)?;
+            }
+        }
+        Ok(pages)
     }
 }
 
@@ -1206,6 +1226,7 @@ fn current_copies(geometry: &Geometry, copies: &[(usize, Label)]) -> Vec<u16> {
 pub enum Request {
     Format,
     Mount,
+    QuickMount,
     Read { block: usize, page: usize },
     Write { block: usize, page: usize },
     Erase { block: usize },
@@ -1213,8 +1234,12 @@ pub enum Request {
 }
 
 impl Request {
+    pub fn mounts(&self) -> bool {
+        matches!(self, Request::Mount | Request::QuickMount)
+    }
+
     fn needs_mount(&self) -> bool {
-        !matches!(self, Request::Format | Request::Mount | Request::Identify)
+        !self.mounts() && !matches!(self, Request::Format | Request::Identify)
     }
 
     fn address_right(&self, geometry: &Geometry) -> bool {
@@ -1318,7 +1343,8 @@ fn reads_blank(request: &Request, state: &State) -> bool {
 fn carry_out(store: &mut Store, request: &Request, buffer: &mut Vec<u8>, sizes: &mut [u64]) -> Result<usize, Stop> {
     match request {
         Request::Format => store.format()?,
-        Request::Mount => return mount(store),
+        Request::Mount => return mount(store, false),
+        Request::QuickMount => return mount(store, true),
         Request::Read { block, page } => *buffer = read(store, *block, *page)?,
         Request::Write { block, page } => {
             let bytes = buffer.clone();
@@ -1344,9 +1370,9 @@ fn identify(store: &mut Store, sizes: &mut [u64]) -> Result<usize, Stop> {
     }
 }
 
-fn mount(store: &mut Store) -> Result<usize, Stop> {
+fn mount(store: &mut Store, quick: bool) -> Result<usize, Stop> {
     let geometry = store.geometry();
-    let scan = store.scan()?;
+    let scan = store.scan(quick)?;
     match scan.judge(&geometry) {
         Ok(state) => {
             store.state = state;

@@ -3,3 +3,5 @@ pub mod PickLaws
 pub mod PlaceLaws
 pub mod NumberLaws
 pub mod CompleteLaws
+pub mod QuickLaws
+pub mod QuickTests

@@ -1,6 +1,6 @@
 -- Numbers on whole pages: the greatest of a block and of an array, the next number and the block filled last. Assumes nothing.
 use Prim.Native.Nat.{ℕ, zero, suc, _+_, _-_, _≤_, _<_}
-use mathlib.Core.Bool.{Bool, true, false, cond, false≢true}
+use mathlib.Core.Bool.{Bool, true, false, false≢true}
 use mathlib.Core.List.{List}
 use mathlib.Core.Logic.{_⊎_, _↔_, inl, inr}
 use mathlib.Core.Path.{_≡_, refl, sym, ap, subst, _∙_}
@@ -65,17 +65,17 @@ unfolding hasNumber greatest
 none-greatest g row f = cases (isMarked g row) (λ t. rw t) (λ t. rw t (none-to g row (g .pages) (sym (rw t) ∙ f)))
 
 -- a page that bears the greatest number of the first n
-record Greatest (g : Geometry) (row : List ℕ) (n : ℕ) : Type 0 where
-  page : ℕ
-  within : page < n
-  is-whole : wholeIn g row page ≡ true
-  bears : labelIn g row page .number ≡ greatestTo g row n
+pub record Greatest (g : Geometry) (row : List ℕ) (n : ℕ) : Type 0 where
+  pub page : ℕ
+  pub within : page < n
+  pub is-whole : wholeIn g row page ≡ true
+  pub bears : labelIn g row page .number ≡ greatestTo g row n
 
 still-greatest : (g : Geometry) (row : List ℕ) (n : ℕ) → greatestTo g row n ≡ greatestTo g row (suc n) → Greatest g row n → Greatest g row (suc n)
 still-greatest g row n e r =
     record { page = r .page; within = omega (arith, r .within); is-whole = r .is-whole; bears = r .bears ∙ e }
 
-greatest-on : (g : Geometry) (row : List ℕ) (n : ℕ) → anyTo g row n ≡ true → Greatest g row n
+pub greatest-on : (g : Geometry) (row : List ℕ) (n : ℕ) → anyTo g row n ≡ true → Greatest g row n
 unfolding anyTo greatestTo
 greatest-on g row zero t = absurd (false≢true t)
 greatest-on g row (suc n) t =

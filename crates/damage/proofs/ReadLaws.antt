@@ -22,13 +22,19 @@ use Rattle.operations.proofs.ReadLaws.{read-ends, read-legal, read-next, read-s
 use Rattle.operations.proofs.ResetLaws.{reset-ends, reset-legal}
 use Rattle.operations.specs.Trace.{ArrayOperation, readStarts}
 use Rattle.progress.specs.Progress.{Progress, progress, readOn, resetOn}
-use Rattle.scan_block.specs.Pages.{pagesRead}
+use Rattle.copies.specs.Blocks.{blockIn}
+use Rattle.copies.specs.Quick.{lastPage, endsWhole}
+use Rattle.scan_summary.specs.declared.Depth.{Depth}
+use Rattle.scan_summary.specs.declared.Depth.the-variants.{Full, Quick}
+use Rattle.scan_block.specs.Pages.{pagesFrom, pagesRead}
+use Rattle.scan_block.proofs.ScanLaws.{from-first}
+use Rattle.scan_quick.specs.BlockRead.{pageRead, endsRead, quickRead, blockRead}
 use Rattle.scan.specs.Scan.{blocksRead}
 use Rattle.progress.proofs.ReadOnLaws.{read-line, read-outcome, read-stopped}
 use Rattle.bus_polling.proofs.OutcomeLaws.{is-passed, read-passed, read-known, read-end-unfailed, read-end-unprotected}
 use Rattle.request.specs.Call.{sizedFor, callLine}
 use Rattle.request.proofs.ResetLaws.{reset-called}
-use Rattle.damage.specs.Run.{failedIn, NoneFailed, Unchanged, Spent, readMost}
+use Rattle.damage.specs.Run.{failedIn, NoneFailed, Unchanged, Spent, readMost, scanMost}
 use Rattle.damage.proofs.TraceLaws.{failed-append, failed-one, read-unfailed}
 use Rattle.bools.proofs.BoolLaws.{and-none, or-none}
 use Rattle.damage.proofs.FateLaws.{read-slow}
@@ -119,43 +125,107 @@ module _ (s : Setting) (array history : List ℕ) where
 
   -- pages read whole
   module _ (v : Valid (s .geometry)) where
-    pub pages-unchanged : (block : ℕ) → block < s .geometry .blocks → (n : ℕ) → n ≤ s .geometry .pages → (p : Progress) → Unchanged s array history p → Unchanged s array history (pagesRead s block n p)
-    unfolding pagesRead
-    pages-unchanged block b zero h p u = u
-    pages-unchanged block b (suc n) h p u =
-        read-unchanged (rowOf (s .geometry) block n) 0 (pageSize (s .geometry)) (row-below (s .geometry) v block n b (omega (arith, h))) (omega (arith, v .main-least)) (omega arith)
-        (pagesRead s block n p)
-        (pages-unchanged block b n (omega (arith, h)) p u)
+    module _ (block : ℕ) (b : block < s .geometry .blocks) where
+      from-unchanged : (first n : ℕ) → first + n ≤ s .geometry .pages → (p : Progress) → Unchanged s array history p → Unchanged s array history (pagesFrom s block first n p)
+      unfolding pagesFrom
+      from-unchanged first zero h p u = u
+      from-unchanged first (suc n) h p u =
+          read-unchanged (rowOf (s .geometry) block (first + n)) 0 (pageSize (s .geometry)) (row-below (s .geometry) v block (first + n) b (omega (arith, h))) (omega (arith, v .main-least)) (omega arith)
+          (pagesFrom s block first n p)
+          (from-unchanged first n (omega (arith, h)) p u)
 
-    pub pages-spend : (block : ℕ) → block < s .geometry .blocks → (n : ℕ) → n ≤ s .geometry .pages → (p : Progress) → Unchanged s array history p → Spent p (pagesRead s block n p) (n * readMost (pageSize (s .geometry)))
-    unfolding pagesRead
-    pages-spend block b zero h p u = omega arith
-    pages-spend block b (suc n) h p u =
-        let last =
-        read-spends (rowOf (s .geometry) block n) 0 (pageSize (s .geometry)) (row-below (s .geometry) v block n b (omega (arith, h))) (omega (arith, v .main-least)) (omega arith)
-        (pagesRead s block n p) (pages-unchanged block b n (omega (arith, h)) p u) in
-        omega (arith, last, pages-spend block b n (omega (arith, h)) p u, suc-mul n (readMost (pageSize (s .geometry))))
+      from-spend : (first n : ℕ) → first + n ≤ s .geometry .pages → (p : Progress) → Unchanged s array history p → Spent p (pagesFrom s block first n p) (n * readMost (pageSize (s .geometry)))
+      unfolding pagesFrom
+      from-spend first zero h p u = omega arith
+      from-spend first (suc n) h p u =
+          let last =
+          read-spends (rowOf (s .geometry) block (first + n)) 0 (pageSize (s .geometry)) (row-below (s .geometry) v block (first + n) b (omega (arith, h))) (omega (arith, v .main-least)) (omega arith)
+          (pagesFrom s block first n p) (from-unchanged first n (omega (arith, h)) p u) in
+          omega (arith, last, from-spend first n (omega (arith, h)) p u, suc-mul n (readMost (pageSize (s .geometry))))
 
-    pub pages-calm : (block : ℕ) → block < s .geometry .blocks → (n : ℕ) → n ≤ s .geometry .pages → (p : Progress) → Unchanged s array history p → NoneFailed p (pagesRead s block n p)
-    unfolding pagesRead
-    pages-calm block b zero h p u c = refl
-    pages-calm block b (suc n) h p u c =
-        read-calm (rowOf (s .geometry) block n) 0 (pageSize (s .geometry)) (row-below (s .geometry) v block n b (omega (arith, h))) (omega (arith, v .main-least)) (omega arith)
-        (pagesRead s block n p) (pages-unchanged block b n (omega (arith, h)) p u) c
-        ∙ pages-calm block b n (omega (arith, h)) p u c
+      -- the first page, the last page and the mark byte of page 1
+      ends-unchanged : (p : Progress) → Unchanged s array history p → Unchanged s array history (endsRead s block p)
+      unfolding endsRead
+      ends-unchanged p u =
+          read-unchanged (rowOf (s .geometry) block 1) (s .geometry .main) 1 (row-below (s .geometry) v block 1 b (omega (arith, v .pages-least))) (omega (arith, v .spare-least)) (omega (arith, v .spare-least)) _
+          (read-unchanged (rowOf (s .geometry) block (lastPage (s .geometry))) 0 (pageSize (s .geometry)) (row-below (s .geometry) v block (lastPage (s .geometry)) b (omega (arith, v .pages-least))) (omega (arith, v .main-least)) (omega arith) _
+          (read-unchanged (rowOf (s .geometry) block 0) 0 (pageSize (s .geometry)) (row-below (s .geometry) v block 0 b (omega (arith, v .pages-least))) (omega (arith, v .main-least)) (omega arith) p u))
 
-    pub blocks-unchanged : (n : ℕ) → n ≤ s .geometry .blocks → (p : Progress) → Unchanged s array history p → Unchanged s array history (blocksRead s n p)
+      ends-spend : (p : Progress) → Unchanged s array history p → Spent p (endsRead s block p) (readMost (pageSize (s .geometry)) + readMost (pageSize (s .geometry)) + readMost 1)
+      unfolding endsRead
+      ends-spend p u =
+          let first-fits = row-below (s .geometry) v block 0 b (omega (arith, v .pages-least)) in
+          let last-fits = row-below (s .geometry) v block (lastPage (s .geometry)) b (omega (arith, v .pages-least)) in
+          let one = pageRead s block 0 p in
+          let one-same = read-unchanged (rowOf (s .geometry) block 0) 0 (pageSize (s .geometry)) first-fits (omega (arith, v .main-least)) (omega arith) p u in
+          let two = pageRead s block (lastPage (s .geometry)) one in
+          let two-same = read-unchanged (rowOf (s .geometry) block (lastPage (s .geometry))) 0 (pageSize (s .geometry)) last-fits (omega (arith, v .main-least)) (omega arith) one one-same in
+          let spent-one = read-spends (rowOf (s .geometry) block 0) 0 (pageSize (s .geometry)) first-fits (omega (arith, v .main-least)) (omega arith) p u in
+          let spent-two = read-spends (rowOf (s .geometry) block (lastPage (s .geometry))) 0 (pageSize (s .geometry)) last-fits (omega (arith, v .main-least)) (omega arith) one one-same in
+          let spent-mark = read-spends (rowOf (s .geometry) block 1) (s .geometry .main) 1 (row-below (s .geometry) v block 1 b (omega (arith, v .pages-least))) (omega (arith, v .spare-least)) (omega (arith, v .spare-least)) two two-same in
+          omega (arith, spent-one, spent-two, spent-mark)
+
+      quick-unchanged : (p : Progress) → Unchanged s array history p → Unchanged s array history (quickRead s block p)
+      unfolding quickRead
+      quick-unchanged p u =
+          cases (endsWhole (s .geometry) (blockIn (s .geometry) (p .line .chip .array) block))
+          (λ t. rw t (from-unchanged 1 (s .geometry .pages - 2) (omega (arith, v .pages-least)) (endsRead s block p) (ends-unchanged p u)))
+          (λ t. rw t (ends-unchanged p u))
+
+      -- pages 1 to the last but one, and the two ends
+      all-pages : (r : ℕ) → (s .geometry .pages - 2) * r + r + r ≡ s .geometry .pages * r
+      all-pages r =
+          let k = s .geometry .pages - 2 in
+          let e : suc (suc k) ≡ s .geometry .pages = omega (arith, v .pages-least) in
+          omega (arith, suc-mul k r, suc-mul (suc k) r, ap (λ (x : ℕ). x * r) e)
+
+      quick-spend : (p : Progress) → Unchanged s array history p → Spent p (quickRead s block p) (scanMost Quick (s .geometry))
+      unfolding quickRead scanMost
+      quick-spend p u =
+          let ends = ends-spend p u in
+          let all = all-pages (readMost (pageSize (s .geometry))) in
+          cases (endsWhole (s .geometry) (blockIn (s .geometry) (p .line .chip .array) block))
+          (λ t. rw t (omega (arith, ends, all, from-spend 1 (s .geometry .pages - 2) (omega (arith, v .pages-least)) (endsRead s block p) (ends-unchanged p u))))
+          (λ t. rw t (omega (arith, ends, all)))
+
+      pub pages-unchanged : (n : ℕ) → n ≤ s .geometry .pages → (p : Progress) → Unchanged s array history p → Unchanged s array history (pagesRead s block n p)
+      pages-unchanged n h p u = subst (Unchanged s array history) (from-first s block n p) (from-unchanged 0 n (omega (arith, h)) p u)
+
+      pub pages-spend : (n : ℕ) → n ≤ s .geometry .pages → (p : Progress) → Unchanged s array history p → Spent p (pagesRead s block n p) (n * readMost (pageSize (s .geometry)))
+      pages-spend n h p u =
+          subst (λ (q : Progress). Spent p q (n * readMost (pageSize (s .geometry)))) (from-first s block n p) (from-spend 0 n (omega (arith, h)) p u)
+
+      pub pages-calm : (n : ℕ) → n ≤ s .geometry .pages → (p : Progress) → Unchanged s array history p → NoneFailed p (pagesRead s block n p)
+      unfolding pagesRead
+      pages-calm zero h p u c = refl
+      pages-calm (suc n) h p u c =
+          read-calm (rowOf (s .geometry) block n) 0 (pageSize (s .geometry)) (row-below (s .geometry) v block n b (omega (arith, h))) (omega (arith, v .main-least)) (omega arith)
+          (pagesRead s block n p) (pages-unchanged n (omega (arith, h)) p u) c
+          ∙ pages-calm n (omega (arith, h)) p u c
+
+      -- a block at either depth
+      block-unchanged : (depth : Depth) (p : Progress) → Unchanged s array history p → Unchanged s array history (blockRead depth s block p)
+      unfolding blockRead
+      block-unchanged Full p u = pages-unchanged (s .geometry .pages) (omega arith) p u
+      block-unchanged Quick p u = quick-unchanged p u
+
+      block-spend : (depth : Depth) (p : Progress) → Unchanged s array history p → Spent p (blockRead depth s block p) (scanMost depth (s .geometry))
+      unfolding blockRead scanMost
+      block-spend Full p u = pages-spend (s .geometry .pages) (omega arith) p u
+      block-spend Quick p u = quick-spend p u
+
+    pub blocks-unchanged : (depth : Depth) (n : ℕ) → n ≤ s .geometry .blocks → (p : Progress) → Unchanged s array history p → Unchanged s array history (blocksRead depth s n p)
     unfolding blocksRead
-    blocks-unchanged zero h p u = u
-    blocks-unchanged (suc n) h p u =
-        pages-unchanged n (omega (arith, h)) (s .geometry .pages) (omega arith) (blocksRead s n p) (blocks-unchanged n (omega (arith, h)) p u)
+    blocks-unchanged depth zero h p u = u
+    blocks-unchanged depth (suc n) h p u =
+        block-unchanged n (omega (arith, h)) depth (blocksRead depth s n p) (blocks-unchanged depth n (omega (arith, h)) p u)
 
-    pub blocks-spend : (n : ℕ) → n ≤ s .geometry .blocks → (p : Progress) → Unchanged s array history p → Spent p (blocksRead s n p) (n * (s .geometry .pages * readMost (pageSize (s .geometry))))
+    pub blocks-spend : (depth : Depth) (n : ℕ) → n ≤ s .geometry .blocks → (p : Progress) → Unchanged s array history p → Spent p (blocksRead depth s n p) (n * scanMost depth (s .geometry))
     unfolding blocksRead
-    blocks-spend zero h p u = omega arith
-    blocks-spend (suc n) h p u =
-        let last = pages-spend n (omega (arith, h)) (s .geometry .pages) (omega arith) (blocksRead s n p) (blocks-unchanged n (omega (arith, h)) p u) in
-        omega (arith, last, blocks-spend n (omega (arith, h)) p u, suc-mul n (s .geometry .pages * readMost (pageSize (s .geometry))))
+    blocks-spend depth zero h p u = omega arith
+    blocks-spend depth (suc n) h p u =
+        let last = block-spend n (omega (arith, h)) depth (blocksRead depth s n p) (blocks-unchanged depth n (omega (arith, h)) p u) in
+        omega (arith, last, blocks-spend depth n (omega (arith, h)) p u, suc-mul n (scanMost depth (s .geometry)))
 
 -- the reset with which a call begins
 module _ (s : Setting) (d : Device) (n : ℕ) (t : sizedFor s d ≡ true) where

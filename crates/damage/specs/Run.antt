@@ -18,6 +18,8 @@ use Rattle.operations.specs.Trace.{ArrayOperation}
 use Rattle.pages.specs.Layout.{numberWidth}
 use Rattle.pages.specs.Over.{Over}
 use Rattle.copies.specs.Blocks.{blockIn, pageIn, mainIn}
+use Rattle.scan_summary.specs.declared.Depth.{Depth}
+use Rattle.scan_summary.specs.declared.Depth.the-variants.{Full, Quick}
 use Rattle.progress.specs.Progress.{Progress, lineOf}
 use Rattle.fill.specs.Fill.{Copy, Source, given, kept, copyPage}
 
@@ -94,6 +96,11 @@ programMost g = 264 + pageSize g
 
 abbrev pub eraseMost : ℕ
 eraseMost = 262
+
+-- those of the scan of a block at either depth: every page once, and the mark byte of page 1
+unfoldable pub scanMost : Depth → Geometry → ℕ
+scanMost Full g = g .pages * readMost (pageSize g)
+scanMost Quick g = g .pages * readMost (pageSize g) + readMost 1
 
 -- those of a page that is filled after a kept read, and of a whole fill
 abbrev pub pageMost : Geometry → ℕ

@@ -1,4 +1,5 @@
 // Runs the requests on the small chip: a word for each case, then answer, cycles sent and free blocks.
+mod mounts;
 mod protected;
 mod writes;
 
@@ -64,4 +65,5 @@ fn main() {
     writes::show_failed_erase();
     writes::show_cut_write();
     protected::show_all();
+    mounts::show_mounts();
 }

@@ -2,6 +2,7 @@
 use chip_interface::Interface;
 use geometry::Geometry;
 use request::Returned;
+use scan_summary::Depth;
 use state::State;
 ghost use mathlib.Core.Path.{_≡_};
 ghost use lib.ListN.{replicate};
@@ -9,6 +10,7 @@ ghost use Rattle.chip_array.specs.Device.{device, setting};
 ghost use Rattle.request.specs.Call.{result};
 ghost use Rattle.read_page.specs.Fetching.{readResult};
 ghost use Rattle.format.specs.Format.{formatting};
+ghost use Rattle.scan_summary.specs.declared.Depth.the-variants.{Full, Quick};
 ghost use Rattle.mount.specs.Mount.{mounting};
 ghost use Rattle.read.specs.Reading.{readingPage};
 ghost use Rattle.write_changes.specs.Changes.{writing, erasingLogical};
@@ -114,7 +116,7 @@ pub fn format(store: Store, mask: &[u8], fates: &[u32], allowed: u32) -> Ended
 
 // Mounts.
 pub fn mount(store: Store, mask: &[u8], fates: &[u32], allowed: u32) -> Ended
-    ensures { λ r. ⌜ endedAs r ≡ mounting (setting (store .geometry) (now (mask .entry)) (now (fates .entry))) (chipIn store) allowed (store .state) ⌝ }
+    ensures { λ r. ⌜ endedAs r ≡ mounting Full (setting (store .geometry) (now (mask .entry)) (now (fates .entry))) (chipIn store) allowed (store .state) ⌝ }
     ensures { λ r. ⌜ r .store .geometry ≡ store .geometry ⌝ }
 {
     let g = store.geometry;
@@ -124,6 +126,33 @@ pub fn mount(store: Store, mask: &[u8], fates: &[u32], allowed: u32) -> Ended
     let mut register = store.register;
     let mut history = store.history;
     let returned = mount::mount(
+        Depth::Full,
+        state,
+        g,
+        interface,
+        &mut array,
+        &mut register,
+        &mut history,
+        mask,
+        fates,
+        allowed,
+    );
+    put_together(returned, g, array, register, history)
+}
+
+// Mounts quickly.
+pub fn quick_mount(store: Store, mask: &[u8], fates: &[u32], allowed: u32) -> Ended
+    ensures { λ r. ⌜ endedAs r ≡ mounting Quick (setting (store .geometry) (now (mask .entry)) (now (fates .entry))) (chipIn store) allowed (store .state) ⌝ }
+    ensures { λ r. ⌜ r .store .geometry ≡ store .geometry ⌝ }
+{
+    let g = store.geometry;
+    let state = store.state;
+    let interface = store.interface;
+    let mut array = store.array;
+    let mut register = store.register;
+    let mut history = store.history;
+    let returned = mount::mount(
+        Depth::Quick,
         state,
         g,
         interface,

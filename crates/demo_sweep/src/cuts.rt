@@ -2,6 +2,7 @@
 use demo_store::Store;
 use demo_store::UNCUT;
 use libc::STDOUT_FILENO;
+use state::State;
 ghost use Prim.Native.Nat.{_≤_};
 
 // What the old copy has in page 0.
@@ -139,16 +140,45 @@ fn prepare(older: usize) -> Store {
     written(store, OLD)
 }
 
-// One run: the write is cut at a cycle, the chip is mounted, and all pages are read.
+// Whether two mounted states have the same table and the same copies of both logical blocks.
+fn is_same(a: State, b: State) -> bool {
+    if a.table != b.table {
+        return false;
+    }
+    let of_a = a.map;
+    let of_b = b.map;
+    if of_a[0] != of_b[0] {
+        return false;
+    }
+    of_a[1] == of_b[1]
+}
+
+// What a mount brings back, 2 where a quick mount brings back anything else.
+fn mounted_both(left: Store, mask: &[u8]) -> usize {
+    let fates = [0u32; 0];
+    let full = demo_store::mount(left, mask, &fates, UNCUT);
+    let quick = demo_store::quick_mount(left, mask, &fates, UNCUT);
+    let by_full = full.store;
+    let by_quick = quick.store;
+    let reading = read_all(by_full);
+    if read_all(by_quick) != reading {
+        return 2;
+    }
+    if !is_same(by_full.state, by_quick.state) {
+        return 2;
+    }
+    reading
+}
+
+// One run: the write is cut at a cycle, the chip is mounted in full and quickly, and all pages are read.
 fn cut_at(before: Store, block: usize, mask: &[u8], allowed: u32) -> Seen {
     let fates = [0u32; 0];
     let was = before.array;
     let cut = demo_store::write(before, mask, &fates, allowed, 0, 1, NEW);
     let left = cut.store;
     let array = left.array;
-    let mounted = demo_store::mount(left, mask, &fates, UNCUT);
     Seen {
-        reading: acknowledged(cut.answer, read_all(mounted.store)),
+        reading: acknowledged(cut.answer, mounted_both(left, mask)),
         block: look_at(&was, &array, block),
     }
 }

@@ -6,7 +6,8 @@ use libc::STDOUT_FILENO;
 
 // A call is a letter: A writes A5h and B 5Ah to page 0 of logical block 0; a and b are A and B cut after the last confirm
 // cycle, and c is B cut before; P is B with the write-protect line low, p a mount with it low; X writes to logical block 2, r
-// is a read that is cut; M mounts, N with a mask that is too short, S with 256 busy reads.
+// is a read that is cut; M mounts, Q quickly, N with a mask that is too short, S with 256
+// busy reads.
 fn allowed_for(call: u8) -> u32 {
     match call {
         b'a' | b'b' => 362,
@@ -54,6 +55,9 @@ fn perform(mut store: Store, call: u8) -> Ended {
     let allowed = allowed_for(call);
     if is_mount(call) {
         return demo_store::mount(store, &mask, &fates, allowed);
+    }
+    if call == b'Q' {
+        return demo_store::quick_mount(store, &mask, &fates, allowed);
     }
     if call == b'N' {
         return demo_store::mount(store, &[0xffu8; 191], &fates, allowed);

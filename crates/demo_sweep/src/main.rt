@@ -1,4 +1,5 @@
-// A power-cut sweep: a write cut at every cycle with several masks, then a mount and a reading; and lists of calls.
+// A power-cut sweep: a write cut at every cycle with several masks, then a mount, a quick mount and a reading after each; and lists
+// of calls.
 mod cuts;
 mod lists;
 
@@ -34,7 +35,10 @@ fn main() {
     let fresh = sweep_masks(b"erased", 0, 2);
     let reused = sweep_masks(b"reused", 2, 1);
     if fresh | reused == 0 {
-        io::write_all(STDOUT_FILENO, b"none was anything else\n");
+        io::write_all(
+            STDOUT_FILENO,
+            b"none was anything else, by a mount or by a quick mount\n",
+        );
     }
     lists::show(b"survives:", b"AbM");
     lists::show(b"is lost:", b"AcM");
@@ -42,6 +46,9 @@ fn main() {
     lists::show(b"cut read:", b"ArBM");
     lists::show(b"refused calls:", b"AXbNXM");
     lists::show(b"silent mount:", b"AbSM");
+    lists::show(b"quick mount, survives:", b"AbQ");
+    lists::show(b"quick mount, is lost:", b"AcQ");
+    lists::show(b"both:", b"AbQAcMbQ");
     lists::show(b"protected:", b"APpM");
     lists::show(b"protected, then released:", b"APBM");
 }

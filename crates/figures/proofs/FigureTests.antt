@@ -15,7 +15,10 @@ use Rattle.bus_sequences.specs.Cycles.{readCycles, readOutcome, putOut, readOut
 use Rattle.operations.specs.Trace.{startedBy}
 use Rattle.operations.specs.Ends.{statusEnd}
 use Rattle.progress.specs.Progress.{readOn, resetOn, statusOn}
-use Rattle.scan_block.specs.Pages.{pagesRead}
+use Rattle.scan_block.specs.Pages.{pagesFrom, pagesRead}
+use Rattle.scan_summary.specs.declared.Depth.the-variants.{Full, Quick}
+use Rattle.copies.specs.Quick.{endsWhole}
+use Rattle.scan_quick.specs.BlockRead.{endsRead, quickRead, blockRead}
 use Rattle.scan.specs.Scan.{blocksRead}
 use Rattle.request.specs.Call.{callLine, sized, stopAnswer, statusAnswer, statusState, resultOf}
 use Rattle.bitmaps.specs.Bitmap.{bitAt, withBit, countBits, clearFrom, neverBoth}
@@ -85,9 +88,14 @@ unfolding resultOf ones begun statusMode readMode plainCommand addressFits latch
 format-wide = refl
 
 -- a mount of what was formatted: 16 pages of 48 bytes and the reset
-mount-sends : length (mountRun (bench.call []) (callLine (bench.chipWith bench.tableArray) 10000) .cycles) ≡ 931
-unfolding resultOf ones begun statusMode readMode plainCommand addressFits latched addressed fateWord nextFate started statusByte fitting readStarted programStarted eraseStarted completed isConfirm confirmed confirmable commanded dataTaken dataGiven dataByte finished statusRead exec programmed weakened raised put mayGo cutAfter send byteOut sendAll sent goesOn waiting polls outcomeOf isPassed endedAs readCycles readOutcome putOut readOutputs startedBy readOn resetOn statusOn pagesRead blocksRead sized stopAnswer isSilent isCut bitAt withBit countBits zeroBits numberWidth bytesOf numberOf labelBytes encoded kindOf labelOf allOnes storedCheck countedCheck whole isMarked marksTo marksRead afterErase blockErased failedAt erasedTo eraseOn programOn isFailed mainOf mainRead pageFilled pagesFilled tableMain permitted searchAfter countPermitted afterFill tryBlock tryTable tablesFilled firstState tooFew tablesRun roundRun statusRun marksRun formatRequest table.tablePage isDataKind isTableKind anyTo greatest joined numbersAt greatestBelow greatestTo hasNumber statusEnd afterStatus
+mount-sends : length (mountRun Full (bench.call []) (callLine (bench.chipWith bench.tableArray) 10000) .cycles) ≡ 931
+unfolding resultOf ones begun statusMode readMode plainCommand addressFits latched addressed fateWord nextFate started statusByte fitting readStarted programStarted eraseStarted completed isConfirm confirmed confirmable commanded dataTaken dataGiven dataByte finished statusRead exec programmed weakened raised put mayGo cutAfter send byteOut sendAll sent goesOn waiting polls outcomeOf isPassed endedAs readCycles readOutcome putOut readOutputs startedBy readOn resetOn statusOn pagesRead blockRead blocksRead sized stopAnswer isSilent isCut bitAt withBit countBits zeroBits numberWidth bytesOf numberOf labelBytes encoded kindOf labelOf allOnes storedCheck countedCheck whole isMarked marksTo marksRead afterErase blockErased failedAt erasedTo eraseOn programOn isFailed mainOf mainRead pageFilled pagesFilled tableMain permitted searchAfter countPermitted afterFill tryBlock tryTable tablesFilled firstState tooFew tablesRun roundRun statusRun marksRun formatRequest table.tablePage isDataKind isTableKind anyTo greatest joined numbersAt greatestBelow greatestTo hasNumber statusEnd afterStatus
 mount-sends = refl
+
+-- a quick mount of it: the table's 4 pages, two of each other block, and a byte of each block
+quick-mount-sends : length (mountRun Quick (bench.call []) (callLine (bench.chipWith bench.tableArray) 10000) .cycles) ≡ 627
+unfolding resultOf ones begun statusMode readMode plainCommand addressFits latched addressed fateWord nextFate started statusByte fitting readStarted programStarted eraseStarted completed isConfirm confirmed confirmable commanded dataTaken dataGiven dataByte finished statusRead exec programmed weakened raised put mayGo cutAfter send byteOut sendAll sent goesOn waiting polls outcomeOf isPassed endedAs readCycles readOutcome putOut readOutputs startedBy readOn resetOn statusOn pagesFrom endsWhole endsRead quickRead blockRead blocksRead sized stopAnswer isSilent isCut bitAt withBit countBits zeroBits numberWidth bytesOf numberOf labelBytes encoded kindOf labelOf allOnes storedCheck countedCheck whole isMarked marksTo marksRead afterErase blockErased failedAt erasedTo eraseOn programOn isFailed mainOf mainRead pageFilled pagesFilled tableMain permitted searchAfter countPermitted afterFill tryBlock tryTable tablesFilled firstState tooFew tablesRun roundRun statusRun marksRun formatRequest table.tablePage isDataKind isTableKind anyTo greatest joined numbersAt greatestBelow greatestTo hasNumber statusEnd afterStatus
+quick-mount-sends = refl
 
 -- mounts answered 0, 4, 5 and 6: the table, an erased chip, the table of another geometry, a copy of a block that is none
 mount-done : mountAnswer bench.small bench.tableArray ≡ 0

@@ -14,6 +14,7 @@ use Rattle.c_state.specs.StateBytes.{bytesState}
 use Rattle.c_state.proofs.RoundLaws.{store-loaded}
 use Rattle.request.specs.Call.{Result, result, Performed, resultOf, unsent, sizedFor}
 use Rattle.format.specs.Format.{formatRequest}
+use Rattle.scan_summary.specs.declared.Depth.{Depth}
 use Rattle.mount.specs.Mount.{mountRequest}
 use Rattle.request_refusals.specs.Refusals.{refusalOf}
 use Rattle.read.specs.Reading.{readRequest}
@@ -43,9 +44,9 @@ module _ (s : Setting) (l : Lent) (n : ℕ) (right : rightly l ≡ true) (bytes 
   unfolding resultOf formattingLent formatRequest
   format-refused f = rw f (unchanged 1)
 
-  pub mount-refused : sizedFor s (chipOf l) ≡ false → mountingLent s l n ≡ handed 1 (noneSent l)
+  pub mount-refused : (depth : Depth) → sizedFor s (chipOf l) ≡ false → mountingLent depth s l n ≡ handed 1 (noneSent l)
   unfolding resultOf mountingLent mountRequest
-  mount-refused f = rw f (unchanged 1)
+  mount-refused depth f = rw f (unchanged 1)
 
   -- 1 geometry, 7 mount first, 2 address, 3 length
   pub read-refused : (logical page : ℕ) (buffer : List ℕ) → (refusalOf s (chipOf l) (bytesState (l .state)) logical page buffer ≡ 0 → ⊥)

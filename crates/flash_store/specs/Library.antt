@@ -6,6 +6,7 @@ use Rattle.chip_array.specs.Device.{Setting}
 use Rattle.c_state.specs.StateBytes.{bytesState}
 use Rattle.request.specs.Call.{Result}
 use Rattle.format.specs.Format.{formatting}
+use Rattle.scan_summary.specs.declared.Depth.{Depth}
 use Rattle.mount.specs.Mount.{mounting}
 use Rattle.read_page.specs.Fetching.{ReadResult}
 use Rattle.read.specs.Reading.{readingPage}
@@ -16,8 +17,8 @@ use Rattle.c_buffers.specs.Buffers.{Lent, chipOf, rightly, Handed, answered}
 abbrev pub formatResult : Setting → Lent → ℕ → Result
 formatResult s l n = formatting s (chipOf l) n (bytesState (l .state))
 
-abbrev pub mountResult : Setting → Lent → ℕ → Result
-mountResult s l n = mounting s (chipOf l) n (bytesState (l .state))
+abbrev pub mountResult : Depth → Setting → Lent → ℕ → Result
+mountResult depth s l n = mounting depth s (chipOf l) n (bytesState (l .state))
 
 abbrev pub readPage : Setting → Lent → ℕ → ℕ → ℕ → List ℕ → ReadResult
 readPage s l n logical page buffer = readingPage s (chipOf l) n (bytesState (l .state)) logical page buffer
@@ -31,8 +32,8 @@ eraseResult s l n logical = erasingLogical s (chipOf l) n (bytesState (l .state)
 unfoldable pub formattingLent : Setting → Lent → ℕ → Handed
 formattingLent s l n = answered l (formatResult s l n)
 
-unfoldable pub mountingLent : Setting → Lent → ℕ → Handed
-mountingLent s l n = answered l (mountResult s l n)
+unfoldable pub mountingLent : Depth → Setting → Lent → ℕ → Handed
+mountingLent depth s l n = answered l (mountResult depth s l n)
 
 unfoldable pub writingLent : Setting → Lent → ℕ → ℕ → ℕ → List ℕ → Handed
 writingLent s l n logical page bytes = answered l (writeResult s l n logical page bytes)

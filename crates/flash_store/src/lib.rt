@@ -1,4 +1,4 @@
-// The library for programs in C: format, mount, read, write and erase, on numbers and lent buffers; the sizes that the chip tells; the
+// The library for programs in C: format, mount, quick mount, read, write and erase, on numbers and lent buffers; the sizes that the chip tells; the
 // dearest write; price rules; sales held against each other; the draws of the test load.
 mod costs;
 mod load;
@@ -7,8 +7,10 @@ mod sales;
 mod sizes;
 
 use geometry::Geometry;
+use scan_summary::Depth;
 ghost use mathlib.Core.Path.{_≡_};
 ghost use Rattle.chip_array.specs.Device.{setting};
+ghost use Rattle.scan_summary.specs.declared.Depth.the-variants.{Full, Quick};
 ghost use Rattle.c_buffers.specs.Buffers.{geometryOf, lent, handed, PassedOn};
 ghost use Rattle.flash_store.specs.Library.{formatResult, mountResult, readPage, writeResult, eraseResult, formattingLent, mountingLent, readHanded, readingLent, writingLent, erasingLent};
 
@@ -62,6 +64,54 @@ pub extern "C" fn flash_store_format(
     c_buffers::hand_back(returned, state, interface, sent)
 }
 
+// Mounts at the depth given.
+fn mount_at(
+    depth: Depth,
+    main: usize,
+    spare: usize,
+    pages: usize,
+    blocks: usize,
+    logical: usize,
+    state: &mut [u8],
+    interface: &mut [usize],
+    array: &mut [u8],
+    register: &mut [u8],
+    history: &mut [u8],
+    mask: &[u8],
+    fates: &[u32],
+    allowed: u32,
+    sent: &mut [usize],
+) -> usize
+    ensures { λ r. ⌜ handed r (lent (now (state .exit)) (now (interface .exit)) (now (array .exit)) (now (register .exit)) (now (history .exit)) (now (sent .exit))) ≡ mountingLent depth (setting (geometryOf main spare pages blocks logical) (now (mask .entry)) (now (fates .entry))) (lent (now (state .entry)) (now (interface .entry)) (now (array .entry)) (now (register .entry)) (now (history .entry)) (now (sent .entry))) allowed ⌝ }
+    ensures { λ _. ⌜ PassedOn (lent (now (state .entry)) (now (interface .entry)) (now (array .entry)) (now (register .entry)) (now (history .entry)) (now (sent .entry))) (mountResult depth (setting (geometryOf main spare pages blocks logical) (now (mask .entry)) (now (fates .entry))) (lent (now (state .entry)) (now (interface .entry)) (now (array .entry)) (now (register .entry)) (now (history .entry)) (now (sent .entry))) allowed) (now (state .exit)) ⌝ }
+{
+    if !c_buffers::is_lent_rightly(state.len(), interface.len(), sent.len()) {
+        return BAD_BUFFER;
+    }
+    let g = Geometry {
+        main,
+        spare,
+        pages,
+        blocks,
+        logical,
+    };
+    let before = c_state::load(state);
+    let start = c_buffers::interface_of(interface);
+    let returned = mount::mount(
+        depth,
+        before,
+        g,
+        start,
+        array,
+        register,
+        history,
+        mask,
+        fates,
+        allowed,
+    );
+    c_buffers::hand_back(returned, state, interface, sent)
+}
+
 // Mounts.
 #[no_mangle]
 pub extern "C" fn flash_store_mount(
@@ -80,33 +130,66 @@ pub extern "C" fn flash_store_mount(
     allowed: u32,
     sent: &mut [usize],
 ) -> usize
-    ensures { λ r. ⌜ handed r (lent (now (state .exit)) (now (interface .exit)) (now (array .exit)) (now (register .exit)) (now (history .exit)) (now (sent .exit))) ≡ mountingLent (setting (geometryOf main spare pages blocks logical) (now (mask .entry)) (now (fates .entry))) (lent (now (state .entry)) (now (interface .entry)) (now (array .entry)) (now (register .entry)) (now (history .entry)) (now (sent .entry))) allowed ⌝ }
-    ensures { λ _. ⌜ PassedOn (lent (now (state .entry)) (now (interface .entry)) (now (array .entry)) (now (register .entry)) (now (history .entry)) (now (sent .entry))) (mountResult (setting (geometryOf main spare pages blocks logical) (now (mask .entry)) (now (fates .entry))) (lent (now (state .entry)) (now (interface .entry)) (now (array .entry)) (now (register .entry)) (now (history .entry)) (now (sent .entry))) allowed) (now (state .exit)) ⌝ }
+    ensures { λ r. ⌜ handed r (lent (now (state .exit)) (now (interface .exit)) (now (array .exit)) (now (register .exit)) (now (history .exit)) (now (sent .exit))) ≡ mountingLent Full (setting (geometryOf main spare pages blocks logical) (now (mask .entry)) (now (fates .entry))) (lent (now (state .entry)) (now (interface .entry)) (now (array .entry)) (now (register .entry)) (now (history .entry)) (now (sent .entry))) allowed ⌝ }
+    ensures { λ _. ⌜ PassedOn (lent (now (state .entry)) (now (interface .entry)) (now (array .entry)) (now (register .entry)) (now (history .entry)) (now (sent .entry))) (mountResult Full (setting (geometryOf main spare pages blocks logical) (now (mask .entry)) (now (fates .entry))) (lent (now (state .entry)) (now (interface .entry)) (now (array .entry)) (now (register .entry)) (now (history .entry)) (now (sent .entry))) allowed) (now (state .exit)) ⌝ }
 {
-    if !c_buffers::is_lent_rightly(state.len(), interface.len(), sent.len()) {
-        return BAD_BUFFER;
-    }
-    let g = Geometry {
+    mount_at(
+        Depth::Full,
         main,
         spare,
         pages,
         blocks,
         logical,
-    };
-    let before = c_state::load(state);
-    let start = c_buffers::interface_of(interface);
-    let returned = mount::mount(
-        before,
-        g,
-        start,
+        state,
+        interface,
         array,
         register,
         history,
         mask,
         fates,
         allowed,
-    );
-    c_buffers::hand_back(returned, state, interface, sent)
+        sent,
+    )
+}
+
+// Mounts, reading of a block that holds no copy its first and last page and one mark byte.
+#[no_mangle]
+pub extern "C" fn flash_store_quick_mount(
+    main: usize,
+    spare: usize,
+    pages: usize,
+    blocks: usize,
+    logical: usize,
+    state: &mut [u8],
+    interface: &mut [usize],
+    array: &mut [u8],
+    register: &mut [u8],
+    history: &mut [u8],
+    mask: &[u8],
+    fates: &[u32],
+    allowed: u32,
+    sent: &mut [usize],
+) -> usize
+    ensures { λ r. ⌜ handed r (lent (now (state .exit)) (now (interface .exit)) (now (array .exit)) (now (register .exit)) (now (history .exit)) (now (sent .exit))) ≡ mountingLent Quick (setting (geometryOf main spare pages blocks logical) (now (mask .entry)) (now (fates .entry))) (lent (now (state .entry)) (now (interface .entry)) (now (array .entry)) (now (register .entry)) (now (history .entry)) (now (sent .entry))) allowed ⌝ }
+    ensures { λ _. ⌜ PassedOn (lent (now (state .entry)) (now (interface .entry)) (now (array .entry)) (now (register .entry)) (now (history .entry)) (now (sent .entry))) (mountResult Quick (setting (geometryOf main spare pages blocks logical) (now (mask .entry)) (now (fates .entry))) (lent (now (state .entry)) (now (interface .entry)) (now (array .entry)) (now (register .entry)) (now (history .entry)) (now (sent .entry))) allowed) (now (state .exit)) ⌝ }
+{
+    mount_at(
+        Depth::Quick,
+        main,
+        spare,
+        pages,
+        blocks,
+        logical,
+        state,
+        interface,
+        array,
+        register,
+        history,
+        mask,
+        fates,
+        allowed,
+        sent,
+    )
 }
 
 // Reads one logical page into the buffer.

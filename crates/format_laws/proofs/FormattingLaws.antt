@@ -38,7 +38,7 @@ use Rattle.damage.proofs.ReplayLaws.{leads-first, leads-kept, leads-status, rep
 use Rattle.damage.specs.Run.{readMost, Slow, Failing, failedIn, programMost, tableFillMost}
 use Rattle.format_laws.specs.Formatting.{blockMost, formatMost, Acknowledged, Formatting, unfailed, marksDone, roundDone, FormatAnswer, is-done, is-worn, is-spent, is-silent, is-cut, is-protected}
 use Rattle.format_laws.proofs.FormatLaws.{format-leaves, FormatLeft}
-use Rattle.mount_laws.proofs.StateLaws.{mounted-state}
+use Rattle.mount_laws.proofs.StateLaws.{full-mounted}
 use Rattle.format_laws.proofs.CountLaws.{all-unfailed}
 
 -- what every operation keeps, a formatting keeps
@@ -90,7 +90,7 @@ module _ (s : Setting) (d : Device) (n : ℕ) (mask-bytes : Bytes (s .mask)) (t 
       record {
         formatted = f;
         counts-mounted = ap (λ (st : State). mounted st (s .geometry .blocks) (s .geometry .logical)) (f .state-is)
-            ∙ mounted-state (s .geometry) (c .is-valid) (formatRun s d n state .progress .line .chip .array) (c .array-long) (f .mounts);
+            ∙ full-mounted (s .geometry) (c .is-valid) (formatRun s d n state .progress .line .chip .array) (c .array-long) (f .mounts);
         still-sized = called-sized s (formatRun s d n state .progress .line) c;
         still-ready = c .ready;
       }

@@ -12,7 +12,6 @@ use Rattle.chip.specs.Chip.{Cycle}
 use Rattle.bus.specs.Line.{Line}
 use Rattle.operations.specs.Ends.{Called}
 use Rattle.operations.specs.Trace.{ArrayOperation}
-use Rattle.copies.specs.Blocks.{blockIn, markByte}
 use Rattle.progress.specs.Progress.{Progress, progress, readOn}
 use Rattle.scan_found.specs.Found.{marksTo}
 
@@ -21,15 +20,6 @@ unfoldable pub marksRead : Setting → ℕ → Progress → Progress
 marksRead s zero p = p
 marksRead s (suc n) p =
     readOn s (rowOf (s .geometry) n 1) (s .geometry .main) 1 (readOn s (rowOf (s .geometry) n 0) (s .geometry .main) 1 (marksRead s n p))
-
--- the byte in the place of a factory mark was read
-pub record MarkRead (s : Setting) (l m : Line) (o : Outcome) (block place byte : ℕ) : Type 0 where
-  pub line-is : (cs : List Cycle) (os : List ArrayOperation) → m ≡ readOn s (rowOf (s .geometry) block place) (s .geometry .main) 1 (progress l Passed cs os) .line
-  pub outcome-is : (cs : List Cycle) (os : List ArrayOperation) → o ≡ readOn s (rowOf (s .geometry) block place) (s .geometry .main) 1 (progress l Passed cs os) .outcome
-  pub same-array : m .chip .array ≡ l .chip .array
-  pub same-history : m .chip .history ≡ l .chip .history
-  pub next : isPassed o ≡ true → Called s m
-  pub byte-is : isPassed o ≡ true → byte ≡ markByte (s .geometry) (blockIn (s .geometry) (l .chip .array) block) place
 
 -- the marks of all blocks were read
 pub record MarksFound (s : Setting) (l m : Line) (o : Outcome) (marked : List ℕ) : Type 0 where

@@ -10,60 +10,13 @@ ghost use Rattle.chip_array.specs.Device.{setting};
 ghost use Rattle.bus.specs.Line.{line};
 ghost use Rattle.operations.specs.Ends.{Called};
 ghost use Rattle.bitmaps.specs.Bitmap.{withBit};
-ghost use Rattle.format_marks.specs.Marks.{MarkRead, MarksFound};
+ghost use Rattle.format_marks.specs.Marks.{MarksFound};
 
 // The bus after the mark bytes were read, how the last read ended, and the marks if all passed.
 pub struct Marks {
     pub bus: Bus,
     pub outcome: Outcome,
     pub marked: [u8; 512],
-}
-
-// The bus after one mark byte was read, how the read ended, and the byte.
-struct Mark {
-    bus: Bus,
-    outcome: Outcome,
-    byte: u8,
-}
-
-// The byte in the place of a factory mark, of one page.
-fn read_mark(
-    from: Bus,
-    g: Geometry,
-    array: &mut [u8],
-    register: &mut [u8],
-    history: &mut [u8],
-    mask: &[u8],
-    fates: &[u32],
-    block: usize,
-    place: usize,
-) -> Mark
-    requires { ⌜ Called (setting g (now mask) (now fates)) (line from (now array) (now register) (now history)) ⌝ }
-    requires { ⌜ block < g .blocks ⌝ }
-    requires { ⌜ place < g .pages ⌝ }
-    ensures { λ r. ⌜ MarkRead (setting g (now (mask .entry)) (now (fates .entry))) (line from (now (array .entry)) (now (register .entry)) (now (history .entry))) (line (r .bus) (now (array .exit)) (now (register .exit)) (now (history .exit))) (r .outcome) block place (r .byte) ⌝ }
-{
-    let row = geometry::row_of(g, block, place);
-    let mut byte = [0u8; 1];
-    let done = operations::read(
-        from,
-        g,
-        array,
-        register,
-        history,
-        mask,
-        fates,
-        row,
-        g.main,
-        &mut byte,
-    );
-    let bus = done.bus;
-    let outcome = done.outcome;
-    Mark {
-        bus,
-        outcome,
-        byte: byte[0],
-    }
 }
 
 // Sets the bit of a block that bears a mark in one of its first two pages.
@@ -98,7 +51,7 @@ pub fn read_marks(
     let mut block: usize = 0;
     let blocks = g.blocks;
     while block < blocks {
-        let first = read_mark(b, g, array, register, history, mask, fates, block, 0);
+        let first = scan_block::read_mark(b, g, array, register, history, mask, fates, block, 0);
         b = first.bus;
         let outcome = first.outcome;
         let Outcome::Passed = outcome else {
@@ -108,7 +61,7 @@ pub fn read_marks(
                 marked,
             };
         };
-        let second = read_mark(b, g, array, register, history, mask, fates, block, 1);
+        let second = scan_block::read_mark(b, g, array, register, history, mask, fates, block, 1);
         b = second.bus;
         let ended = second.outcome;
         let Outcome::Passed = ended else {

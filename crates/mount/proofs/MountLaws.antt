@@ -15,18 +15,22 @@ use Rattle.geometry.specs.Sizes.{chipSize}
 use Rattle.bitmaps.specs.Bitmap.{bitAt, byteOf, withBit, neverBoth}
 use Rattle.bitmaps.proofs.BitLaws.{bit-set, bit-kept}
 use Rattle.copies.specs.Blocks.{blockIn, isMarked, isTable, mainIn}
-use Rattle.copies.specs.Current.{numberAt, currentTable, filledLast, judgeTable, mountAnswer}
+use Rattle.copies.specs.Current.{numberAt, currentTable, judgeTable, mountAnswer}
 use Rattle.copies.specs.Pick.{Pick, nothing, at, pick, Picked, someBelow}
 use Rattle.copies.specs.Table.{bitmapOf, clearWhere, rightTo, rightTable}
 use Rattle.copies.proofs.PickLaws.{pick-is, up-to}
 use Rattle.state.specs.State.{mountedWith}
+use Rattle.scan_summary.specs.Depth.{belowBy, lastBy}
+use Rattle.scan_summary.specs.declared.Depth.{Depth}
+use Rattle.scan_summary.specs.declared.Depth.the-variants.{Full, Quick}
+use Rattle.scan_summary.proofs.DepthLaws.{last-picked}
 use Rattle.scan_found.specs.Contents.{Contents, contents, contentsTo, clashing, mapTo, mapOf}
 use Rattle.scan_found.specs.Found.{foundTo, bitsAt, rightAt, marksTo}
 use Rattle.scan_found.proofs.FoundLaws.{found-marked, found-greatest, most-found, Kept, kept, Chosen, Missing, table-found}
 use Rattle.scan_found.proofs.ToldLaws.{Told, told, bit-is, clash-same}
 use Rattle.scan_found.proofs.MapLaws.{map-is}
 use Rattle.mount_judge.specs.Judging.{judgedBy, stateOf}
-use Rattle.mount.specs.Mount.{blockOf, mountedState}
+use Rattle.mount.specs.Mount.{blockOf, stateWith, mountedState, quickState, stateBy}
 use Rattle.bitmaps.proofs.BitmapLaws.{blank-bit}
 
 -- what tells picks apart
@@ -95,16 +99,22 @@ flag : (b : Bool) (x : ℕ) → cond (eqb (cond b 1 0) 0) 5 x ≡ cond b x 5
 flag true x = refl
 flag false x = refl
 
+-- the state of either depth, from the numbers that it finds
+pub state-by : (depth : Depth) (g : Geometry) (array : List ℕ) → stateWith g array (belowBy depth g array (g .blocks)) (lastBy depth g array) ≡ stateBy depth g array
+unfolding stateBy mountedState quickState belowBy lastBy
+state-by Full g array = refl
+state-by Quick g array = refl
+
 -- the scan of a whole array of the right length
-module _ (g : Geometry) (v : Valid g) (array : List ℕ) (long : length array ≡ chipSize g) where
-  two : 2 ≤ g .pages
-  two = omega (arith, v .pages-least)
+module _ (depth : Depth) (g : Geometry) (v : Valid g) (array : List ℕ) (long : length array ≡ chipSize g) where
+  three : 3 ≤ g .pages
+  three = omega (arith, v .pages-least)
 
   abbrev all : Contents
-  all = contentsTo g array (contents (replicate 4096 0) (replicate 4096 0) (replicate 4096 0)) (g .blocks)
+  all = contentsTo depth g array (contents (replicate 4096 0) (replicate 4096 0) (replicate 4096 0)) (g .blocks)
 
   all-told : Told g array (g .blocks) all
-  all-told = told g two array (g .blocks) (v .blocks-most)
+  all-told = told depth g three array (g .blocks) (v .blocks-most)
 
   -- the current table is on the chip
   table-below : (t : ℕ) → currentTable g array ≡ at t → t < g .blocks
@@ -130,37 +140,38 @@ module _ (g : Geometry) (v : Valid g) (array : List ℕ) (long : length array �
       rw (clear-is t h, bit-is g v array long all all-told t h t h, clash-same g v array long all all-told t h)
       (two-tests (rightTo g (blockIn g array t) (g .pages)) (clearWhere (λ b. isMarked g (blockIn g array b)) (bitmapOf (g .blocks) (mainIn g (blockIn g array t) 0)) (g .blocks)) _)
 
-  judge-missing : Missing g two array (g .blocks) (kept (foundTo g array (g .blocks))) → judgedBy g (foundTo g array (g .blocks)) all ≡ mountAnswer g array
+  judge-missing : Missing depth g three array (g .blocks) (kept (foundTo depth g array (g .blocks))) → judgedBy g (foundTo depth g array (g .blocks)) all ≡ mountAnswer g array
   unfolding judgedBy mountAnswer judgeTable currentTable
   judge-missing m =
-      let f = foundTo g array (g .blocks) in
+      let f = foundTo depth g array (g .blocks) in
       rw (eq-eqb (f .tables) 0 (m .tables-none), m .none-picked)
 
-  picked-table : (k : Kept) → Chosen g two array (g .blocks) k → currentTable g array ≡ at (k .table)
+  picked-table : (k : Kept) → Chosen depth g three array (g .blocks) k → currentTable g array ≡ at (k .table)
   unfolding currentTable
   picked-table k c = c .is-picked
 
-  judge-found : Chosen g two array (g .blocks) (kept (foundTo g array (g .blocks))) → judgedBy g (foundTo g array (g .blocks)) all ≡ mountAnswer g array
+  judge-found : Chosen depth g three array (g .blocks) (kept (foundTo depth g array (g .blocks))) → judgedBy g (foundTo depth g array (g .blocks)) all ≡ mountAnswer g array
   unfolding judgedBy mountAnswer
   judge-found c =
-      let f = foundTo g array (g .blocks) in
+      let f = foundTo depth g array (g .blocks) in
       let some : eqb (f .tables) 0 ≡ false = ne-eqb (f .tables) 0 (λ x. omega (arith, x, c .tables-one)) in
       let here = picked-table (kept f) c in
-      rw (some, c .right-is, c .bits-are, found-marked g two array (g .blocks), here) (judge-chosen (f .table) (table-below (f .table) here))
+      rw (some, c .right-is, c .bits-are, found-marked depth g three array (g .blocks), here) (judge-chosen (f .table) (table-below (f .table) here))
 
   -- the answer from what was found is the answer that the array's definitions give
-  pub judge-is : judgedBy g (foundTo g array (g .blocks)) all ≡ mountAnswer g array
-  judge-is = ⊎-elim judge-missing judge-found (table-found g two array (g .blocks))
+  pub judge-is : judgedBy g (foundTo depth g array (g .blocks)) all ≡ mountAnswer g array
+  judge-is = ⊎-elim judge-missing judge-found (table-found depth g three array (g .blocks))
 
-  last-is : blockOf (filledLast g array) ≡ foundTo g array (g .blocks) .last
-  unfolding filledLast blockOf
+  last-is : blockOf (lastBy depth g array) ≡ foundTo depth g array (g .blocks) .last
+  unfolding blockOf
   last-is =
-      ⊎-elim (λ u. rw (u .picked) (sym (u .last-none))) (λ r. rw (r .picked)) (most-found g two array (g .blocks))
+      ap blockOf (last-picked depth g array)
+      ∙ ⊎-elim (λ u. rw (u .picked) (sym (u .last-none))) (λ r. rw (r .picked)) (most-found depth g three array (g .blocks))
 
-  state-found : Chosen g two array (g .blocks) (kept (foundTo g array (g .blocks))) → stateOf g (foundTo g array (g .blocks)) all ≡ mountedState g array
-  unfolding mountedState blockOf
+  state-found : Chosen depth g three array (g .blocks) (kept (foundTo depth g array (g .blocks))) → stateOf g (foundTo depth g array (g .blocks)) all ≡ stateBy depth g array
+  unfolding blockOf
   state-found c =
-      let f = foundTo g array (g .blocks) in
+      let f = foundTo depth g array (g .blocks) in
       let here = picked-table (kept f) c in
       let t : f .table ≡ blockOf (currentTable g array) = sym (ap blockOf here) in
       let bits : f .bits ≡ bitsAt g array (blockOf (currentTable g array)) = c .bits-are ∙ ap (bitsAt g array) t in
@@ -168,13 +179,13 @@ module _ (g : Geometry) (v : Valid g) (array : List ℕ) (long : length array �
       ap (λ (x : List ℕ). mapTo all x (g .blocks) (g .logical) (replicate 4096 65535) (g .blocks)) (c .bits-are)
       ∙ map-is g v array long all all-told (f .table) (table-below (f .table) here)
       ∙ ap (mapOf g array) t in
-      λ i. mountedWith (found-greatest g two array (g .blocks) i) (t i) (sym last-is i) (found-marked g two array (g .blocks) i) (bits i) (map i)
+      (λ i. mountedWith (found-greatest depth g three array (g .blocks) i) (t i) (sym last-is i) (found-marked depth g three array (g .blocks) i) (bits i) (map i)) ∙ state-by depth g array
 
   -- without a table there is no state
-  missing-answer : Missing g two array (g .blocks) (kept (foundTo g array (g .blocks))) → mountAnswer g array ≡ 4
+  missing-answer : Missing depth g three array (g .blocks) (kept (foundTo depth g array (g .blocks))) → mountAnswer g array ≡ 4
   unfolding mountAnswer judgeTable currentTable
   missing-answer m = rw (m .none-picked)
 
   -- the state from what was found is the state that the array's definitions give
-  pub state-is : mountAnswer g array ≡ 0 → stateOf g (foundTo g array (g .blocks)) all ≡ mountedState g array
-  state-is z = ⊎-elim (λ m. absurd (omega (arith, z, missing-answer m))) state-found (table-found g two array (g .blocks))
+  pub state-is : mountAnswer g array ≡ 0 → stateOf g (foundTo depth g array (g .blocks)) all ≡ stateBy depth g array
+  state-is z = ⊎-elim (λ m. absurd (omega (arith, z, missing-answer m))) state-found (table-found depth g three array (g .blocks))

@@ -1,9 +1,10 @@
-// Mounting: a reset, a scan of the whole chip, and the state that it gives. Nothing on the chip changes.
+// Mounting, full or quick: a reset, a scan of the chip, and the state that it gives. Nothing on the chip changes.
 use bus::Bus;
 use bus_polling::Outcome;
 use chip_interface::Interface;
 use geometry::Geometry;
 use request::Returned;
+use scan_summary::Depth;
 use state::State;
 ghost use mathlib.Core.List.{List};
 ghost use mathlib.Core.Path.{_≡_};
@@ -21,6 +22,7 @@ ghost use Rattle.mount.specs.Mount.{mountEnd, mounting};
 
 // The scan, once the chip is reset, and its end.
 fn scan_and_judge(
+    depth: Depth,
     from: Bus,
     g: Geometry,
     array: &mut [u8],
@@ -32,7 +34,7 @@ fn scan_and_judge(
 ) -> Returned
     requires { ⌜ Called (setting g (now mask) (now fates)) (line from (now array) (now register) (now history)) ⌝ }
     requires { ⌜ from .left ≤ allowed ⌝ }
-    ensures { λ r. ⌜ ((cs : List Cycle) (os : List ArrayOperation) → result (r .answer) (r .state) (device (r .interface) (now (array .exit)) (now (register .exit)) (now (history .exit))) (r .sent) ≡ mountEnd (setting g (now (mask .entry)) (now (fates .entry))) allowed (blocksRead (setting g (now (mask .entry)) (now (fates .entry))) (g .blocks) (progress (line from (now (array .entry)) (now (register .entry)) (now (history .entry))) Passed cs os))) ⌝ }
+    ensures { λ r. ⌜ ((cs : List Cycle) (os : List ArrayOperation) → result (r .answer) (r .state) (device (r .interface) (now (array .exit)) (now (register .exit)) (now (history .exit))) (r .sent) ≡ mountEnd depth (setting g (now (mask .entry)) (now (fates .entry))) allowed (blocksRead depth (setting g (now (mask .entry)) (now (fates .entry))) (g .blocks) (progress (line from (now (array .entry)) (now (register .entry)) (now (history .entry))) Passed cs os))) ⌝ }
 {
     let mut page = [0u8; 4352];
     let mut kinds = [0u8; 4096];
@@ -40,6 +42,7 @@ fn scan_and_judge(
     let mut numbers = [0u64; 4096];
     let size = geometry::page_size(g);
     let scanned = scan::scan_chip(
+        depth,
         from,
         g,
         array,
@@ -66,8 +69,9 @@ fn scan_and_judge(
     request::end(0, state, b, allowed)
 }
 
-// The request, on any state, chip, mask, fate words and allowance.
+// The request, on any state, chip, mask, fate words and allowance: a full mount, or a quick one.
 pub fn mount(
+    depth: Depth,
     state: State,
     g: Geometry,
     interface: Interface,
@@ -78,7 +82,7 @@ pub fn mount(
     fates: &[u32],
     allowed: u32,
 ) -> Returned
-    ensures { λ r. ⌜ result (r .answer) (r .state) (device (r .interface) (now (array .exit)) (now (register .exit)) (now (history .exit))) (r .sent) ≡ mounting (setting g (now (mask .entry)) (now (fates .entry))) (device interface (now (array .entry)) (now (register .entry)) (now (history .entry))) allowed state ⌝ }
+    ensures { λ r. ⌜ result (r .answer) (r .state) (device (r .interface) (now (array .exit)) (now (register .exit)) (now (history .exit))) (r .sent) ≡ mounting depth (setting g (now (mask .entry)) (now (fates .entry))) (device interface (now (array .entry)) (now (register .entry)) (now (history .entry))) allowed state ⌝ }
 {
     let begun = request::start(g, interface, array, register, history, mask, fates, allowed);
     let answer = begun.answer;
@@ -94,5 +98,15 @@ pub fn mount(
     if answer != 0 {
         return request::end(answer, State::blank(2), bus, allowed);
     }
-    scan_and_judge(bus, g, array, register, history, mask, fates, allowed)
+    scan_and_judge(
+        depth,
+        bus,
+        g,
+        array,
+        register,
+        history,
+        mask,
+        fates,
+        allowed,
+    )
 }

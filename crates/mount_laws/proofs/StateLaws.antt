@@ -19,9 +19,10 @@ use Rattle.bitmaps.specs.Bitmap.{bitAt, bitIn, byteOf, placeOf, clearFrom, coun
 use Rattle.bitmaps.proofs.BitmapLaws.{bits-none}
 use Rattle.pages.specs.Layout.{labelOf, allOnes, isDataKind, isTableKind}
 use Rattle.pages.proofs.LayoutLaws.{kinds-apart}
-use Rattle.copies.specs.Blocks.{blockIn, pageIn, mainIn, labelIn, isMarked, isComplete, isTable, isData, isCopyOf, hasNumber, greatest}
+use Rattle.copies.specs.Blocks.{blockIn, pageIn, mainIn, labelIn, isMarked, isComplete, isTable, isData, isCopyOf}
 use Rattle.copies.specs.Current as current
-use Rattle.copies.specs.Current.{currentTable, currentCopy, filledLast, greatestBelow, numberAt, unlisted, clashes, judgeTable, mountAnswer}
+use Rattle.copies.specs.Quick.{quickNumber}
+use Rattle.copies.specs.Current.{currentTable, currentCopy, numberAt, unlisted, clashes, judgeTable, mountAnswer}
 use Rattle.copies.specs.Pick.{Pick, nothing, at, Best, Picked, pick}
 use Rattle.copies.specs.Table.{bitmapOf, fieldOf, lists, clearWhere, rightFirst, rightPage, rightTo, rightTable}
 use Rattle.copies.proofs.PickLaws.{pick-is, up-to}
@@ -30,12 +31,16 @@ use Rattle.state.specs.State as state
 use Rattle.state.specs.State.{none, mounted, mountedWith, Mounted}
 use Rattle.state.specs.declared.State.{State}
 use Rattle.state.proofs.MountedLaws.{clear-each, mounted-holds}
+use Rattle.scan_summary.specs.Depth.{hasBy, greatestBy, belowBy, lastBy}
+use Rattle.scan_summary.specs.declared.Depth.{Depth}
+use Rattle.scan_summary.specs.declared.Depth.the-variants.{Full}
+use Rattle.scan_summary.proofs.DepthLaws.{last-picked}
 use Rattle.scan_found.specs.Contents.{entryOf, mapOf}
 use Rattle.scan_found.specs.Found.{bitsAt, marksTo}
 use Rattle.scan_found.proofs.MapLaws.{length-tabulate, getD-tabulate}
 use Rattle.scan_found.proofs.ToldLaws.{bit-put, bitmap-long}
-use Rattle.mount.specs.Mount.{blockOf, mountedState}
-use Rattle.mount.proofs.MountLaws.{mark-later, mark-bit}
+use Rattle.mount.specs.Mount.{blockOf, mountedState, quickState, stateBy}
+use Rattle.mount.proofs.MountLaws.{mark-later, mark-bit, state-by}
 
 -- no bit is set for a block that the test picks, and conversely
 pub clear-picked : (test : ℕ → Bool) (bits : List ℕ) (n : ℕ) → clearWhere test bits n ≡ true → (b : ℕ) → b < n → test b ≡ true → bitAt bits b ≡ false
@@ -242,11 +247,11 @@ module _ (g : Geometry) (v : Valid g) (array : List ℕ) (long : length array �
       (λ u. invalid-ends b (ltb-false b (g .blocks) u) l)
 
   -- the block filled last
-  pub last-on-chip : blockOf (filledLast g array) < g .blocks
-  unfolding filledLast
-  last-on-chip =
-      pick-below (λ b. hasNumber g (row b)) (λ b. greatest g (row b)) (g .blocks) (omega (arith, v .blocks-least)) _
-      (pick-is (λ b. hasNumber g (row b)) (λ b. greatest g (row b)) (g .blocks))
+  pub last-on-chip : (depth : Depth) → blockOf (lastBy depth g array) < g .blocks
+  last-on-chip depth =
+      subst (λ (o : Pick). blockOf o < g .blocks) (sym (last-picked depth g array))
+      (pick-below (λ b. hasBy depth g (row b)) (λ b. greatestBy depth g (row b)) (g .blocks) (omega (arith, v .blocks-least)) _
+      (pick-is (λ b. hasBy depth g (row b)) (λ b. greatestBy depth g (row b)) (g .blocks)))
 
   -- the entries of the map
   abbrev copyTest : ℕ → ℕ → Bool
@@ -315,15 +320,24 @@ module _ (g : Geometry) (v : Valid g) (array : List ℕ) (long : length array �
     pub known-mounted : mounted known (g .blocks) (g .logical) ≡ true
     known-mounted = mounted-holds known (g .blocks) (g .logical) (v .blocks-most) facts
 
--- its next number is the one that the definitions on the array give
+-- its next number is the one that the definitions on the array give, by the pages that a mount of either depth reads
 pub mounted-next : (g : Geometry) (array : List ℕ) → state.nextNumber (mountedState g array) ≡ current.nextNumber g array
 unfolding mountedState current.nextNumber
 mounted-next g array = refl
 
+pub quick-next : (g : Geometry) (array : List ℕ) → state.nextNumber (quickState g array) ≡ quickNumber g array
+unfolding quickState quickNumber
+quick-next g array = refl
+
 -- a state that is handed out with 0 counts as mounted
-pub mounted-state : (g : Geometry) → Valid g → (array : List ℕ) → length array ≡ chipSize g → mountAnswer g array ≡ 0 → mounted (mountedState g array) (g .blocks) (g .logical) ≡ true
-unfolding mountedState
-mounted-state g v array long z =
+pub mounted-state : (depth : Depth) (g : Geometry) → Valid g → (array : List ℕ) → length array ≡ chipSize g → mountAnswer g array ≡ 0 → mounted (stateBy depth g array) (g .blocks) (g .logical) ≡ true
+mounted-state depth g v array long z =
     let t = blockOf (currentTable g array) in
     let r = right-table g array z in
-    known-mounted g v array long t r (greatestBelow g array (g .blocks)) (blockOf (filledLast g array)) (last-on-chip g v array long t r)
+    subst (λ (st : State). mounted st (g .blocks) (g .logical) ≡ true) (state-by depth g array)
+    (known-mounted g v array long t r (belowBy depth g array (g .blocks)) (blockOf (lastBy depth g array)) (last-on-chip g v array long t r depth))
+
+-- as a full mount gives it
+pub full-mounted : (g : Geometry) → Valid g → (array : List ℕ) → length array ≡ chipSize g → mountAnswer g array ≡ 0 → mounted (mountedState g array) (g .blocks) (g .logical) ≡ true
+unfolding stateBy
+full-mounted = mounted-state Full

@@ -41,6 +41,7 @@ use Rattle.identify.proofs.SentLaws.{identify-starts}
 use Rattle.damage.specs.Run.{failedIn}
 use Rattle.recovery.specs.Book.{Change, write, entered, Account, blankAccount, changed, mounted, settled, fed}
 use Rattle.recovery.specs.Copy.{isDataProgram, sentPage, sentPages, hasCopy}
+use Rattle.scan_summary.specs.declared.Depth.{Depth}
 use Rattle.recovery.specs.Calls.{Lent, toMount, toRead, toIdentify, Store, mountOn, chipOf, traceOf, failedAfter, failedNext, step, unpowered}
 
 abbrev small : Geometry
@@ -108,13 +109,13 @@ unfolding fed
 protected-unbooked g c y = refl
 
 -- a mount answered 0 starts the failed blocks anew, any other keeps them
-mount-clears : (g : Geometry) (a : Lent) (y : Store) (b : ℕ) → mountOn g a y .answer ≡ 0 → step g (toMount a) y .failed b ≡ false
+mount-clears : (depth : Depth) (g : Geometry) (a : Lent) (y : Store) (b : ℕ) → mountOn depth g a y .answer ≡ 0 → step g (toMount depth a) y .failed b ≡ false
 unfolding step failedNext
-mount-clears g a y b z = rw (eq-eqb (mountOn g a y .answer) 0 z)
+mount-clears depth g a y b z = rw (eq-eqb (mountOn depth g a y .answer) 0 z)
 
-mount-keeps : (g : Geometry) (a : Lent) (y : Store) (b : ℕ) → (mountOn g a y .answer ≡ 0 → ⊥) → step g (toMount a) y .failed b ≡ failedAfter (y .failed) (traceOf g (toMount a) y) b
+mount-keeps : (depth : Depth) (g : Geometry) (a : Lent) (y : Store) (b : ℕ) → (mountOn depth g a y .answer ≡ 0 → ⊥) → step g (toMount depth a) y .failed b ≡ failedAfter (y .failed) (traceOf g (toMount depth a) y) b
 unfolding step failedNext
-mount-keeps g a y b z = rw (ne-eqb (mountOn g a y .answer) 0 z)
+mount-keeps depth g a y b z = rw (ne-eqb (mountOn depth g a y .answer) 0 z)
 
 -- power lost keeps the book and its note, the array, what was programmed since the last erase, and what is known of marked and failed blocks
 unpowered-keeps : (st : State) (register : List ℕ) (y : Store) → let z = unpowered st register y in (z .account ≡ y .account) × (z .chip .array ≡ y .chip .array) × (z .chip .history ≡ y .chip .history) × (z .marked ≡ y .marked) × (z .failed ≡ y .failed)

@@ -21,6 +21,7 @@ use Rattle.state.specs.declared.State.{State}
 use Rattle.request.specs.Call.{Result, Performed, resultOf, sentIn, startedIn}
 use Rattle.read_page.specs.Fetching.{ReadResult}
 use Rattle.read.specs.Reading.{readRequest, readingPage}
+use Rattle.scan_summary.specs.declared.Depth.{Depth}
 use Rattle.mount.specs.Mount.{mountRequest, mounting}
 use Rattle.format.specs.Format.{formatRequest, formatting}
 use Rattle.identify.specs.Identify.{Identified, identifyRequest, identifying}
@@ -37,10 +38,10 @@ pub record Lent : Type 0 where
   pub allowed : ℕ
   pub protected : ℕ
 
--- a mount; a read of a logical page into a buffer; a write of a logical page; an erase of a logical block; the chip asked for its size,
+-- a mount, full or quick; a read of a logical page into a buffer; a write of a logical page; an erase of a logical block; the chip asked for its size,
 -- with the parameter page and the number of logical blocks
 pub data Call : Type 0 where
-  toMount : Lent → Call
+  toMount : Depth → Lent → Call
   toRead : Lent → ℕ → ℕ → List ℕ → Call
   toWrite : Lent → ℕ → ℕ → List ℕ → Call
   toErase : Lent → ℕ → Call
@@ -48,7 +49,7 @@ pub data Call : Type 0 where
 
 -- of a call nothing is assumed but that bytes are bytes
 abbrev pub Typed : Call → Type 0
-Typed (toMount a) = Bytes (a .mask)
+Typed (toMount depth a) = Bytes (a .mask)
 Typed (toRead a logical page buffer) = Bytes (a .mask)
 Typed (toWrite a logical page bytes) = Bytes (a .mask) × Bytes bytes
 Typed (toErase a logical) = Bytes (a .mask)
@@ -98,8 +99,8 @@ abbrev pub chipOf : Lent → Device → Device
 chipOf a d = withInterface (withLine (a .protected) (d .interface)) d
 
 -- what each call gives on a store
-abbrev pub mountOn : Geometry → Lent → Store → Result
-mountOn g a y = mounting (settingOf g a) (chipOf a (y .chip)) (a .allowed) (y .state)
+abbrev pub mountOn : Depth → Geometry → Lent → Store → Result
+mountOn depth g a y = mounting depth (settingOf g a) (chipOf a (y .chip)) (a .allowed) (y .state)
 
 abbrev pub readOf : Geometry → Lent → ℕ → ℕ → List ℕ → Store → ReadResult
 readOf g a logical page buffer y = readingPage (settingOf g a) (chipOf a (y .chip)) (a .allowed) (y .state) logical page buffer
@@ -120,7 +121,7 @@ returning f r = record { gives = f (resultOf r); cycles = sentIn r; started = st
 
 -- a call on a store, whole: its result, the cycles that it sends and the array operations that it starts
 abbrev pub runOf : Geometry → Call → Store → Performed Result
-runOf g (toMount a) y = mountRequest (settingOf g a) (chipOf a (y .chip)) (a .allowed) (y .state)
+runOf g (toMount depth a) y = mountRequest depth (settingOf g a) (chipOf a (y .chip)) (a .allowed) (y .state)
 runOf g (toRead a logical page buffer) y =
     returning (λ r. r .returned) (readRequest (settingOf g a) (chipOf a (y .chip)) (a .allowed) (y .state) logical page buffer)
 runOf g (toWrite a logical page bytes) y =
@@ -152,7 +153,7 @@ abbrev pub mountEntry : Geometry → Store → Result → Entry
 mountEntry g y r = mounted (r .answer) (copyOfNote g (r .chip .array) (underWay y))
 
 abbrev pub entryOf : Geometry → Call → Store → Entry
-entryOf g (toMount a) y = mountEntry g y (mountOn g a y)
+entryOf g (toMount depth a) y = mountEntry g y (mountOn depth g a y)
 entryOf g (toRead a logical page buffer) y = unentered
 entryOf g (toWrite a logical page bytes) y =
     changed (write logical page bytes) (answerOf g (toWrite a logical page bytes) y) (traceOf g (toWrite a logical page bytes) y)

@@ -17,6 +17,7 @@ use Rattle.copies.specs.Blocks.{blockIn}
 use Rattle.copies.specs.Pick.{at}
 use Rattle.copies.specs.Table.{lists}
 use Rattle.copies.specs.Current.{currentTable}
+use Rattle.scan_summary.specs.declared.Depth.{Depth}
 use Rattle.state.specs.declared.State.{State}
 use Rattle.request.specs.Call.{Result}
 use Rattle.read_page.specs.Fetching.{ReadResult}
@@ -60,11 +61,11 @@ Always P =
     (g : Geometry) (a : Lent) (d : Device) (st : State) → Bytes (a .mask) → formatOn g a d st .answer ≡ 0
     → (es : List Event) → AllPossible g es → P g (after g es (begun g a d st))
 
--- every mount that is not answered 1, 10 or 11 recovers the book
+-- every mount, full or quick, that is not answered 1, 10 or 11 recovers the book
 abbrev pub Recovers : Geometry → Store → Type 0
 Recovers g y =
-    (a : Lent) → (mountOn g a y .answer ≡ 1 → ⊥) → (mountOn g a y .answer ≡ 10 → ⊥) → (mountOn g a y .answer ≡ 11 → ⊥)
-    → Recovered g y (mountOn g a y)
+    (depth : Depth) (a : Lent) → (mountOn depth g a y .answer ≡ 1 → ⊥) → (mountOn depth g a y .answer ≡ 10 → ⊥) → (mountOn depth g a y .answer ≡ 11 → ⊥)
+    → Recovered g y (mountOn depth g a y)
 
 -- a read answered 0 gives the book's bytes of its page, and any other leaves its buffer as it was
 pub record ReadsBook (g : Geometry) (y : Store) (logical page : ℕ) (buffer : List ℕ) (q : ReadResult) : Type 0 where

@@ -32,6 +32,7 @@ use Rattle.write_changes.specs.Changes.{Update, writeUpdate, eraseUpdate, copyF
 use Rattle.format_marks.specs.Marks.{marksRead}
 use Rattle.format_erase.specs.Round.{erasedTo}
 use Rattle.format.specs.Format.{firstState, tooFew, tablesRun, roundRun, marksRun, formatRun, formatRequest, statusRun}
+use Rattle.scan_summary.specs.declared.Depth.{Depth}
 use Rattle.mount.specs.Mount.{mountRun, mountEnd, mountRequest}
 use Rattle.mount_laws.proofs.MountingLaws.{answer-judged}
 use Rattle.read_page.specs.Fetching.{pageProgress, readingBlock}
@@ -166,9 +167,9 @@ module _ (s : Setting) where
       (λ t. rw t (told-stop (q .outcome)))
 
   -- a mount
-  mount-told : (n : ℕ) (p : Progress) → Told (mountEnd s n p .answer) (p .outcome)
+  mount-told : (depth : Depth) (n : ℕ) (p : Progress) → Told (mountEnd depth s n p .answer) (p .outcome)
   unfolding mountEnd
-  mount-told n p =
+  mount-told depth n p =
       cases (isPassed (p .outcome))
       (λ t. rw t (told-passed _ (p .outcome) t (λ e. omega (arith, e, answer-judged (s .geometry) (p .line .chip .array) .1))))
       (λ t. rw t (told-stop (p .outcome)))
@@ -200,12 +201,12 @@ module _ (g : Geometry) (y : Store) (a : Lent) where
   abbrev from : Device
   from = callLine (chipOf a (y .chip)) (a .allowed) .chip
 
-  mount-exactly : SilentExactly s from (runOf g (toMount a) y)
+  mount-exactly : (depth : Depth) → SilentExactly s from (runOf g (toMount depth a) y)
   unfolding mountRequest
-  mount-exactly =
-      let p = mountRun s (callLine (chipOf a (y .chip)) (a .allowed)) in
+  mount-exactly depth =
+      let p = mountRun depth s (callLine (chipOf a (y .chip)) (a .allowed)) in
       cases (sizedFor s (chipOf a (y .chip)))
-      (λ t. rw t (exactly s from (mountEnd s (a .allowed) p) p (mount-heard s (chipOf a (y .chip)) (a .allowed)) (mount-told s (a .allowed) p)))
+      (λ t. rw t (exactly s from (mountEnd depth s (a .allowed) p) p (mount-heard s (chipOf a (y .chip)) (a .allowed) depth) (mount-told s depth (a .allowed) p)))
       (λ f. rw f (unstarted-exactly s from _ (λ e. omega (arith, e))))
 
   read-exactly : (logical page : ℕ) (buffer : List ℕ) → SilentExactly s from (runOf g (toRead a logical page buffer) y)
@@ -226,7 +227,7 @@ module _ (g : Geometry) (y : Store) (a : Lent) where
 
 pub silent-exactly : (g : Geometry) (y : Store) → SilentCalls g y
 unfolding writeRequest eraseRequest
-silent-exactly g y (toMount a) h = mount-exactly g y a
+silent-exactly g y (toMount depth a) h = mount-exactly g y a depth
 silent-exactly g y (toRead a logical page buffer) h = read-exactly g y a logical page buffer
 silent-exactly g y (toWrite a logical page bytes) h =
     change-exactly g y a _ (writeUpdate (y .state) logical page bytes) (refusal-other g _ (y .state) logical page _)

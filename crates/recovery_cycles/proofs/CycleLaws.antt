@@ -28,6 +28,7 @@ use Rattle.state.specs.declared.State.{State}
 use Rattle.request.specs.Call.{Result, result, Performed, unsent, sizedFor, callLine, sentIn, startedIn}
 use Rattle.request_refusals.specs.Refusals.{refusalOf}
 use Rattle.write_changes.specs.Changes.{Update, changeRequest, writeUpdate, eraseUpdate, writeRequest, eraseRequest, eraseRefusal}
+use Rattle.scan_summary.specs.declared.Depth.{Depth}
 use Rattle.mount.specs.Mount.{mountRequest}
 use Rattle.read.specs.Reading.{copyRequest, readRequest}
 use Rattle.identify.proofs.SentLaws.{identify-starts}
@@ -35,7 +36,7 @@ use Rattle.damage.specs.Run.{failedIn}
 use Rattle.damage.specs.Touched.{Each, Some, first}
 use Rattle.damage.proofs.EachLaws.{each-left, each-right, some-append-right}
 use Rattle.damage.proofs.TraceLaws.{or-assoc}
-use Rattle.recovery.specs.Calls.{Lent, Call, toMount, toRead, toWrite, toErase, toIdentify, Typed, Store, settingOf, cyclesOf, traceOf, failedAfter, chipOf, after, begun}
+use Rattle.recovery.specs.Calls.{Lent, Call, toMount, toRead, toWrite, toErase, toIdentify, Store, settingOf, cyclesOf, traceOf, failedAfter, chipOf, after, begun}
 use Rattle.recovery_proof.specs.Sent.{Sends, SendsLegally}
 use Rattle.recovery.specs.Recovery.{Always, SparesBad, SparedBy, Spared, Spares}
 use Rattle.recovery_proof.proofs.RecoveryLaws.{spares}
@@ -195,8 +196,8 @@ none-there (x ∷ xs) ys c e = absurd (let n : 0 ≡ suc (length (xs ++ (c ∷ y
 -- the trace of every call of any store has the operations that its confirm cycles start
 pub call-traced : (g : Geometry) (c : Call) (y : Store) → Traced g (startsOf g c y) (traceOf g c y)
 unfolding sentIn startedIn mountRequest readRequest copyRequest writeRequest eraseRequest startsIn Traced
-call-traced g (toMount a) y =
-    cases (sizedFor (settingOf g a) (chipOf a (y .chip))) (λ t. rw t (mount-traced (settingOf g a) (chipOf a (y .chip)) (a .allowed))) (λ f. rw f tt)
+call-traced g (toMount depth a) y =
+    cases (sizedFor (settingOf g a) (chipOf a (y .chip))) (λ t. rw t (mount-traced (settingOf g a) (chipOf a (y .chip)) (a .allowed) depth)) (λ f. rw f tt)
 call-traced g (toRead a logical page buffer) y =
     cases (eqb (refusalOf (settingOf g a) (chipOf a (y .chip)) (y .state) logical page buffer) 0)
     (λ t. cases (eqb (getD (y .state .map) logical 0) none) (λ u. rw (t, u) tt)
@@ -214,11 +215,11 @@ call-traced g (toIdentify a parameters logical) y =
     rw (identify-starts-none (a .mask) (a .fates) (chipOf a (y .chip)) (a .allowed) (y .state) parameters logical (settingOf g a) (callLine (chipOf a (y .chip)) (a .allowed) .chip), identify-starts (a .mask) (a .fates) (chipOf a (y .chip)) (a .allowed) (y .state) parameters logical) tt
 
 -- mounts, reads and calls that ask for the chip's size, of any store, send no 80h, 60h, 10h or D0h
-pub mount-sends : (g : Geometry) (y : Store) (a : Lent) → OnlyReads (cyclesOf g (toMount a) y)
+pub mount-sends : (g : Geometry) (y : Store) (depth : Depth) (a : Lent) → OnlyReads (cyclesOf g (toMount depth a) y)
 unfolding sentIn mountRequest
-mount-sends g y a xs ys code e k =
+mount-sends g y depth a xs ys code e k =
     cases (sizedFor (settingOf g a) (chipOf a (y .chip)))
-    (λ t. mount-only-reads (settingOf g a) (callLine (chipOf a (y .chip)) (a .allowed)) xs ys code (rw t at e) k)
+    (λ t. mount-only-reads (settingOf g a) depth (callLine (chipOf a (y .chip)) (a .allowed)) xs ys code (rw t at e) k)
     (λ f. none-there xs ys (command code) (rw f at e))
 
 pub read-sends : (g : Geometry) (y : Store) (a : Lent) (logical page : ℕ) (buffer : List ℕ) → OnlyReads (cyclesOf g (toRead a logical page buffer) y)
@@ -246,7 +247,7 @@ change-sends s d n st u refused low xs ys code e k =
 
 pub protected-sends : (g : Geometry) (y : Store) → ProtectedSends g y
 unfolding writeRequest eraseRequest
-protected-sends g y (toMount a) low = mount-sends g y a
+protected-sends g y (toMount depth a) low = mount-sends g y depth a
 protected-sends g y (toRead a logical page buffer) low = read-sends g y a logical page buffer
 protected-sends g y (toWrite a logical page bytes) low =
     change-sends (settingOf g a) (chipOf a (y .chip)) (a .allowed) (y .state) (writeUpdate (y .state) logical page bytes) (refusalOf (settingOf g a) (chipOf a (y .chip)) (y .state) logical page bytes) low
@@ -261,7 +262,7 @@ sends-legal {s} {d} {n} x =
 
 module _ (g : Geometry) (y : Store) where
   calls-spare : Spares g y → SendsLegally g y → SparesCycles g y
-  calls-spare sp w (toMount a) t = λ xs ys code e k. absurd (mount-sends g y a xs ys code e (inr (inr k)))
+  calls-spare sp w (toMount depth a) t = λ xs ys code e k. absurd (mount-sends g y depth a xs ys code e (inr (inr k)))
   calls-spare sp w (toRead a logical page buffer) t = λ xs ys code e k. absurd (read-sends g y a logical page buffer xs ys code e (inr (inr k)))
   calls-spare sp w (toWrite a logical page bytes) t =
       spares-each (settingOf g a) (y .marked) (y .failed) (callLine (chipOf a (y .chip)) (a .allowed) .chip) (cyclesOf g (toWrite a logical page bytes) y) (traceOf g (toWrite a logical page bytes) y)
@@ -272,7 +273,7 @@ module _ (g : Geometry) (y : Store) where
   calls-spare sp w (toIdentify a parameters logical) t = λ xs ys code e k. absurd (identify-sends g y a parameters logical xs ys code e (inr (inr k)))
 
   calls-trace : Spares g y → SendsLegally g y → TracesCycles g y
-  calls-trace sp w (toMount a) t = λ xs ys code e k. absurd (mount-sends g y a xs ys code e (inr (inr k)))
+  calls-trace sp w (toMount depth a) t = λ xs ys code e k. absurd (mount-sends g y depth a xs ys code e (inr (inr k)))
   calls-trace sp w (toRead a logical page buffer) t = λ xs ys code e k. absurd (read-sends g y a logical page buffer xs ys code e (inr (inr k)))
   calls-trace sp w (toWrite a logical page bytes) t =
       let c = toWrite a logical page bytes in

@@ -9,8 +9,7 @@ use native.Mathlib.Omega.{arith}
 use borrow.Table.Steps.{cases}
 use lib.Dec.{eqb}
 use lib.ListN.{length, replicate}
-use Rattle.bools.proofs.BoolLaws.{clash}
-use Rattle.geometry.specs.Sizes.{pageSize, rowOf, columnBytes, rowBytes}
+use Rattle.geometry.specs.Sizes.{rowOf, columnBytes, rowBytes}
 use Rattle.chip_array.specs.Device.{Device, Setting, setting}
 use Rattle.chip.specs.Chip.{Cycle, isConfirm}
 use Rattle.chip.specs.Chip.Cycle.{command, address, dataIn, dataOut, status, parameterAddress, parameterOut}
@@ -20,8 +19,8 @@ use Rattle.bus_polling.specs.Polling.{polls, outcomeOf, endedAs, statusReads}
 use Rattle.bus_polling.specs.declared.Outcome.the-variants.{Passed}
 use Rattle.bus_sequences.specs.Cycles.{resetCycles, confirmCycles, readAddress, pageLine, readCycles, statusCycles}
 use Rattle.progress.specs.Progress.{Progress, progress, readOn, resetOn, lineOf, statusOn}
-use Rattle.scan_block.specs.Pages.{pagesRead}
-use Rattle.scan.specs.Scan.{blocksRead}
+use Rattle.scan_summary.specs.declared.Depth.{Depth}
+use Rattle.scan.proofs.KeepLaws.{blocks-reads}
 use Rattle.read_page.specs.Fetching.{pageProgress}
 use Rattle.request.specs.Call.{callLine, sentIn, sizedFor}
 use Rattle.request.specs.Start.{startLine}
@@ -98,21 +97,10 @@ module _ (s : Setting) where
       (λ t. rw t (all-append Harmless (p .cycles) (sent s (p .line) resetCycles) h (all-sent Harmless s (p .line) resetCycles (harmless-ff, (harmless-70, (tt, tt))))))
       (λ t. rw t h)
 
-  pages-harmless : (block n : ℕ) (p : Progress) → All Harmless (p .cycles) → All Harmless (pagesRead s block n p .cycles)
-  unfolding pagesRead
-  pages-harmless block zero p h = h
-  pages-harmless block (suc n) p h =
-      read-harmless (rowOf (s .geometry) block n) 0 (pageSize (s .geometry)) (pagesRead s block n p) (pages-harmless block n p h)
-
-  blocks-harmless : (n : ℕ) (p : Progress) → All Harmless (p .cycles) → All Harmless (blocksRead s n p .cycles)
-  unfolding blocksRead
-  blocks-harmless zero p h = h
-  blocks-harmless (suc n) p h = pages-harmless n (s .geometry .pages) (blocksRead s n p) (blocks-harmless n p h)
-
-  pub mount-only-reads : (l : Line) → OnlyReads (mountRun s l .cycles)
-  mount-only-reads l =
-      only-reads (mountRun s l .cycles)
-      (blocks-harmless (s .geometry .blocks) (resetOn s (progress l Passed [] [])) (reset-harmless (progress l Passed [] []) tt))
+  pub mount-only-reads : (depth : Depth) (l : Line) → OnlyReads (mountRun depth s l .cycles)
+  mount-only-reads depth l =
+      only-reads (mountRun depth s l .cycles)
+      (blocks-reads depth s (λ p. All Harmless (p .cycles)) read-harmless (s .geometry .blocks) (resetOn s (progress l Passed [] [])) (reset-harmless (progress l Passed [] []) tt))
 
   pub page-only-reads : (d : Device) (n block page : ℕ) → OnlyReads (pageProgress s d n block page .cycles)
   page-only-reads d n block page =

@@ -1,6 +1,6 @@
 -- A request on its way is silent exactly where the operation that it started last has a slow fate word, unless it is cut. Assumes nothing.
 use Prim.Native.Nat.{ℕ}
-use mathlib.Core.Bool.{true, false, cond, false≢true}
+use mathlib.Core.Bool.{true, false, cond}
 use mathlib.Core.List.{List, [], _∷_, _++_, append-nil}
 use mathlib.Core.Logic.{_⊎_, inl, inr, ⊎-elim}
 use mathlib.Core.Path.{_≡_, refl, sym, ap, subst, _∙_}
@@ -33,6 +33,7 @@ use Rattle.progress.proofs.StatusLaws.{status-keeps, shown-high}
 use Rattle.state.specs.declared.State.{State}
 use Rattle.request.specs.Call.{callLine, sizedFor}
 use Rattle.read_page.specs.Fetching.{pageProgress}
+use Rattle.scan_summary.specs.declared.Depth.{Depth}
 use Rattle.mount.specs.Mount.{mountRun}
 use Rattle.mount_laws.proofs.MountingLaws.{mount-keeps}
 use Rattle.format.specs.Format.{formatRun}
@@ -309,8 +310,8 @@ module _ (s : Setting) (d : Device) (n : ℕ) where
       (λ z. inl (format-keeps s _ (line-kept s 0) d n state (eqb-true _ _ z) (λ h. status-keeps s (marksDone s d n) ∙ h)))
       (λ z. inr (format-low s d n state t (eqb-false _ _ z) .all-reads)))
 
-  pub mount-heard : HeardFrom s from (mountRun s (callLine d n))
-  mount-heard = mount-keeps s _ (heard-kept s from) (callLine d n) first-both .1 (inr (mount-reads s (callLine d n)))
+  pub mount-heard : (depth : Depth) → HeardFrom s from (mountRun depth s (callLine d n))
+  mount-heard depth = mount-keeps depth s _ (heard-kept s from) (callLine d n) first-both .1 (inr (mount-reads depth s (callLine d n)))
 
   pub page-heard : (block page : ℕ) → HeardFrom s from (pageProgress s d n block page)
   unfolding Each

@@ -25,6 +25,7 @@ use Rattle.progress.specs.Kept.{Kept}
 use Rattle.state.specs.declared.State.{State}
 use Rattle.request.specs.Call.{callLine}
 use Rattle.read_page.specs.Fetching.{pageProgress}
+use Rattle.scan_summary.specs.declared.Depth.{Depth}
 use Rattle.mount.specs.Mount.{mountRun}
 use Rattle.mount_laws.proofs.MountingLaws.{mount-keeps}
 use Rattle.format.specs.Format.{formatRun}
@@ -268,8 +269,8 @@ module _ (s : Setting) (d : Device) (n : ℕ) where
   format-traced state =
       format-keeps s _ (traced-kept s from) d n state begun (status-traced (marksDone s d n) (marks-unfailed s d n)) .1
 
-  pub mount-traced : TracedFrom s from (mountRun s (callLine d n))
-  mount-traced = mount-keeps s _ (traced-kept s from) (callLine d n) begun .1
+  pub mount-traced : (depth : Depth) → TracedFrom s from (mountRun depth s (callLine d n))
+  mount-traced depth = mount-keeps depth s _ (traced-kept s from) (callLine d n) begun .1
 
   pub page-traced : (block page : ℕ) → TracedFrom s from (pageProgress s d n block page)
   page-traced block page =

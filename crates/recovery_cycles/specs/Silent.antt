@@ -28,7 +28,7 @@ SilentExactly s d r =
 
 -- every call but the one that asks the chip for its size, which starts no array operation
 abbrev pub OfArray : Call → Type 0
-OfArray (toMount a) = Unit {0}
+OfArray (toMount depth a) = Unit {0}
 OfArray (toRead a logical page buffer) = Unit {0}
 OfArray (toWrite a logical page bytes) = Unit {0}
 OfArray (toErase a logical) = Unit {0}

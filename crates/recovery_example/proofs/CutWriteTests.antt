@@ -40,6 +40,8 @@ use Rattle.progress.specs.Steps.{eraseOn, programOn}
 use Rattle.request.specs.Call.{Result, result, resultOf, startedIn, sized, stopAnswer, endAt, statusAnswer, statusState}
 use Rattle.request_refusals.specs.Refusals.{refusal, refusalOf}
 use Rattle.scan_block.specs.Pages.{pagesRead}
+use Rattle.scan_summary.specs.declared.Depth.{Depth}
+use Rattle.scan_summary.specs.declared.Depth.the-variants.{Full, Quick}
 use Rattle.scan.specs.Scan.{blocksRead}
 use Rattle.fill.specs.Fill.{mainOf, mainRead, pageFilled, pagesFilled, tableMain, dataSource, isGiven}
 use Rattle.fill_tables.specs.Tables.{Tabled, afterFill, tryBlock, tryTable, tablesFilled, afterStatus}
@@ -49,7 +51,8 @@ use Rattle.format_erase.specs.Round.{afterErase, blockErased, failedAt, joined,
 use Rattle.format.specs.Format.{firstState, tooFew, tablesRun, roundRun, marksRun, formatRequest, statusRun}
 use Rattle.format_laws.specs.Formatting.{Acknowledged}
 use Rattle.format_laws.proofs.FormattingLaws.{format-acknowledged}
-use Rattle.damage.specs.Run.{failedIn}
+use Rattle.damage.specs.Run.{failedIn, scanMost}
+use Rattle.mount_laws.specs.Mounting.{mountMost}
 use Rattle.recovery.specs.Book.{Change, write, entered, Note, note, Account, account, blankBook, blankAccount, changed, fed}
 use Rattle.recovery.specs.Copy.{isDataProgram, sentPage, sentPages, hasCopy}
 use Rattle.recovery.specs.Calls as calls
@@ -207,21 +210,27 @@ shows (no-byte t e same) =
     sym (ap (λ (c : Change). entered small c (stored .account .book) 0 0) change) ∙ same 0 0 (omega arith) (omega arith) ∙ book-before 0 0 in
     absurd (omega (arith, ap (λ (x : List ℕ). getD x 0 0) here))
 
--- the mount, heard and not cut, reads the new page
-abbrev mount : Result
-mount = mountOn small (lent 10000) stored
+-- a mount, full or quick, heard and not cut, reads the new page
+abbrev mount : Depth → Result
+mount depth = mountOn depth small (lent 10000) stored
 
 possible : AllPossible small list
 unfolding AllPossible mounted
 possible = ((bytes-same 192 255 (omega arith), bytes-same 32 165 (omega arith)), ((refl, refl), tt))
 
-mount-done : mount .answer ≡ 0
-mount-done =
-    comes-back small (lent 10000) erased (blank 0) (bytes-same 192 255 (omega arith)) format-done list possible (lent 10000) refl (λ slow. omega (arith, slow .within)) (omega arith)
+few : (depth : Depth) → mountMost depth small < 10000
+unfolding scanMost
+few Full = omega arith
+few Quick = omega arith
 
-pub mount-reads : readingBy small mount 0 0 ≡ page
+mount-done : (depth : Depth) → mount depth .answer ≡ 0
+mount-done depth =
+    comes-back small (lent 10000) erased (blank 0) (bytes-same 192 255 (omega arith)) format-done list possible depth (lent 10000) refl (λ slow. omega (arith, slow .within)) (few depth)
+
+pub mount-reads : (depth : Depth) → readingBy small (mount depth) 0 0 ≡ page
 unfolding entered
-mount-reads =
-    let r = recovers small (lent 10000) erased (blank 0) (bytes-same 192 255 (omega arith)) format-done list possible (lent 10000)
-    (λ e. omega (arith, e, mount-done)) (λ e. omega (arith, e, mount-done)) (λ e. omega (arith, e, mount-done)) in
+mount-reads depth =
+    let done = mount-done depth in
+    let r = recovers small (lent 10000) erased (blank 0) (bytes-same 192 255 (omega arith)) format-done list possible depth (lent 10000)
+    (λ e. omega (arith, e, done)) (λ e. omega (arith, e, done)) (λ e. omega (arith, e, done)) in
     r .otherwise (note (write 0 0 page) (cut .progress .started)) noted shows 0 0 (omega arith) (omega arith)

@@ -21,14 +21,14 @@ use Rattle.recovery_proof.proofs.RecoveryLaws.{step-inv, by-inv}
 pub rightly-called : Always RightlyCalled
 rightly-called =
     by-inv RightlyCalled
-    (λ g y i a long z.
+    (λ g y i depth a long z.
     let s = settingOf g a in
-    clash (fit-sizes s (chipOf a (y .chip)) (i .fits) long) (mount-unsized s (chipOf a (y .chip)) (a .allowed) (y .state) .0 z))
+    clash (fit-sizes s (chipOf a (y .chip)) (i .fits) long) (mount-unsized depth s (chipOf a (y .chip)) (a .allowed) (y .state) .0 z))
 
 pub comes-by : (g : Geometry) (y : Store) → Inv g y → ComesBack g y
-comes-by g y i a long fast h =
+comes-by g y i depth a long fast h =
     let s = settingOf g a in
-    mount-heard s (chipOf a (y .chip)) (a .allowed) (y .state) (fit-sizes s (chipOf a (y .chip)) (i .fits) long) fast h ∙ i .stored .mounts
+    mount-heard depth s (chipOf a (y .chip)) (a .allowed) (y .state) (fit-sizes s (chipOf a (y .chip)) (i .fits) long) fast h ∙ i .stored .mounts
 
 pub comes-back : Always ComesBack
 comes-back = by-inv ComesBack comes-by
@@ -48,7 +48,7 @@ erases-answered =
 -- a call answered 0 leaves a state that counts as mounted, or left it so
 done-mounted : (g : Geometry) (y : Store) → Inv g y → (c : Call) → Typed c → OfMounted g c y → answerOf g c y ≡ 0 → mounted (step g c y .state) (g .blocks) (g .logical) ≡ true
 unfolding resultOf step
-done-mounted g y i (toMount a) t m z = mount-mounted g y i a z
+done-mounted g y i (toMount depth a) t m z = mount-mounted g y i depth a z
 done-mounted g y i (toRead a logical page buffer) t m z = read-mounted g y i a logical page buffer z
 done-mounted g y i (toWrite a logical page bytes) t m z = write-mounted g y i a (t .0) logical page bytes (t .1) z
 done-mounted g y i (toErase a logical) t m z = erase-mounted g y i a t logical z

@@ -13,6 +13,7 @@ use Rattle.chip_interface.specs.Interface.{fateWord}
 use Rattle.chip_array.specs.Device.{Setting, setting}
 use Rattle.copies.specs.Current.{reading}
 use Rattle.request.specs.Call.{Result, sizedFor, resultOf}
+use Rattle.scan_summary.specs.declared.Depth.{Depth}
 use Rattle.mount_laws.proofs.MountingLaws.{mount-ends, mount-refused}
 use Rattle.read.proofs.ReadingLaws.{Gives}
 use Rattle.request_laws.specs.Reads.{ReadsAs, MountRead}
@@ -45,9 +46,9 @@ module _ (g : Geometry) (y : Store) (t : Note) (e : underWay y ≡ some t) where
   due-kept c = due-noted ∙ rw c
 
 -- a mount that is not answered 1, 10 or 11
-module _ (g : Geometry) (y : Store) (i : Inv g y) (a : Lent) (x₁ : mountOn g a y .answer ≡ 1 → ⊥) (x₁₀ : mountOn g a y .answer ≡ 10 → ⊥) (x₁₁ : mountOn g a y .answer ≡ 11 → ⊥) where
+module _ (g : Geometry) (y : Store) (i : Inv g y) (depth : Depth) (a : Lent) (x₁ : mountOn depth g a y .answer ≡ 1 → ⊥) (x₁₀ : mountOn depth g a y .answer ≡ 10 → ⊥) (x₁₁ : mountOn depth g a y .answer ≡ 11 → ⊥) where
   abbrev r : Result
-  r = mountOn g a y
+  r = mountOn depth g a y
 
   abbrev s : Setting
   s = settingOf g a
@@ -56,13 +57,13 @@ module _ (g : Geometry) (y : Store) (i : Inv g y) (a : Lent) (x₁ : mountOn g a
   array = y .chip .array
 
   fits : sizedFor s (chipOf a (y .chip)) ≡ true
-  fits = cases (sizedFor s (chipOf a (y .chip))) (λ t. t) (λ f. absurd (x₁ (mount-refused s (chipOf a (y .chip)) (a .allowed) (y .state) f)))
+  fits = cases (sizedFor s (chipOf a (y .chip))) (λ t. t) (λ f. absurd (x₁ (mount-refused depth s (chipOf a (y .chip)) (a .allowed) (y .state) f)))
 
   done : r .answer ≡ 0
-  done = mount-done g y i a fits x₁₀ x₁₁
+  done = mount-done g y i depth a fits x₁₀ x₁₁
 
   joined : MountRead g array r
-  joined = mount-then-read s (chipOf a (y .chip)) (a .allowed) (y .state) done
+  joined = mount-then-read depth s (chipOf a (y .chip)) (a .allowed) (y .state) done
 
   -- a read that is uncut and not silent
   abbrev plainSetting : Setting
@@ -112,7 +113,7 @@ module _ (g : Geometry) (y : Store) (i : Inv g y) (a : Lent) (x₁ : mountOn g a
   leaves-due : Same g (readingBy g r) (fed g (mountEntry g y r) (y .account) .book)
   leaves-due =
       due-is
-      (ap (λ (x : List ℕ). dueOf g x (y .account)) (sym (mount-ends s (chipOf a (y .chip)) (a .allowed) fits (y .state) .same-array))
+      (ap (λ (x : List ℕ). dueOf g x (y .account)) (sym (mount-ends depth s (chipOf a (y .chip)) (a .allowed) fits (y .state) .same-array))
       ∙ sym (ap (λ (x : Account). x .book) (fed-done g (r .answer) (copyOfNote g (r .chip .array) (underWay y)) (y .account) done)))
 
   pub inv-recovered : Recovered g y r
@@ -125,6 +126,6 @@ module _ (g : Geometry) (y : Store) (i : Inv g y) (a : Lent) (x₁ : mountOn g a
         otherwise = affected;
         leaves = leaves-due;
         any-read = λ b l p buffer h k mask-long buffer-long x x'.
-            let gives = reads-back g (step g (toMount a) y) (mount-step g y i a) (mount-mounted g y i a done) b l p buffer mask-long h k buffer-long .gives x x' in
+            let gives = reads-back g (step g (toMount depth a) y) (mount-step g y i depth a) (mount-mounted g y i depth a done) b l p buffer mask-long h k buffer-long .gives x x' in
             (gives .done, gives .bytes-are ∙ sym (leaves-due l p h k));
       }

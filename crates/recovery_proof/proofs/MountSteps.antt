@@ -17,7 +17,8 @@ use Rattle.copies.specs.Pick.{at}
 use Rattle.copies.specs.Current.{currentTable, mountAnswer, reading}
 use Rattle.state.specs.State as state
 use Rattle.request.specs.Call.{Result, sizedFor, resultOf, startedIn}
-use Rattle.mount.specs.Mount.{mountedState, stateAfter, mountRequest}
+use Rattle.scan_summary.specs.declared.Depth.{Depth}
+use Rattle.mount.specs.Mount.{stateBy, stateAfter, mountRequest}
 use Rattle.mount_laws.specs.Mounting.{Mounting}
 use Rattle.mount_laws.proofs.MountingLaws.{mount-ends, mount-refused}
 use Rattle.recovery_stored.specs.Stored.{Stored}
@@ -48,36 +49,36 @@ fed-other : (g : Geometry) (answer : ℕ) (copy : Bool) (y : Account) → (answe
 unfolding fed
 fed-other g answer copy y x = rw (ne-eqb answer 0 x)
 
-module _ (g : Geometry) (y : Store) (i : Inv g y) (a : Lent) where
+module _ (g : Geometry) (y : Store) (i : Inv g y) (depth : Depth) (a : Lent) where
   abbrev s : Setting
   s = settingOf g a
 
   abbrev r : Result
-  r = mountOn g a y
+  r = mountOn depth g a y
 
   abbrev array : List ℕ
   array = y .chip .array
 
-  refused : sizedFor s (chipOf a (y .chip)) ≡ false → step g (toMount a) y ≡ foundBy a y
+  refused : sizedFor s (chipOf a (y .chip)) ≡ false → step g (toMount depth a) y ≡ foundBy a y
   unfolding resultOf startedIn step mountRequest fed failedNext
   refused f = rw f (ap (store (y .state) (chipOf a (y .chip)) (y .account) (y .marked)) (failed-none (y .failed)))
 
   module _ (t : sizedFor s (chipOf a (y .chip)) ≡ true) where
-    m : Mounting s (chipOf a (y .chip)) (a .allowed) r
-    m = mount-ends s (chipOf a (y .chip)) (a .allowed) t (y .state)
+    m : Mounting depth s (chipOf a (y .chip)) (a .allowed) r
+    m = mount-ends depth s (chipOf a (y .chip)) (a .allowed) t (y .state)
 
     -- neither silent nor cut it is answered 0: what the store leaves always mounts
     pub mount-done : (r .answer ≡ 10 → ⊥) → (r .answer ≡ 11 → ⊥) → r .answer ≡ 0
     mount-done x x' = m .answer-is x x' ∙ i .stored .mounts
 
-    stops : (r .answer ≡ 10) ⊎ (r .answer ≡ 11) → (r .answer ≡ 0 → ⊥) → Inv g (step g (toMount a) y)
+    stops : (r .answer ≡ 10) ⊎ (r .answer ≡ 11) → (r .answer ≡ 0 → ⊥) → Inv g (step g (toMount depth a) y)
     unfolding step
     stops x z =
-        stopped-inv g y i (step g (toMount a) y) (sizes-fit s (r .chip) (m .sizes-kept)) (m .same-array) (fed-other g (r .answer) _ (y .account) z) refl
+        stopped-inv g y i (step g (toMount depth a) y) (sizes-fit s (r .chip) (m .sizes-kept)) (m .same-array) (fed-other g (r .answer) _ (y .account) z) refl
         (m .stops x)
 
     module _ (z : r .answer ≡ 0) where
-      state-is : r .state ≡ mountedState g array
+      state-is : r .state ≡ stateBy depth g array
       unfolding stateAfter
       state-is =
           m .state-is (λ e. omega (arith, e, z)) (λ e. omega (arith, e, z)) ∙ rw (eq-eqb (mountAnswer g array) 0 (i .stored .mounts))
@@ -85,7 +86,7 @@ module _ (g : Geometry) (y : Store) (i : Inv g y) (a : Lent) where
       knows : Knows g (r .chip .array) (r .state)
       knows =
           subst (λ (x : List ℕ). Knows g x (r .state)) (sym (m .same-array))
-          (subst (Knows g array) (sym state-is) (mounted-knows g (i .stored .is-valid) array (i .stored .array-long) (i .stored .mounts)))
+          (subst (Knows g array) (sym state-is) (mounted-knows depth g (i .stored .is-valid) array (i .stored .array-long) (i .stored .mounts)))
 
       table-same : r .state .table ≡ i .table
       table-same = same-at (sym (knows .table-is) ∙ ap (currentTable g) (m .same-array) ∙ i .table-is)
@@ -112,17 +113,17 @@ module _ (g : Geometry) (y : Store) (i : Inv g y) (a : Lent) where
             failed-listed = λ b h e. absurd (false≢true (sym (cleared os b) ∙ e));
           }
 
-      mounts : Inv g (step g (toMount a) y)
+      mounts : Inv g (step g (toMount depth a) y)
       unfolding step
       mounts =
-          up-inv g (step g (toMount a) y) (sizes-fit s (r .chip) (m .sizes-kept)) (λ k h. ap (λ (x : List ℕ). isMarked g (blockIn g x k)) (m .same-array) ∙ i .marks k h)
+          up-inv g (step g (toMount depth a) y) (sizes-fit s (r .chip) (m .sizes-kept)) (λ k h. ap (λ (x : List ℕ). isMarked g (blockIn g x k)) (m .same-array) ∙ i .marks k h)
           (record {
-            agrees = agrees (traceOf g (toMount a) y);
+            agrees = agrees (traceOf g (toMount depth a) y);
             ready = m .still-ready z;
             quiet = ap (λ (x : Account). x .noted) next-is ∙ settled-none g (copyOfNote g (r .chip .array) (underWay y)) (underWay y) (y .account .book);
           })
 
-  pub mount-step : Inv g (step g (toMount a) y)
+  pub mount-step : Inv g (step g (toMount depth a) y)
   mount-step =
       cases (sizedFor s (chipOf a (y .chip)))
       (λ t.
@@ -139,4 +140,4 @@ module _ (g : Geometry) (y : Store) (i : Inv g y) (a : Lent) where
   mount-mounted z =
       cases (sizedFor s (chipOf a (y .chip)))
       (λ t. m t .counts-mounted z)
-      (λ f. absurd (omega (arith, z, mount-refused s (chipOf a (y .chip)) (a .allowed) (y .state) f)))
+      (λ f. absurd (omega (arith, z, mount-refused depth s (chipOf a (y .chip)) (a .allowed) (y .state) f)))

@@ -23,7 +23,7 @@ use Rattle.recovery_proof.proofs.MountReads.{inv-recovered}
 
 -- one call
 pub step-inv : (g : Geometry) (c : Call) → Typed c → (y : Store) → Inv g y → Inv g (step g c y)
-step-inv g (toMount a) t y i = mount-step g y i a
+step-inv g (toMount depth a) t y i = mount-step g y i depth a
 step-inv g (toRead a logical page buffer) t y i = read-step g y i a logical page buffer
 step-inv g (toWrite a logical page bytes) t y i = write-step g y i a (t .0) logical page bytes (t .1)
 step-inv g (toErase a logical) t y i = erase-step g y i a t logical
@@ -67,7 +67,7 @@ pub read-right : Always ReadsRight
 read-right = by-inv ReadsRight reads-by
 
 pub spared-by : (g : Geometry) (y : Store) → Inv g y → Spares g y
-spared-by g y i (toMount a) t = mount-spared g y a
+spared-by g y i (toMount depth a) t = mount-spared g y a depth
 spared-by g y i (toRead a logical page buffer) t = read-spared g y a logical page buffer
 spared-by g y i (toWrite a logical page bytes) t = write-spared g y i a (t .0) logical page bytes (t .1)
 spared-by g y i (toErase a logical) t = erase-spared g y i a t logical

@@ -3,7 +3,7 @@
 use Prim.Native.Nat.{ℕ}
 use mathlib.Core.List.{List}
 use mathlib.Core.Logic.{inl, inr}
-use mathlib.Core.Path.{_≡_, refl, sym, _∙_}
+use mathlib.Core.Path.{refl}
 use borrow.Table.Steps.{cases}
 use borrow.Author.Tests.{eqb-true, eqb-false}
 use lib.Dec.{eqb}
@@ -14,15 +14,15 @@ use Rattle.state.specs.State.{none}
 use Rattle.request.specs.Call.{sizedFor, resultOf, sentIn}
 use Rattle.request_refusals.specs.Refusals.{refusalOf}
 use Rattle.request_refusals.proofs.RefusalLaws.{Accepted, accepts}
+use Rattle.scan_summary.specs.declared.Depth.{Depth}
 use Rattle.mount.specs.Mount.{mountRequest}
 use Rattle.mount_laws.proofs.MountingLaws.{mount-ends}
 use Rattle.read.specs.Reading.{copyRequest, readRequest}
 use Rattle.read.proofs.SentLaws.{read-sent}
 use Rattle.request_laws.proofs.PageReadLaws.{read-replayed}
 use Rattle.identify.specs.Identify.{unknown}
-use Rattle.identify.specs.Ends.{SentSo}
 use Rattle.identify.proofs.SentLaws.{identify-sent}
-use Rattle.recovery.specs.Calls.{Lent, Call, toMount, toRead, toWrite, toErase, toIdentify, Typed, Store, settingOf, runOf, chipOf}
+use Rattle.recovery.specs.Calls.{Lent, toMount, toRead, toWrite, toErase, toIdentify, Store, settingOf, runOf, chipOf}
 use Rattle.recovery.specs.Recovery.{Always}
 use Rattle.recovery_proof.specs.Sent.{Sends, SendsLegally}
 use Rattle.recovery_proof.specs.Invariant.{Inv}
@@ -34,12 +34,12 @@ module _ (g : Geometry) (y : Store) (a : Lent) where
   abbrev s : Setting
   s = settingOf g a
 
-  mount-sends : Sends s (chipOf a (y .chip)) (a .allowed) (runOf g (toMount a) y)
+  mount-sends : (depth : Depth) → Sends s (chipOf a (y .chip)) (a .allowed) (runOf g (toMount depth a) y)
   unfolding resultOf sentIn mountRequest
-  mount-sends =
+  mount-sends depth =
       cases (sizedFor s (chipOf a (y .chip)))
       (λ t.
-      let m = mount-ends s (chipOf a (y .chip)) (a .allowed) t (y .state) in
+      let m = mount-ends depth s (chipOf a (y .chip)) (a .allowed) t (y .state) in
       record { leads = inr (rw t (rw t at m .replayed)); counted = rw t (rw t at m .sent-is) })
       (λ f. rw f (record { leads = inl (refl, refl); counted = refl }))
 
@@ -67,7 +67,7 @@ module _ (g : Geometry) (y : Store) (a : Lent) where
       (λ u. record { leads = inl (q .none-sent (eqb-false _ _ u)); counted = q .sent-is })
 
 calls-sent : (g : Geometry) (y : Store) → Inv g y → SendsLegally g y
-calls-sent g y i (toMount a) t = mount-sends g y a
+calls-sent g y i (toMount depth a) t = mount-sends g y a depth
 calls-sent g y i (toRead a logical page buffer) t = read-sends g y a i logical page buffer
 calls-sent g y i (toWrite a logical page bytes) t = write-sent g y i a (t .0) logical page bytes (t .1)
 calls-sent g y i (toErase a logical) t = erase-sent g y i a t logical

@@ -17,7 +17,7 @@ use Rattle.damage.specs.Run.{failedIn}
 use Rattle.recovery_stored.specs.Stored.{Stored}
 use Rattle.recovery_stored.specs.Knows.{Knows}
 use Rattle.recovery_stored.proofs.StoredLaws.{acknowledged-stored}
-use Rattle.recovery_stored.proofs.KnowsLaws.{mounted-knows}
+use Rattle.recovery_stored.proofs.KnowsLaws.{full-knows}
 use Rattle.recovery.specs.Calls.{Lent, settingOf, formatOn, begun, chipOf}
 use Rattle.recovery_proof.specs.Invariant.{Inv}
 use Rattle.recovery_proof.proofs.InvariantLaws.{sizes-fit, up-inv}
@@ -47,7 +47,7 @@ module _ (g : Geometry) (a : Lent) (d : Device) (st : State) (mask-bytes : Bytes
   knows : Knows g (r .chip .array) (r .state)
   knows =
       subst (Knows g (r .chip .array)) (sym (f .state-is))
-      (mounted-knows g (stored .is-valid) (r .chip .array) (stored .array-long) (f .mounts))
+      (full-knows g (stored .is-valid) (r .chip .array) (stored .array-long) (f .mounts))
 
   trace-is : startedIn (formatRequest s (chipOf a d) (a .allowed) st) ≡ formatRun s (chipOf a d) (a .allowed) st .progress .started
   unfolding startedIn formatRequest

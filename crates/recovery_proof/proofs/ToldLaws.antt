@@ -17,6 +17,7 @@ use Rattle.state.specs.declared.State.{State}
 use Rattle.request.specs.Call.{Result, result, callLine, sizedFor, resultOf}
 use Rattle.request_refusals.specs.Refusals.{refusalOf}
 use Rattle.request_refusals.proofs.RefusalLaws.{accepts}
+use Rattle.scan_summary.specs.declared.Depth.{Depth}
 use Rattle.mount.specs.Mount.{mountRequest, mounting}
 use Rattle.mount_laws.proofs.MountingLaws.{mount-ends}
 use Rattle.mount_laws.proofs.StateLaws.{map-long}
@@ -34,20 +35,20 @@ use Rattle.recovery_proof.proofs.InvariantLaws.{is-up}
 use Rattle.recovery_proof.proofs.SizeLaws.{change-leads}
 use Rattle.recovery_proof.proofs.RecoveryLaws.{always}
 
-mount-unchanged : (s : Setting) (d : Device) (n : ℕ) (st : State) → sizedFor s d ≡ false → mounting s d n st ≡ result 1 st d 0
+mount-unchanged : (depth : Depth) (s : Setting) (d : Device) (n : ℕ) (st : State) → sizedFor s d ≡ false → mounting depth s d n st ≡ result 1 st d 0
 unfolding resultOf mountRequest
-mount-unchanged s d n st f = rw f
+mount-unchanged depth s d n st f = rw f
 
 -- the array stays bytes: mounts and reads leave it, the cycles of other requests change it as programs and erases do
 module _ (s : Setting) (d : Device) (n : ℕ) (st : State) (h : Bytes (d .array)) where
-  mount-bytes : Bytes (mounting s d n st .chip .array)
-  mount-bytes =
+  mount-bytes : (depth : Depth) → Bytes (mounting depth s d n st .chip .array)
+  mount-bytes depth =
       cases (sizedFor s d)
-      (λ t. subst Bytes (sym (mount-ends s d n t st .same-array)) h)
+      (λ t. subst Bytes (sym (mount-ends depth s d n t st .same-array)) h)
       (λ f. subst (λ (x : Device). Bytes (x .array)) (sym (unchanged f)) h)
     where
-      unchanged : sizedFor s d ≡ false → mounting s d n st .chip ≡ d
-      unchanged f = ap (λ (x : Result). x .chip) (mount-unchanged s d n st f)
+      unchanged : sizedFor s d ≡ false → mounting depth s d n st .chip ≡ d
+      unchanged f = ap (λ (x : Result). x .chip) (mount-unchanged depth s d n st f)
 
   module _ (mask-bytes : Bytes (s .mask)) where
     run-kept : (cs : List Cycle) (e : Device) → run s (callLine d n .chip) cs ≡ e → Bytes (e .array)
@@ -67,7 +68,7 @@ module _ (s : Setting) (d : Device) (n : ℕ) (st : State) (h : Bytes (d .array)
 
 step-bytes : (g : Geometry) (c : Call) → Typed c → (y : Store) → Bytes (y .chip .array) → Bytes (step g c y .chip .array)
 unfolding resultOf step
-step-bytes g (toMount a) t y h = mount-bytes (settingOf g a) (chipOf a (y .chip)) (a .allowed) (y .state) h
+step-bytes g (toMount depth a) t y h = mount-bytes (settingOf g a) (chipOf a (y .chip)) (a .allowed) (y .state) h depth
 step-bytes g (toRead a logical page buffer) t y h =
     subst Bytes (sym (read-array-kept (settingOf g a) (chipOf a (y .chip)) (y .state) logical page buffer (a .allowed) .same-array)) h
 step-bytes g (toWrite a logical page bytes) t y h = write-bytes (settingOf g a) (chipOf a (y .chip)) (a .allowed) (y .state) h (t .0) logical page bytes

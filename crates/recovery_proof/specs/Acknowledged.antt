@@ -18,7 +18,7 @@ ReadsBack g y =
 
 -- a call that is answered 0 with a mounted state only, or leaves one: the chip tells its size whatever the state, and leaves it
 abbrev pub OfMounted : Geometry → Call → Store → Type 0
-OfMounted g (toMount a) y = Unit {0}
+OfMounted g (toMount depth a) y = Unit {0}
 OfMounted g (toRead a logical page buffer) y = Unit {0}
 OfMounted g (toWrite a logical page bytes) y = Unit {0}
 OfMounted g (toErase a logical) y = Unit {0}

@@ -6,20 +6,21 @@ use lib.ListN.{length}
 use Rattle.geometry.specs.declared.Geometry.{Geometry}
 use Rattle.geometry.specs.Sizes.{blockSize}
 use Rattle.cells.specs.Bytes.{Bytes}
+use Rattle.scan_summary.specs.declared.Depth.{Depth}
 use Rattle.request.specs.Call.{Result}
 use Rattle.mount_laws.specs.Mounting.{mountMost}
 use Rattle.damage.specs.Run.{Slow}
 use Rattle.request_laws.specs.Reads.{ReadAnswer}
 use Rattle.recovery.specs.Calls.{Lent, Store, mountOn, readOf, writeOn, eraseOf}
 
--- a mount whose mask is as long as a block is not answered 1
+-- a mount, full or quick, whose mask is as long as a block is not answered 1
 abbrev pub RightlyCalled : Geometry → Store → Type 0
-RightlyCalled g y = (a : Lent) → length (a .mask) ≡ blockSize g → mountOn g a y .answer ≡ 1 → ⊥
+RightlyCalled g y = (depth : Depth) (a : Lent) → length (a .mask) ≡ blockSize g → mountOn depth g a y .answer ≡ 1 → ⊥
 
 -- with no slow fate word and an allowance above the most that a mount sends it is answered 0
 abbrev pub ComesBack : Geometry → Store → Type 0
 ComesBack g y =
-    (a : Lent) → length (a .mask) ≡ blockSize g → (Slow (a .fates) → ⊥) → mountMost g < a .allowed → mountOn g a y .answer ≡ 0
+    (depth : Depth) (a : Lent) → length (a .mask) ≡ blockSize g → (Slow (a .fates) → ⊥) → mountMost depth g < a .allowed → mountOn depth g a y .answer ≡ 0
 
 -- a read has no other answer than on a chip that is ready, so never 255
 abbrev pub ReadsAnswered : Geometry → Store → Type 0

@@ -1,6 +1,6 @@
 -- Demand 2 over lists: the cycles that a further call sends.
 use Prim.Native.Nat.{ℕ}
-use mathlib.Core.List.{List, []}
+use mathlib.Core.List.{[]}
 use mathlib.Core.Logic.{_⊎_}
 use mathlib.Core.Path.{_≡_}
 use lib.ListN.{length}
@@ -12,7 +12,7 @@ use Rattle.damage.specs.Replay.{Replayed}
 use Rattle.recovery.specs.Calls.{Lent, Call, toMount, toRead, toWrite, toErase, toIdentify, Typed, Store, settingOf, chipOf, runOf}
 
 abbrev pub lentFor : Call → Lent
-lentFor (toMount a) = a
+lentFor (toMount depth a) = a
 lentFor (toRead a logical page buffer) = a
 lentFor (toWrite a logical page bytes) = a
 lentFor (toErase a logical) = a
@@ -20,7 +20,7 @@ lentFor (toIdentify a parameters logical) = a
 
 -- the chip is asked for its size without a geometry
 abbrev pub settingFor : Geometry → Call → Setting
-settingFor g (toMount a) = settingOf g a
+settingFor g (toMount depth a) = settingOf g a
 settingFor g (toRead a logical page buffer) = settingOf g a
 settingFor g (toWrite a logical page bytes) = settingOf g a
 settingFor g (toErase a logical) = settingOf g a

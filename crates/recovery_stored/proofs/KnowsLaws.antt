@@ -18,8 +18,7 @@ use Rattle.bitmaps.proofs.BitmapLaws.{Bitmap, bits-none}
 use Rattle.copies.specs.Blocks.{blockIn, pageIn, mainIn, isMarked}
 use Rattle.copies.specs.Table.{bitmapOf, lists}
 use Rattle.copies.specs.Current.{currentTable, currentCopy, mountAnswer}
-use Rattle.copies.proofs.CompleteLaws.{complete-pages, table-complete, complete-number}
-use Rattle.copies.proofs.NumberLaws.{greatest-in}
+use Rattle.copies.proofs.CompleteLaws.{complete-pages, table-complete}
 use Rattle.scan_found.specs.Contents.{entryOf}
 use Rattle.scan_found.specs.Found.{bitsAt}
 use Rattle.state.specs.State.{mounted, Mounted, heldBits}
@@ -27,27 +26,35 @@ use Rattle.state.specs.declared.State.{State}
 use Rattle.state.proofs.HeldLaws.{free-table, free-entry}
 use Rattle.state.proofs.MountedLaws.{mounted-facts}
 use Rattle.state.proofs.NumberLaws.{mounted-told}
-use Rattle.mount.specs.Mount.{blockOf, mountedState}
+use Rattle.mount.specs.Mount.{blockOf, mountedState, stateBy}
+use Rattle.mount.proofs.MountLaws.{state-by}
+use Rattle.scan_summary.specs.declared.Depth.{Depth}
+use Rattle.scan_summary.specs.declared.Depth.the-variants.{Full}
+use Rattle.scan_summary.proofs.DepthLaws.{copy-below}
 use Rattle.mount.proofs.MountLaws.{mark-bit}
 use Rattle.mount_laws.proofs.StateLaws.{Right, right-table, right-at, bits-long, byte-past, invalid-is, invalid-ends, last-on-chip, entry-is, known-mounted}
 use Rattle.recovery_stored.specs.Stored.{Stored}
 use Rattle.recovery_stored.specs.After.{Free}
 use Rattle.recovery_stored.specs.Knows.{Knows}
 
-pub mounted-knows : (g : Geometry) → Valid g → (array : List ℕ) → length array ≡ chipSize g → mountAnswer g array ≡ 0 → Knows g array (mountedState g array)
-unfolding mountedState
-mounted-knows g v array long z =
+pub mounted-knows : (depth : Depth) (g : Geometry) → Valid g → (array : List ℕ) → length array ≡ chipSize g → mountAnswer g array ≡ 0 → Knows g array (stateBy depth g array)
+mounted-knows depth g v array long z =
     let t = blockOf (currentTable g array) in
     let r = right-table g array z in
-    record {
+    subst (Knows g array) (state-by depth g array)
+    (record {
       status-one = refl;
       table-is = r .is-current;
       marked-is = refl;
       invalid-is = refl;
       map-is = refl;
-      last-below = last-on-chip g v array long t r;
-      numbers = λ b h c. omega (arith, complete-number g v (blockIn g array b) c, greatest-in g array (g .blocks) b h);
-    }
+      last-below = last-on-chip g v array long t r depth;
+      numbers = λ b h c. omega (arith, copy-below depth g v array b h c);
+    })
+
+pub full-knows : (g : Geometry) → Valid g → (array : List ℕ) → length array ≡ chipSize g → mountAnswer g array ≡ 0 → Knows g array (mountedState g array)
+unfolding stateBy
+full-knows = mounted-knows Full
 
 -- the bitmap of the current table, as a mount copies it
 module _ (g : Geometry) (array : List ℕ) (t : ℕ) (s : Stored g array) (r : Right g array t) where

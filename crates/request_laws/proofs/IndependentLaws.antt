@@ -23,6 +23,7 @@ use Rattle.state.specs.declared.State.{State}
 use Rattle.request.specs.Call.{Result, sized, sizedFor, callLine, stopAnswer, endAt}
 use Rattle.request.specs.Start.{startLine, startRun, started}
 use Rattle.request.proofs.StartLaws.{Stops}
+use Rattle.scan_summary.specs.declared.Depth.{Depth}
 use Rattle.mount.specs.Mount.{mountEnd, mounting}
 use Rattle.mount.proofs.EndLaws.{mount-stops, mount-started}
 use Rattle.fill_tables.specs.Tables.{endOfRun}
@@ -122,10 +123,10 @@ module _ (s : Setting) (d e : Device) (same : SameMemory d e) where
       let u : sizedFor s e ≡ false = sized-same ∙ f in
       rw (f, u) (record { answer = refl; state = refl; sent = refl; array = same .array; register = same .register; history = same .history }))
 
-  pub mount-independent : (n : ℕ) (state : State) → SameOutcome (mounting s d n state) (mounting s e n state)
-  mount-independent n state =
-      along (sym (mount-started s d n state)) (sym (mount-started s e n state))
-      (start-same n state (λ p. mountEnd s n (blocksRead s (s .geometry .blocks) p)) (mount-stops s n))
+  pub mount-independent : (depth : Depth) (n : ℕ) (state : State) → SameOutcome (mounting depth s d n state) (mounting depth s e n state)
+  mount-independent depth n state =
+      along (sym (mount-started depth s d n state)) (sym (mount-started depth s e n state))
+      (start-same n state (λ p. mountEnd depth s n (blocksRead depth s (s .geometry .blocks) p)) (mount-stops depth s n))
 
   pub format-independent : (n : ℕ) (state : State) → SameOutcome (formatting s d n state) (formatting s e n state)
   format-independent n state =
@@ -134,9 +135,9 @@ module _ (s : Setting) (d e : Device) (same : SameMemory d e) where
 
 -- so a chip that was switched on again, its write-protect line as it was, mounts and formats as the one that was left
 module _ (s : Setting) (d : Device) (n : ℕ) (state : State) where
-  pub mount-powered-on : SameOutcome (mounting s d n state) (mounting s (withInterface (poweredAt (d .interface .protected)) d) n state)
-  mount-powered-on =
-      mount-independent s d (withInterface (poweredAt (d .interface .protected)) d) (record { line = refl; array = refl; register = refl; history = refl }) n state
+  pub mount-powered-on : (depth : Depth) → SameOutcome (mounting depth s d n state) (mounting depth s (withInterface (poweredAt (d .interface .protected)) d) n state)
+  mount-powered-on depth =
+      mount-independent s d (withInterface (poweredAt (d .interface .protected)) d) (record { line = refl; array = refl; register = refl; history = refl }) depth n state
 
   pub format-powered-on : SameOutcome (formatting s d n state) (formatting s (withInterface (poweredAt (d .interface .protected)) d) n state)
   format-powered-on =

@@ -18,7 +18,10 @@ use Rattle.state.specs.State.{mounted}
 use Rattle.state.specs.declared.State.{State}
 use Rattle.scan_found.specs.Contents.{mapOf}
 use Rattle.request.specs.Call.{Result, sized, sizedFor}
-use Rattle.mount.specs.Mount.{mountedState, stateAfter, mounting}
+use Rattle.scan_summary.specs.declared.Depth.{Depth}
+use Rattle.scan_summary.specs.declared.Depth.the-variants.{Full}
+use Rattle.mount.specs.Mount.{mountedState, stateBy, stateAfter, mounting}
+use Rattle.mount.proofs.MountLaws.{state-by}
 use Rattle.mount_laws.specs.Mounting.{Mounting}
 use Rattle.mount_laws.proofs.StateLaws.{right-table}
 use Rattle.mount_laws.proofs.MountingLaws.{mount-ends, mount-refused}
@@ -44,23 +47,21 @@ reads-after s r m t ready map-is mask fates n logical page buffer mask-long l p 
     ready (r .state .table) map-is
 
 -- the map of a mounted state is that of the array
-map-of-state : (g : Geometry) (array : List ℕ) (st : State) → st ≡ mountedState g array → st .map ≡ mapOf g array (st .table)
-unfolding mountedState
-map-of-state g array st e = subst (λ (x : State). x .map ≡ mapOf g array (x .table)) (sym e) refl
+map-of-state : (depth : Depth) (g : Geometry) (array : List ℕ) (st : State) → st ≡ stateBy depth g array → st .map ≡ mapOf g array (st .table)
+map-of-state depth g array st e = subst (λ (x : State). x .map ≡ mapOf g array (x .table)) (state-by depth g array ∙ sym e) refl
 
-table-of-state : (g : Geometry) (array : List ℕ) (st : State) → st ≡ mountedState g array → mountAnswer g array ≡ 0 → currentTable g array ≡ at (st .table)
-unfolding mountedState
-table-of-state g array st e z = right-table g array z .is-current ∙ ap at (sym (ap (λ (x : State). x .table) e))
+table-of-state : (depth : Depth) (g : Geometry) (array : List ℕ) (st : State) → st ≡ stateBy depth g array → mountAnswer g array ≡ 0 → currentTable g array ≡ at (st .table)
+table-of-state depth g array st e z = right-table g array z .is-current ∙ ap at (ap (λ (x : State). x .table) (state-by depth g array ∙ sym e))
 
-module _ (s : Setting) (d : Device) (n : ℕ) (state : State) (z : mounting s d n state .answer ≡ 0) where
+module _ (depth : Depth) (s : Setting) (d : Device) (n : ℕ) (state : State) (z : mounting depth s d n state .answer ≡ 0) where
   abbrev r : Result
-  r = mounting s d n state
+  r = mounting depth s d n state
 
   sizes-fit : sizedFor s d ≡ true
-  sizes-fit = cases (sizedFor s d) (λ t. t) (λ f. absurd (omega (arith, z, mount-refused s d n state f)))
+  sizes-fit = cases (sizedFor s d) (λ t. t) (λ f. absurd (omega (arith, z, mount-refused depth s d n state f)))
 
-  m : Mounting s d n r
-  m = mount-ends s d n sizes-fit state
+  m : Mounting depth s d n r
+  m = mount-ends depth s d n sizes-fit state
 
   not-ten : r .answer ≡ 10 → ⊥
   not-ten e = omega (arith, e, z)
@@ -71,7 +72,7 @@ module _ (s : Setting) (d : Device) (n : ℕ) (state : State) (z : mounting s d 
   answer-zero : mountAnswer (s .geometry) (d .array) ≡ 0
   answer-zero = sym (m .answer-is not-ten not-eleven) ∙ z
 
-  state-is : r .state ≡ mountedState (s .geometry) (d .array)
+  state-is : r .state ≡ stateBy depth (s .geometry) (d .array)
   unfolding stateAfter
   state-is = m .state-is not-ten not-eleven ∙ rw (eq-eqb (mountAnswer (s .geometry) (d .array)) 0 answer-zero)
 
@@ -79,11 +80,15 @@ module _ (s : Setting) (d : Device) (n : ℕ) (state : State) (z : mounting s d 
   pub mount-then-read : MountRead (s .geometry) (d .array) r
   mount-then-read =
       record {
-        table-is = table-of-state (s .geometry) (d .array) (r .state) state-is answer-zero;
+        table-is = table-of-state depth (s .geometry) (d .array) (r .state) state-is answer-zero;
         reads = subst (λ (a : List ℕ). Readable (s .geometry) r (reading (s .geometry) a (r .state .table))) (m .same-array)
             (reads-after s r (m .counts-mounted z) (m .sizes-kept) (m .still-ready z)
-            (map-of-state (s .geometry) (d .array) (r .state) state-is ∙ ap (λ (a : List ℕ). mapOf (s .geometry) a (r .state .table)) (sym (m .same-array))));
+            (map-of-state depth (s .geometry) (d .array) (r .state) state-is ∙ ap (λ (a : List ℕ). mapOf (s .geometry) a (r .state .table)) (sym (m .same-array))));
       }
+
+full-state : (g : Geometry) (array : List ℕ) → mountedState g array ≡ stateBy Full g array
+unfolding stateBy
+full-state g array = refl
 
 -- after every acknowledged formatting every logical page reads FFh
 pub format-then-read : (s : Setting) (d : Device) (n : ℕ) (state : State) → Bytes (s .mask) → formatting s d n state .answer ≡ 0
@@ -93,4 +98,4 @@ format-then-read s d n state mask-bytes z mask fates k logical page buffer mask-
     let a = format-acknowledged s d n state mask-bytes z in
     let f = a .formatted in
     subst (λ (bytes : List ℕ). ReadsAs (setting (s .geometry) mask fates) (r .chip) k (r .state) bytes (readingPage (setting (s .geometry) mask fates) (r .chip) k (r .state) logical page buffer)) (f .reads-blank logical page)
-    (reads-after s r (a .counts-mounted) (a .still-sized) (a .still-ready) (map-of-state (s .geometry) (r .chip .array) (r .state) (f .state-is)) mask fates k logical page buffer mask-long l p long)
+    (reads-after s r (a .counts-mounted) (a .still-sized) (a .still-ready) (map-of-state Full (s .geometry) (r .chip .array) (r .state) (f .state-is ∙ full-state (s .geometry) (r .chip .array))) mask fates k logical page buffer mask-long l p long)

@@ -1,10 +1,11 @@
--- The scan of the chip: all pages of its blocks, one block after the other.
+-- The scan of the chip: its blocks read at one depth, one after the other.
 use Prim.Native.Nat.{ℕ, zero, suc}
 use Rattle.chip_array.specs.Device.{Setting}
+use Rattle.scan_summary.specs.declared.Depth.{Depth}
 use Rattle.progress.specs.Progress.{Progress}
-use Rattle.scan_block.specs.Pages.{pagesRead}
+use Rattle.scan_quick.specs.BlockRead.{blockRead}
 
--- all pages of the first n blocks
-unfoldable pub blocksRead : Setting → ℕ → Progress → Progress
-blocksRead s zero p = p
-blocksRead s (suc n) p = pagesRead s n (s .geometry .pages) (blocksRead s n p)
+-- the first n blocks
+unfoldable pub blocksRead : Depth → Setting → ℕ → Progress → Progress
+blocksRead depth s zero p = p
+blocksRead depth s (suc n) p = blockRead depth s n (blocksRead depth s n p)

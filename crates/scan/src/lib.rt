@@ -1,8 +1,9 @@
-// The scan of the chip: every page of every block read whole through the bus, and what was found.
+// The scan of the chip: every block read through the bus at one depth, and what was found.
 use bus::Bus;
 use bus_polling::Outcome;
 use geometry::Geometry;
 use scan_found::Found;
+use scan_summary::Depth;
 ghost use mathlib.Core.Bool.{true};
 ghost use mathlib.Core.List.{List};
 ghost use mathlib.Core.Path.{_≡_};
@@ -28,9 +29,10 @@ pub struct ChipScanned {
     pub found: Found,
 }
 
-// Reads every page of every block whole, in order, through a page buffer. Kind, logical block and number of each
+// Reads every block at the depth given, in order, through a page buffer. Kind, logical block and number of each
 // complete block go to the last three buffers.
 pub fn scan_chip(
+    depth: Depth,
     from: Bus,
     g: Geometry,
     array: &mut [u8],
@@ -48,13 +50,13 @@ pub fn scan_chip(
     requires { ⌜ g .blocks ≤ length (now kinds) ⌝ }
     requires { ⌜ g .blocks ≤ length (now logicals) ⌝ }
     requires { ⌜ g .blocks ≤ length (now numbers) ⌝ }
-    ensures { λ r. ⌜ ((cs : List Cycle) (os : List ArrayOperation) → line (r .bus) (now (array .exit)) (now (register .exit)) (now (history .exit)) ≡ blocksRead (setting g (now (mask .entry)) (now (fates .entry))) (g .blocks) (progress (line from (now (array .entry)) (now (register .entry)) (now (history .entry))) Passed cs os) .line) ⌝ }
-    ensures { λ r. ⌜ ((cs : List Cycle) (os : List ArrayOperation) → r .outcome ≡ blocksRead (setting g (now (mask .entry)) (now (fates .entry))) (g .blocks) (progress (line from (now (array .entry)) (now (register .entry)) (now (history .entry))) Passed cs os) .outcome) ⌝ }
+    ensures { λ r. ⌜ ((cs : List Cycle) (os : List ArrayOperation) → line (r .bus) (now (array .exit)) (now (register .exit)) (now (history .exit)) ≡ blocksRead depth (setting g (now (mask .entry)) (now (fates .entry))) (g .blocks) (progress (line from (now (array .entry)) (now (register .entry)) (now (history .entry))) Passed cs os) .line) ⌝ }
+    ensures { λ r. ⌜ ((cs : List Cycle) (os : List ArrayOperation) → r .outcome ≡ blocksRead depth (setting g (now (mask .entry)) (now (fates .entry))) (g .blocks) (progress (line from (now (array .entry)) (now (register .entry)) (now (history .entry))) Passed cs os) .outcome) ⌝ }
     ensures { λ r. ⌜ now (array .exit) ≡ now (array .entry) ⌝ }
     ensures { λ r. ⌜ now (history .exit) ≡ now (history .entry) ⌝ }
     ensures { λ r. ⌜ (isPassed (r .outcome) ≡ true → Called (setting g (now (mask .entry)) (now (fates .entry))) (line (r .bus) (now (array .exit)) (now (register .exit)) (now (history .exit)))) ⌝ }
-    ensures { λ r. ⌜ (isPassed (r .outcome) ≡ true → r .found ≡ foundTo g (now (array .entry)) (g .blocks)) ⌝ }
-    ensures { λ r. ⌜ (isPassed (r .outcome) ≡ true → contents (now (kinds .exit)) (now (logicals .exit)) (now (numbers .exit)) ≡ contentsTo g (now (array .entry)) (contents (now (kinds .entry)) (now (logicals .entry)) (now (numbers .entry))) (g .blocks)) ⌝ }
+    ensures { λ r. ⌜ (isPassed (r .outcome) ≡ true → r .found ≡ foundTo depth g (now (array .entry)) (g .blocks)) ⌝ }
+    ensures { λ r. ⌜ (isPassed (r .outcome) ≡ true → contents (now (kinds .exit)) (now (logicals .exit)) (now (numbers .exit)) ≡ contentsTo depth g (now (array .entry)) (contents (now (kinds .entry)) (now (logicals .entry)) (now (numbers .entry))) (g .blocks)) ⌝ }
 {
     let mut b = from;
     let mut found = Found::blank();
@@ -62,7 +64,8 @@ pub fn scan_chip(
     let blocks = g.blocks;
     while block < blocks {
         let mut bits = [0u8; 512];
-        let done = scan_block::scan_block(
+        let done = scan_quick::scan_at(
+            depth,
             b,
             g,
             array,

@@ -1,2 +1,3 @@
-pub mod KeepLaws
 pub mod ScanLaws
+pub mod KeepLaws
+pub mod MarkLaws

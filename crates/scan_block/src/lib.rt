@@ -1,4 +1,4 @@
-// The scan of a block: its pages read whole through the bus, in order, and what they tell.
+// The scan of a block: its pages read whole through the bus, in order, and what they tell; and the byte of a factory mark alone.
 use bus::Bus;
 use bus_polling::Outcome;
 use geometry::Geometry;
@@ -6,7 +6,7 @@ use scan_summary::Summary;
 ghost use mathlib.Core.Bool.{true, cond};
 ghost use mathlib.Core.List.{List};
 ghost use mathlib.Core.Path.{_≡_};
-ghost use Prim.Native.Nat.{_<_, _≤_};
+ghost use Prim.Native.Nat.{_+_, _<_, _≤_};
 ghost use lib.ListN.{length};
 ghost use Rattle.geometry.specs.Sizes.{pageSize};
 ghost use Rattle.chip_array.specs.Device.{setting};
@@ -22,6 +22,8 @@ ghost use Rattle.bitmaps.specs.Bitmap.{bitmapBytes};
 ghost use Rattle.copies.specs.Table.{bitmapOf, rightTo};
 ghost use Rattle.cells.specs.Part.{put};
 ghost use Rattle.progress.specs.Progress.{progress};
+ghost use Rattle.scan_block.specs.Gathered.{PagesScanned, gathered};
+ghost use Rattle.scan_block.specs.Mark.{MarkRead};
 ghost use Rattle.scan_block.specs.Pages.{pagesRead};
 
 // The bus after a scan, how its last read ended, and what the pages told if all passed.
@@ -31,6 +33,65 @@ pub struct Scanned {
     pub summary: Summary,
     // 1 where every page is as a table's.
     pub right: usize,
+}
+
+// Goes on with a scan, if all before passed: reads `count` pages of a block whole, in order, from page `first` on, through a page
+// buffer. `bits` takes the bitmap of page 0, as if it were a table's.
+pub fn scan_pages(
+    from: Scanned,
+    g: Geometry,
+    array: &mut [u8],
+    register: &mut [u8],
+    history: &mut [u8],
+    mask: &[u8],
+    fates: &[u32],
+    block: usize,
+    first: usize,
+    count: usize,
+    page: &mut [u8],
+    bits: &mut [u8],
+) -> Scanned
+    requires { ⌜ (isPassed (from .outcome) ≡ true → Called (setting g (now mask) (now fates)) (line (from .bus) (now array) (now register) (now history))) ⌝ }
+    requires { ⌜ block < g .blocks ⌝ }
+    requires { ⌜ first + count ≤ g .pages ⌝ }
+    requires { ⌜ length (now page) ≡ pageSize g ⌝ }
+    requires { ⌜ bitmapBytes (g .blocks) ≤ length (now bits) ⌝ }
+    ensures { λ r. ⌜ PagesScanned (setting g (now (mask .entry)) (now (fates .entry))) (line (from .bus) (now (array .entry)) (now (register .entry)) (now (history .entry))) (line (r .bus) (now (array .exit)) (now (register .exit)) (now (history .exit))) (from .outcome) (r .outcome) block first count (gathered (from .summary) (from .right) (now (bits .entry)) (now (page .entry))) (gathered (r .summary) (r .right) (now (bits .exit)) (now (page .exit))) ⌝ }
+{
+    let begun = from.outcome;
+    let Outcome::Passed = begun else {
+        return from;
+    };
+    let mut b = from.bus;
+    let mut summary = from.summary;
+    let mut right = from.right;
+    let mut done: usize = 0;
+    let main = g.main;
+    while done < count {
+        let place = first + done;
+        let row = geometry::row_of(g, block, place);
+        let read = operations::read(b, g, array, register, history, mask, fates, row, 0, page);
+        b = read.bus;
+        let outcome = read.outcome;
+        let Outcome::Passed = outcome else {
+            return Scanned {
+                bus: b,
+                outcome,
+                summary,
+                right,
+            };
+        };
+        summary = summary.step(page, main, place);
+        right = table::right_with(right, page, g, place);
+        table::copy_bitmap(page, g, place, bits);
+        done += 1;
+    }
+    Scanned {
+        bus: b,
+        outcome: Outcome::Passed,
+        summary,
+        right,
+    }
 }
 
 // Reads a block's pages whole, in order, through a page buffer. `bits` takes the bitmap of page 0, as if it were a table's.
@@ -59,34 +120,71 @@ pub fn scan_block(
     ensures { λ r. ⌜ (isPassed (r .outcome) ≡ true → r .right ≡ cond (rightTo g (blockIn g (now (array .entry)) block) (g .pages)) 1 0) ⌝ }
     ensures { λ r. ⌜ (isPassed (r .outcome) ≡ true → now (bits .exit) ≡ put 0 (bitmapOf (g .blocks) (mainIn g (blockIn g (now (array .entry)) block) 0)) (now (bits .entry))) ⌝ }
 {
-    let mut b = from;
-    let mut summary = Summary::blank();
-    let mut right: usize = 1;
-    let mut place: usize = 0;
-    let main = g.main;
-    let pages = g.pages;
-    while place < pages {
-        let row = geometry::row_of(g, block, place);
-        let done = operations::read(b, g, array, register, history, mask, fates, row, 0, page);
-        b = done.bus;
-        let outcome = done.outcome;
-        let Outcome::Passed = outcome else {
-            return Scanned {
-                bus: b,
-                outcome,
-                summary,
-                right,
-            };
-        };
-        summary = summary.step(page, main, place);
-        right = table::right_with(right, page, g, place);
-        table::copy_bitmap(page, g, place, bits);
-        place += 1;
-    }
-    Scanned {
-        bus: b,
+    let start = Scanned {
+        bus: from,
         outcome: Outcome::Passed,
-        summary,
-        right,
+        summary: Summary::blank(),
+        right: 1,
+    };
+    scan_pages(
+        start,
+        g,
+        array,
+        register,
+        history,
+        mask,
+        fates,
+        block,
+        0,
+        g.pages,
+        page,
+        bits,
+    )
+}
+
+// The bus after one mark byte was read, how the read ended, and the byte.
+pub struct Mark {
+    pub bus: Bus,
+    pub outcome: Outcome,
+    pub byte: u8,
+}
+
+// The byte in the place of a factory mark, of one page.
+pub fn read_mark(
+    from: Bus,
+    g: Geometry,
+    array: &mut [u8],
+    register: &mut [u8],
+    history: &mut [u8],
+    mask: &[u8],
+    fates: &[u32],
+    block: usize,
+    place: usize,
+) -> Mark
+    requires { ⌜ Called (setting g (now mask) (now fates)) (line from (now array) (now register) (now history)) ⌝ }
+    requires { ⌜ block < g .blocks ⌝ }
+    requires { ⌜ place < g .pages ⌝ }
+    ensures { λ r. ⌜ MarkRead (setting g (now (mask .entry)) (now (fates .entry))) (line from (now (array .entry)) (now (register .entry)) (now (history .entry))) (line (r .bus) (now (array .exit)) (now (register .exit)) (now (history .exit))) (r .outcome) block place (r .byte) ⌝ }
+{
+    let row = geometry::row_of(g, block, place);
+    let mut byte = [0u8; 1];
+    let done = operations::read(
+        from,
+        g,
+        array,
+        register,
+        history,
+        mask,
+        fates,
+        row,
+        g.main,
+        &mut byte,
+    );
+    let bus = done.bus;
+    let outcome = done.outcome;
+    Mark {
+        bus,
+        outcome,
+        byte: byte[0],
     }
 }

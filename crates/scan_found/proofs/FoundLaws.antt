@@ -17,13 +17,14 @@ use Rattle.cells.proofs.CellLaws.{bytes-drop}
 use Rattle.cells.proofs.PartLaws.{bytes-part}
 use Rattle.pages.specs.Layout.{isTableKind, kindOf, labelOf}
 use Rattle.pages.proofs.LayoutLaws.{numberOf-fits}
-use Rattle.copies.specs.Blocks.{blockIn, pageIn, isMarked, isComplete, isTable, hasNumber, greatest}
-use Rattle.copies.specs.Current.{numberAt, greatestBelow}
+use Rattle.copies.specs.Blocks.{blockIn, pageIn, isMarked, isComplete, isTable, greatest}
+use Rattle.copies.specs.Current.{numberAt}
 use Rattle.copies.specs.Pick.{nothing, at, better, pick}
 use Rattle.scan_summary.specs.Summary.{saysComplete, saysNumber}
 use Rattle.scan_summary.specs.declared.Summary.{Summary}
-use Rattle.copies.proofs.NumberLaws.{none-greatest}
-use Rattle.scan_summary.proofs.BlockLaws.{says-complete, says-number, says-greatest, says-marked, complete-label}
+use Rattle.scan_summary.specs.Depth.{hasBy, greatestBy, belowBy}
+use Rattle.scan_summary.specs.declared.Depth.{Depth}
+use Rattle.scan_summary.proofs.DepthLaws.{says-complete, says-number, says-greatest, says-marked, complete-label, none-by, below-zero, below-next}
 use Rattle.scan_found.specs.Found.{markNoted, isGreater, withGreatest, greatestNoted, isNewer, withTable, tableNoted, noted, foundTo, summaryAt, rightAt, bitsAt, marksTo}
 use Rattle.scan_found.specs.declared.Found.{Found}
 
@@ -45,6 +46,12 @@ module _ {X : Type 0} (b : ℕ) (s : Summary) (right : ℕ) (bits : List ℕ) (f
   unfolding greatestNoted
   greatest-keeps e = arms view (view f) (saysNumber s) _ f (arms view (view f) (isGreater s f) _ f e refl) refl
 
+-- the test for a table counts of a complete block only
+pub note-right : (b : ℕ) (s : Summary) (right other : ℕ) (bits : List ℕ) (f : Found) → (saysComplete s ≡ true → right ≡ other) → noted b s right bits f ≡ noted b s other bits f
+unfolding noted tableNoted
+note-right b s right other bits f same =
+    cases (saysComplete s) (λ t. ap (λ (x : ℕ). noted b s x bits f) (same t)) (λ t. rw t)
+
 zero-test : (m : Bool) (x : Found) (y : Found) → cond (eqb (cond m 1 0) 0) x y ≡ cond m y x
 zero-test true x y = refl
 zero-test false x y = refl
@@ -54,16 +61,16 @@ marked-arms : (m : Bool) (x y : Found) → cond m x y .marked ≡ cond m (x .mar
 marked-arms true x y = refl
 marked-arms false x y = refl
 
-module _ (g : Geometry) (two : 2 ≤ g .pages) (array : List ℕ) where
-  pub found-marked : (n : ℕ) → foundTo g array n .marked ≡ marksTo g array n
+module _ (depth : Depth) (g : Geometry) (three : 3 ≤ g .pages) (array : List ℕ) where
+  pub found-marked : (n : ℕ) → foundTo depth g array n .marked ≡ marksTo g array n
   unfolding foundTo marksTo noted markNoted
   found-marked zero = refl
   found-marked (suc n) =
-      let f = foundTo g array n in
-      let s = summaryAt g array n in
+      let f = foundTo depth g array n in
+      let s = summaryAt depth g array n in
       table-keeps n s (rightAt g array n) (bitsAt g array n) (greatestNoted n s (markNoted n s f)) (λ x. x .marked) refl
       ∙ greatest-keeps n s (rightAt g array n) (bitsAt g array n) (markNoted n s f) (λ x. x .marked) refl
-      ∙ rw (says-marked g (blockIn g array n) two, zero-test (isMarked g (blockIn g array n)), marked-arms (isMarked g (blockIn g array n)), found-marked n)
+      ∙ rw (says-marked g three (blockIn g array n) depth, zero-test (isMarked g (blockIn g array n)), marked-arms (isMarked g (blockIn g array n)), found-marked n)
 
 -- what is known of the greatest number
 pub record Most : Type 0 where
@@ -74,59 +81,59 @@ pub record Most : Type 0 where
 abbrev pub most : Found → Most
 most f = record { any = f .any; greatest = f .greatest; last = f .last }
 
-module _ (g : Geometry) (two : 2 ≤ g .pages) (array : List ℕ) where
+module _ (depth : Depth) (g : Geometry) (three : 3 ≤ g .pages) (array : List ℕ) where
   -- a number was found: the greatest, and the block picked for it
   pub record Numbered (n : ℕ) (m : Most) : Type 0 where
     pub any-one : m .any ≡ 1
-    pub picked : pick (λ b. hasNumber g (blockIn g array b)) (λ b. greatest g (blockIn g array b)) n ≡ at (m .last)
-    pub greatest-is : m .greatest ≡ greatest g (blockIn g array (m .last))
-    pub greatest-below : m .greatest ≡ greatestBelow g array n
+    pub picked : pick (λ b. hasBy depth g (blockIn g array b)) (λ b. greatestBy depth g (blockIn g array b)) n ≡ at (m .last)
+    pub greatest-is : m .greatest ≡ greatestBy depth g (blockIn g array (m .last))
+    pub greatest-below : m .greatest ≡ belowBy depth g array n
 
   pub record Unnumbered (n : ℕ) (m : Most) : Type 0 where
     pub any-none : m .any ≡ 0
-    pub picked : pick (λ b. hasNumber g (blockIn g array b)) (λ b. greatest g (blockIn g array b)) n ≡ nothing
+    pub picked : pick (λ b. hasBy depth g (blockIn g array b)) (λ b. greatestBy depth g (blockIn g array b)) n ≡ nothing
     pub greatest-none : m .greatest ≡ 0
     pub last-none : m .last ≡ 0
-    pub below-none : greatestBelow g array n ≡ 0
+    pub below-none : belowBy depth g array n ≡ 0
 
   -- block n has no number
-  other-most : (n : ℕ) (m : Most) → hasNumber g (blockIn g array n) ≡ false → Unnumbered n m ⊎ Numbered n m → Unnumbered (suc n) m ⊎ Numbered (suc n) m
-  unfolding pick greatestBelow
+  other-most : (n : ℕ) (m : Most) → hasBy depth g (blockIn g array n) ≡ false → Unnumbered n m ⊎ Numbered n m → Unnumbered (suc n) m ⊎ Numbered (suc n) m
+  unfolding pick
   other-most n m t (inl u) =
-      inl (record { any-none = u .any-none; picked = rw t (u .picked); greatest-none = u .greatest-none; last-none = u .last-none; below-none = omega (arith, u .below-none, none-greatest g (blockIn g array n) t) })
+      inl (record { any-none = u .any-none; picked = rw t (u .picked); greatest-none = u .greatest-none; last-none = u .last-none; below-none = omega (arith, u .below-none, below-next depth g array n, none-by depth g (blockIn g array n) t) })
   other-most n m t (inr r) =
-      inr (record { any-one = r .any-one; picked = rw t (r .picked); greatest-is = r .greatest-is; greatest-below = omega (arith, r .greatest-below, none-greatest g (blockIn g array n) t) })
+      inr (record { any-one = r .any-one; picked = rw t (r .picked); greatest-is = r .greatest-is; greatest-below = omega (arith, r .greatest-below, below-next depth g array n, none-by depth g (blockIn g array n) t) })
 
   -- block n has one
-  module _ (n : ℕ) (t : hasNumber g (blockIn g array n) ≡ true) (number : ℕ) (number-n : number ≡ greatest g (blockIn g array n)) where
+  module _ (n : ℕ) (t : hasBy depth g (blockIn g array n) ≡ true) (number : ℕ) (number-n : number ≡ greatestBy depth g (blockIn g array n)) where
     abbrev newest : Most
     newest = record { any = 1; greatest = number; last = n }
 
     -- by whether it is greater than the one before
     beyond : (m : Most) → Numbered n m → (b : Bool) → ltb (m .greatest) number ≡ b → Unnumbered (suc n) (cond b newest m) ⊎ Numbered (suc n) (cond b newest m)
-    unfolding pick better greatestBelow
+    unfolding pick better
     beyond m r true e =
-        let less : ltb (greatest g (blockIn g array (m .last))) (greatest g (blockIn g array n)) ≡ true = sym (ap₂ ltb (r .greatest-is) number-n) ∙ e in
+        let less : ltb (greatestBy depth g (blockIn g array (m .last))) (greatestBy depth g (blockIn g array n)) ≡ true = sym (ap₂ ltb (r .greatest-is) number-n) ∙ e in
         inr (record {
           any-one = refl;
-          picked = rw t (ap (better (λ b. greatest g (blockIn g array b)) n) (r .picked) ∙ rw less);
+          picked = rw t (ap (better (λ b. greatestBy depth g (blockIn g array b)) n) (r .picked) ∙ rw less);
           greatest-is = number-n;
-          greatest-below = omega (arith, number-n, r .greatest-below, ltb-true (m .greatest) number e);
+          greatest-below = omega (arith, below-next depth g array n, number-n, r .greatest-below, ltb-true (m .greatest) number e);
         })
     beyond m r false e =
-        let less : ltb (greatest g (blockIn g array (m .last))) (greatest g (blockIn g array n)) ≡ false = sym (ap₂ ltb (r .greatest-is) number-n) ∙ e in
+        let less : ltb (greatestBy depth g (blockIn g array (m .last))) (greatestBy depth g (blockIn g array n)) ≡ false = sym (ap₂ ltb (r .greatest-is) number-n) ∙ e in
         inr (record {
           any-one = r .any-one;
-          picked = rw t (ap (better (λ b. greatest g (blockIn g array b)) n) (r .picked) ∙ rw less);
+          picked = rw t (ap (better (λ b. greatestBy depth g (blockIn g array b)) n) (r .picked) ∙ rw less);
           greatest-is = r .greatest-is;
-          greatest-below = omega (arith, number-n, r .greatest-below, ltb-false (m .greatest) number e);
+          greatest-below = omega (arith, below-next depth g array n, number-n, r .greatest-below, ltb-false (m .greatest) number e);
         })
 
     number-most : (m : Most) → Unnumbered n m ⊎ Numbered n m → Unnumbered (suc n) (cond (cond (eqb (m .any) 0) true (ltb (m .greatest) number)) newest m) ⊎ Numbered (suc n) (cond (cond (eqb (m .any) 0) true (ltb (m .greatest) number)) newest m)
-    unfolding pick better greatestBelow
+    unfolding pick better
     number-most m (inl u) =
         rw (eq-eqb (m .any) 0 (u .any-none))
-        (inr (record { any-one = refl; picked = rw t (ap (better (λ b. greatest g (blockIn g array b)) n) (u .picked)); greatest-is = number-n; greatest-below = omega (arith, number-n, u .below-none) }))
+        (inr (record { any-one = refl; picked = rw t (ap (better (λ b. greatestBy depth g (blockIn g array b)) n) (u .picked)); greatest-is = number-n; greatest-below = omega (arith, below-next depth g array n, number-n, u .below-none) }))
     number-most m (inr r) =
         let some : eqb (m .any) 0 ≡ false = ne-eqb (m .any) 0 (λ x. omega (arith, x, r .any-one)) in
         rw some (beyond m r (ltb (m .greatest) number) refl)
@@ -150,30 +157,30 @@ module _ (g : Geometry) (two : 2 ≤ g .pages) (array : List ℕ) where
   most-not n s f t = rw t
 
   most-next : (n : ℕ) (f : Found) → Unnumbered n (most f) ⊎ Numbered n (most f)
-      → Unnumbered (suc n) (most (greatestNoted n (summaryAt g array n) f)) ⊎ Numbered (suc n) (most (greatestNoted n (summaryAt g array n) f))
+      → Unnumbered (suc n) (most (greatestNoted n (summaryAt depth g array n) f)) ⊎ Numbered (suc n) (most (greatestNoted n (summaryAt depth g array n) f))
   most-next n f r =
-      let s = summaryAt g array n in
-      let said = says-number g (blockIn g array n) two in
-      cases (hasNumber g (blockIn g array n))
+      let s = summaryAt depth g array n in
+      let said = says-number g three (blockIn g array n) depth in
+      cases (hasBy depth g (blockIn g array n))
       (λ t.
       subst (λ (m : Most). Unnumbered (suc n) m ⊎ Numbered (suc n) m) (sym (most-noted n s f (said ∙ t)))
-      (number-most n t (s .greatest) (says-greatest g (blockIn g array n) two t) (most f) r))
+      (number-most n t (s .greatest) (says-greatest g three (blockIn g array n) depth t) (most f) r))
       (λ t.
       subst (λ (x : Found). Unnumbered (suc n) (most x) ⊎ Numbered (suc n) (most x)) (sym (most-not n s f (said ∙ t))) (other-most n (most f) t r))
 
   -- after the first n blocks: no number, or the greatest and the block picked for it
-  pub most-found : (n : ℕ) → Unnumbered n (most (foundTo g array n)) ⊎ Numbered n (most (foundTo g array n))
-  unfolding foundTo noted pick greatestBelow
-  most-found zero = inl (record { any-none = refl; picked = refl; greatest-none = refl; last-none = refl; below-none = refl })
+  pub most-found : (n : ℕ) → Unnumbered n (most (foundTo depth g array n)) ⊎ Numbered n (most (foundTo depth g array n))
+  unfolding foundTo noted pick
+  most-found zero = inl (record { any-none = refl; picked = refl; greatest-none = refl; last-none = refl; below-none = below-zero depth g array })
   most-found (suc n) =
-      let s = summaryAt g array n in
-      let f = foundTo g array n in
+      let s = summaryAt depth g array n in
+      let f = foundTo depth g array n in
       let m = markNoted n s f in
       subst (λ (x : Most). Unnumbered (suc n) x ⊎ Numbered (suc n) x)
       (sym (table-keeps n s (rightAt g array n) (bitsAt g array n) (greatestNoted n s m) most refl))
       (most-next n m (subst (λ (x : Most). Unnumbered n x ⊎ Numbered n x) (sym (mark-keeps n s f)) (most-found n)))
 
-  pub found-greatest : (n : ℕ) → foundTo g array n .greatest ≡ greatestBelow g array n
+  pub found-greatest : (n : ℕ) → foundTo depth g array n .greatest ≡ belowBy depth g array n
   found-greatest n = ⊎-elim (λ u. u .greatest-none ∙ sym (u .below-none)) (λ r. r .greatest-below) (most-found n)
 
 -- what is known of the current table
@@ -187,7 +194,7 @@ pub record Kept : Type 0 where
 abbrev pub kept : Found → Kept
 kept f = record { tables = f .tables; table = f .table; number = f .number; right = f .right; bits = f .bits }
 
-module _ (g : Geometry) (two : 2 ≤ g .pages) (array : List ℕ) where
+module _ (depth : Depth) (g : Geometry) (three : 3 ≤ g .pages) (array : List ℕ) where
   -- a complete table was found, and the one kept is the current one
   pub record Chosen (n : ℕ) (k : Kept) : Type 0 where
     pub tables-one : k .tables ≡ 1
@@ -262,22 +269,22 @@ module _ (g : Geometry) (two : 2 ≤ g .pages) (array : List ℕ) where
       (λ t. rw t)
 
   -- the summary's test for a complete table is the block's
-  table-said : (n : ℕ) → cond (saysComplete (summaryAt g array n)) (isTableKind (summaryAt g array n .kind)) false ≡ isTable g (blockIn g array n)
+  table-said : (n : ℕ) → cond (saysComplete (summaryAt depth g array n)) (isTableKind (summaryAt depth g array n .kind)) false ≡ isTable g (blockIn g array n)
   unfolding isTable
   table-said n =
       cases (isComplete g (blockIn g array n))
-      (λ t. rw (says-complete g (blockIn g array n) two, t) (ap isTableKind (complete-label g (blockIn g array n) two t .kind-is)))
-      (λ t. rw (says-complete g (blockIn g array n) two, t))
+      (λ t. rw (says-complete g three (blockIn g array n) depth, t) (ap isTableKind (complete-label g three (blockIn g array n) depth t .kind-is)))
+      (λ t. rw (says-complete g three (blockIn g array n) depth, t))
 
   table-next : (n : ℕ) (f : Found) → Missing n (kept f) ⊎ Chosen n (kept f)
-      → Missing (suc n) (kept (tableNoted n (summaryAt g array n) (rightAt g array n) (bitsAt g array n) f)) ⊎ Chosen (suc n) (kept (tableNoted n (summaryAt g array n) (rightAt g array n) (bitsAt g array n) f))
+      → Missing (suc n) (kept (tableNoted n (summaryAt depth g array n) (rightAt g array n) (bitsAt g array n) f)) ⊎ Chosen (suc n) (kept (tableNoted n (summaryAt depth g array n) (rightAt g array n) (bitsAt g array n) f))
   table-next n f r =
-      let s = summaryAt g array n in
+      let s = summaryAt depth g array n in
       cases (isTable g (blockIn g array n))
       (λ t.
       let said = both (saysComplete s) (isTableKind (s .kind)) (table-said n ∙ t) in
-      let complete = sym (says-complete g (blockIn g array n) two) ∙ said .0 in
-      let label = complete-label g (blockIn g array n) two complete in
+      let complete = sym (says-complete g three (blockIn g array n) depth) ∙ said .0 in
+      let label = complete-label g three (blockIn g array n) depth complete in
       let noted-is = kept-noted n s f (said .0) (said .1) in
       subst (λ (k : Kept). Missing (suc n) k ⊎ Chosen (suc n) k) (sym noted-is) (table-kept n t (s .number) (label .number-is) (kept f) r))
       (λ t.
@@ -285,27 +292,27 @@ module _ (g : Geometry) (two : 2 ≤ g .pages) (array : List ℕ) where
       subst (λ (x : Found). Missing (suc n) (kept x) ⊎ Chosen (suc n) (kept x)) (sym same) (other-kept n (kept f) t r))
 
   -- after the first n blocks: no complete table, or the one kept is the current one
-  pub table-found : (n : ℕ) → Missing n (kept (foundTo g array n)) ⊎ Chosen n (kept (foundTo g array n))
+  pub table-found : (n : ℕ) → Missing n (kept (foundTo depth g array n)) ⊎ Chosen n (kept (foundTo depth g array n))
   unfolding foundTo noted pick
   table-found zero = inl (record { tables-none = refl; none-picked = refl })
   table-found (suc n) =
-      let s = summaryAt g array n in
-      let f = foundTo g array n in
+      let s = summaryAt depth g array n in
+      let f = foundTo depth g array n in
       let same = others-keep n s f in
       table-next n (greatestNoted n s (markNoted n s f)) (subst (λ (k : Kept). Missing n k ⊎ Chosen n k) (sym same) (table-found n))
 
 -- the table kept is a block scanned
-module _ (g : Geometry) (array : List ℕ) where
+module _ (depth : Depth) (g : Geometry) (array : List ℕ) where
   small-arms : (b : Bool) (x y : Found) → x .table < 4096 → y .table < 4096 → cond b x y .table < 4096
   small-arms true x y p q = p
   small-arms false x y p q = q
 
-  pub table-small : (n : ℕ) → n ≤ 4096 → foundTo g array n .table < 4096
+  pub table-small : (n : ℕ) → n ≤ 4096 → foundTo depth g array n .table < 4096
   unfolding foundTo noted tableNoted greatestNoted markNoted
   table-small zero h = omega arith
   table-small (suc n) h =
-      let s = summaryAt g array n in
-      let f = foundTo g array n in
+      let s = summaryAt depth g array n in
+      let f = foundTo depth g array n in
       let m = markNoted n s f in
       let a = greatestNoted n s m in
       let less = table-small n (omega (arith, h)) in
@@ -321,10 +328,10 @@ unfolding labelOf kindOf
 label-fits main p b =
     (bytes-drop main p b 1, numberOf-fits 2 (drop 2 (drop main p)) (bytes-drop 2 (drop main p) (bytes-drop main p b)))
 
-pub copy-fits : (g : Geometry) → 2 ≤ g .pages → (array : List ℕ) → Bytes array → (n : ℕ) → saysComplete (summaryAt g array n) ≡ true
-    → (summaryAt g array n .kind < 256) × (summaryAt g array n .logical < 65536)
-copy-fits g two array b n t =
+pub copy-fits : (depth : Depth) (g : Geometry) → 3 ≤ g .pages → (array : List ℕ) → Bytes array → (n : ℕ) → saysComplete (summaryAt depth g array n) ≡ true
+    → (summaryAt depth g array n .kind < 256) × (summaryAt depth g array n .logical < 65536)
+copy-fits depth g three array b n t =
     let row = blockIn g array n in
-    let c = complete-label g row two (sym (says-complete g row two) ∙ t) in
+    let c = complete-label g three row depth (sym (says-complete g three row depth) ∙ t) in
     let l = label-fits (g .main) (pageIn g row 0) (bytes-part (0 * pageSize g) (pageSize g) row (bytes-part (n * blockSize g) (blockSize g) array b)) in
     (omega (arith, c .kind-is, l .0), omega (arith, c .logical-is, l .1))

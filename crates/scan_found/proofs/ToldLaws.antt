@@ -23,7 +23,9 @@ use Rattle.copies.specs.Current.{numberAt, unlisted, counts, sharesNumber, clas
 use Rattle.copies.specs.Pick.{someBelow}
 use Rattle.copies.specs.Table.{bitmapOf, lists}
 use Rattle.table.proofs.TableLaws.{valid-roomy}
-use Rattle.scan_summary.proofs.BlockLaws.{says-complete, complete-label}
+use Rattle.scan_summary.specs.declared.Depth.{Depth}
+use Rattle.scan_summary.specs.declared.Depth.the-variants.{Full}
+use Rattle.scan_summary.proofs.DepthLaws.{says-complete, complete-label}
 use Rattle.copies.proofs.PickLaws.{up-to, some-same}
 use Rattle.scan_found.specs.Contents.{Contents, contents, copyNoted, contentsTo, counted, bears, pastLast, clashing}
 use Rattle.scan_found.specs.Found.{summaryAt, bitsAt}
@@ -49,7 +51,7 @@ module _ (g : Geometry) (array : List ℕ) where
     pub number-is : (b : ℕ) → b < n → isComplete g (blockIn g array b) ≡ true → getD (c .numbers) b 0 ≡ numberAt g array b
     pub kind-later : (b : ℕ) → n ≤ b → getD (c .kinds) b 0 ≡ 0
 
-module _ (g : Geometry) (two : 2 ≤ g .pages) (array : List ℕ) where
+module _ (depth : Depth) (g : Geometry) (three : 3 ≤ g .pages) (array : List ℕ) where
   told-none : Told g array 0 (contents (replicate 4096 0) (replicate 4096 0) (replicate 4096 0))
   told-none =
       record {
@@ -64,10 +66,10 @@ module _ (g : Geometry) (two : 2 ≤ g .pages) (array : List ℕ) where
 
   -- block n is complete
   told-complete : (n : ℕ) (c : Contents) → n < 4096 → isComplete g (blockIn g array n) ≡ true → Told g array n c
-      → Told g array (suc n) (contents (set (c .kinds) n (summaryAt g array n .kind)) (set (c .logicals) n (summaryAt g array n .logical)) (set (c .numbers) n (summaryAt g array n .number)))
+      → Told g array (suc n) (contents (set (c .kinds) n (summaryAt depth g array n .kind)) (set (c .logicals) n (summaryAt depth g array n .logical)) (set (c .numbers) n (summaryAt depth g array n .number)))
   told-complete n c room t r =
-      let s = summaryAt g array n in
-      let label = complete-label g (blockIn g array n) two t in
+      let s = summaryAt depth g array n in
+      let label = complete-label g three (blockIn g array n) depth t in
       record {
         kinds-long = length-set (c .kinds) n (s .kind) ∙ r .kinds-long;
         logicals-long = length-set (c .logicals) n (s .logical) ∙ r .logicals-long;
@@ -109,17 +111,17 @@ module _ (g : Geometry) (two : 2 ≤ g .pages) (array : List ℕ) where
         kind-later = λ b h. r .kind-later b (omega (arith, h));
       }
 
-  told-next : (n : ℕ) (c : Contents) → n < 4096 → Told g array n c → Told g array (suc n) (copyNoted n (summaryAt g array n) c)
+  told-next : (n : ℕ) (c : Contents) → n < 4096 → Told g array n c → Told g array (suc n) (copyNoted n (summaryAt depth g array n) c)
   unfolding copyNoted
   told-next n c room r =
       cases (isComplete g (blockIn g array n))
-      (λ t. rw (says-complete g (blockIn g array n) two, t) (told-complete n c room t r))
-      (λ t. rw (says-complete g (blockIn g array n) two, t) (told-other n c t r))
+      (λ t. rw (says-complete g three (blockIn g array n) depth, t) (told-complete n c room t r))
+      (λ t. rw (says-complete g three (blockIn g array n) depth, t) (told-other n c t r))
 
-  pub told : (n : ℕ) → n ≤ 4096 → Told g array n (contentsTo g array (contents (replicate 4096 0) (replicate 4096 0) (replicate 4096 0)) n)
+  pub told : (n : ℕ) → n ≤ 4096 → Told g array n (contentsTo depth g array (contents (replicate 4096 0) (replicate 4096 0) (replicate 4096 0)) n)
   unfolding contentsTo
   told zero h = told-none
-  told (suc n) h = told-next n (contentsTo g array (contents (replicate 4096 0) (replicate 4096 0) (replicate 4096 0)) n) (omega (arith, h)) (told n (omega (arith, h)))
+  told (suc n) h = told-next n (contentsTo depth g array (contents (replicate 4096 0) (replicate 4096 0) (replicate 4096 0)) n) (omega (arith, h)) (told n (omega (arith, h)))
 
 -- the bit of a block in a bitmap that stands at the start of a buffer
 pub bit-put : (bits rest : List ℕ) (b : ℕ) → b < 8 * length bits → bitAt (put 0 bits rest) b ≡ bitAt bits b
@@ -144,7 +146,7 @@ module _ (g : Geometry) (v : Valid g) (array : List ℕ) (long : length array �
   kind-zero b h =
       cases (isComplete g (blockIn g array b))
       (λ t.
-      let label = complete-label g (blockIn g array b) (omega (arith, v .pages-least)) t in
+      let label = complete-label g (omega (arith, v .pages-least)) (blockIn g array b) Full t in
       let some : eqb (getD (c .kinds) b 0) 0 ≡ false = ne-eqb (getD (c .kinds) b 0) 0 (λ e. label .kind-some (sym (r .kind-is b h ∙ rw t) ∙ e)) in
       rw (some, t))
       (λ t.

@@ -10,6 +10,7 @@ use Rattle.pages.specs.Layout.{isDataKind}
 use Rattle.copies.specs.Current.{currentCopy}
 use Rattle.copies.specs.Pick.{Pick, nothing, at, someBelow}
 use Rattle.scan_summary.specs.Summary.{saysComplete}
+use Rattle.scan_summary.specs.declared.Depth.{Depth}
 use Rattle.scan_summary.specs.declared.Summary.{Summary}
 use Rattle.scan_found.specs.Found.{summaryAt}
 
@@ -28,9 +29,9 @@ copyNoted b s c =
     c
 
 -- after the first n blocks of an array
-unfoldable pub contentsTo : Geometry → List ℕ → Contents → ℕ → Contents
-contentsTo g array c zero = c
-contentsTo g array c (suc n) = let less = contentsTo g array c n in copyNoted n (summaryAt g array n) less
+unfoldable pub contentsTo : Depth → Geometry → List ℕ → Contents → ℕ → Contents
+contentsTo k g array c zero = c
+contentsTo k g array c (suc n) = let less = contentsTo k g array c n in copyNoted n (summaryAt k g array n) less
 
 -- a complete block that the bitmap does not list
 unfoldable pub counted : Contents → List ℕ → ℕ → Bool

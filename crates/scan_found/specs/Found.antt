@@ -9,8 +9,10 @@ use Rattle.bitmaps.specs.Bitmap.{withBit}
 use Rattle.cells.specs.Part.{put}
 use Rattle.pages.specs.Layout.{isTableKind}
 use Rattle.copies.specs.Blocks.{blockIn, mainIn, isMarked}
-use Rattle.scan_summary.specs.Summary.{summed, saysComplete, saysNumber}
+use Rattle.scan_summary.specs.Depth.{summaryBy}
+use Rattle.scan_summary.specs.Summary.{saysComplete, saysNumber}
 use Rattle.copies.specs.Table.{bitmapOf, rightTo}
+use Rattle.scan_summary.specs.declared.Depth.{Depth}
 use Rattle.scan_summary.specs.declared.Summary.{Summary}
 use Rattle.scan_found.specs.declared.Found.{Found}
 
@@ -50,9 +52,9 @@ tableNoted b s right bits f =
 unfoldable pub noted : ℕ → Summary → ℕ → List ℕ → Found → Found
 noted b s right bits f = tableNoted b s right bits (greatestNoted b s (markNoted b s f))
 
--- the summary, the test for a table, and the bitmap of a block of the array
-abbrev pub summaryAt : Geometry → List ℕ → ℕ → Summary
-summaryAt g array b = summed g (blockIn g array b) (g .pages)
+-- the summary by the depth of the scan, the test for a table, and the bitmap of a block of the array
+abbrev pub summaryAt : Depth → Geometry → List ℕ → ℕ → Summary
+summaryAt k g array b = summaryBy k g (blockIn g array b)
 
 abbrev pub rightAt : Geometry → List ℕ → ℕ → ℕ
 rightAt g array b = cond (rightTo g (blockIn g array b) (g .pages)) 1 0
@@ -61,10 +63,10 @@ abbrev pub bitsAt : Geometry → List ℕ → ℕ → List ℕ
 bitsAt g array b = put 0 (bitmapOf (g .blocks) (mainIn g (blockIn g array b) 0)) (replicate 512 0)
 
 -- after the first n blocks of an array
-unfoldable pub foundTo : Geometry → List ℕ → ℕ → Found
-foundTo g array zero = blankFound
-foundTo g array (suc n) =
-    let less = foundTo g array n in noted n (summaryAt g array n) (rightAt g array n) (bitsAt g array n) less
+unfoldable pub foundTo : Depth → Geometry → List ℕ → ℕ → Found
+foundTo k g array zero = blankFound
+foundTo k g array (suc n) =
+    let less = foundTo k g array n in noted n (summaryAt k g array n) (rightAt g array n) (bitsAt g array n) less
 
 -- the factory marks of the first n blocks of an array
 unfoldable pub marksTo : Geometry → List ℕ → ℕ → List ℕ

@@ -26,7 +26,7 @@ pub record Sums (g : Geometry) (block : List ℕ) (n : ℕ) (s : Summary) : Type
   pub broken-is : wholeIn g block 0 ≡ false → completeTo g block n ≡ false
 
 -- page 0 agrees with itself where it bears its place
-agrees-self : (l : Label) → agrees l 0 l ≡ eqb (l .page) 0
+pub agrees-self : (l : Label) → agrees l 0 l ≡ eqb (l .page) 0
 unfolding agrees
 agrees-self l = rw (eq-eqb (l .kind) (l .kind) refl, eq-eqb (l .logical) (l .logical) refl, eq-eqb (l .number) (l .number) refl)
 
@@ -34,27 +34,27 @@ cond-flag : (b : Bool) → _≡_ {A = ℕ} (cond b 1 0) (cond (cond b true false
 cond-flag true = refl
 cond-flag false = refl
 
-arms : (b : Bool) → cond b false false ≡ false
+pub arms : (b : Bool) → cond b false false ≡ false
 arms true = refl
 arms false = refl
 
-nested : (a c : Bool) → _≡_ {A = ℕ} (cond a (cond c 1 0) 0) (cond (cond a c false) 1 0)
+pub nested : (a c : Bool) → _≡_ {A = ℕ} (cond a (cond c 1 0) 0) (cond (cond a c false) 1 0)
 nested true c = refl
 nested false c = refl
 
-zeros : (a b : Bool) → _≡_ {A = ℕ} (cond a 0 0) (cond (cond b false false) 1 0)
+pub zeros : (a b : Bool) → _≡_ {A = ℕ} (cond a 0 0) (cond (cond b false false) 1 0)
 zeros true true = refl
 zeros true false = refl
 zeros false true = refl
 zeros false false = refl
 
-two-tests : (a b : Bool) → _≡_ {A = ℕ} (cond b (cond a 0 1) 1) (cond (cond a (cond b false true) true) 1 0)
+pub two-tests : (a b : Bool) → _≡_ {A = ℕ} (cond b (cond a 0 1) 1) (cond (cond a (cond b false true) true) 1 0)
 two-tests true true = refl
 two-tests true false = refl
 two-tests false true = refl
 two-tests false false = refl
 
-flags : (m c : Bool) → cond (eqb (cond m 1 0) 0) (eqb (cond c 1 0) 1) false ≡ cond m false c
+pub flags : (m c : Bool) → cond (eqb (cond m 1 0) 0) (eqb (cond c 1 0) 1) false ≡ cond m false c
 flags true c = refl
 flags false true = refl
 flags false false = refl
@@ -63,7 +63,7 @@ more-than-one : (n : ℕ) → 2 ≤ n → suc (suc (n - 2)) ≡ n
 more-than-one n h = omega arith
 
 -- only kind, logical block and number of the first label count
-agrees-alike : (x y : Label) (n : ℕ) (l : Label) → x .kind ≡ y .kind → x .logical ≡ y .logical → x .number ≡ y .number → agrees x n l ≡ agrees y n l
+pub agrees-alike : (x y : Label) (n : ℕ) (l : Label) → x .kind ≡ y .kind → x .logical ≡ y .logical → x .number ≡ y .number → agrees x n l ≡ agrees y n l
 unfolding agrees
 agrees-alike x y n l k b m = rw (k, b, m)
 
@@ -77,15 +77,15 @@ module _ (g : Geometry) (block : List ℕ) where
       (λ w. rw (r .complete-is, r .broken-is w)
       (zeros (agrees (label (s .kind) (s .logical) 0 (s .number)) n (labelIn g block n)) (agrees (labelIn g block 0) n (labelIn g block n))))
 
-  page : ℕ → Summary → Summary
+  unfoldable pub page : ℕ → Summary → Summary
   page n s = stepped (g .main) n (pageIn g block n) s
 
   -- after a whole page n and after one that is not
-  page-whole : (n : ℕ) (s : Summary) → wholeIn g block n ≡ true → page n s ≡ wholeStep (markedBy (g .main) n (pageIn g block n) (s .marked)) n (labelIn g block n) s
+  pub page-whole : (n : ℕ) (s : Summary) → wholeIn g block n ≡ true → page n s ≡ wholeStep (markedBy (g .main) n (pageIn g block n) (s .marked)) n (labelIn g block n) s
   unfolding page stepped
   page-whole n s t = rw t
 
-  page-broken : (n : ℕ) (s : Summary) → wholeIn g block n ≡ false → page n s ≡ broken (markedBy (g .main) n (pageIn g block n) (s .marked)) s
+  pub page-broken : (n : ℕ) (s : Summary) → wholeIn g block n ≡ false → page n s ≡ broken (markedBy (g .main) n (pageIn g block n) (s .marked)) s
   unfolding page stepped
   page-broken n s t = rw t
 
@@ -151,7 +151,7 @@ module _ (g : Geometry) (block : List ℕ) where
   sums (suc n) = sums-next (suc n) (summed g block (suc n)) (omega arith) (sums n)
 
   -- marks come from the first two pages
-  page-mark : (n : ℕ) (s : Summary) → page n s .marked ≡ markedBy (g .main) n (pageIn g block n) (s .marked)
+  pub page-mark : (n : ℕ) (s : Summary) → page n s .marked ≡ markedBy (g .main) n (pageIn g block n) (s .marked)
   unfolding wholeStep
   page-mark n s =
       cases (wholeIn g block n)
@@ -218,7 +218,7 @@ module _ (g : Geometry) (block : List ℕ) where
     pub number-is : s .number ≡ labelIn g block 0 .number
     pub kind-some : labelIn g block 0 .kind ≡ 0 → ⊥
 
-  no-kind : wholeIn g block 0 ≡ true → labelIn g block 0 .kind ≡ 0 → ⊥
+  pub no-kind : wholeIn g block 0 ≡ true → labelIn g block 0 .kind ≡ 0 → ⊥
   unfolding labelOf
   no-kind w e =
       let z : numberWidth (kindOf (g .main) (pageIn g block 0)) ≡ 0 = ap numberWidth e ∙ width-zero in

@@ -1,1 +1,3 @@
 pub mod Summary
+pub mod Quick
+pub mod Depth

@@ -3,7 +3,15 @@ ghost use mathlib.Core.Path.{_≡_};
 ghost use Prim.Native.Nat.{max};
 ghost use Rattle.pages.specs.Layout.{Sized, label, labelOf};
 ghost use Rattle.copies.specs.Blocks.{agrees};
+ghost use Rattle.scan_summary.specs.Quick.{marking};
 ghost use Rattle.scan_summary.specs.Summary.{blankSummary, markedBy, broken, wholeStep, stepped, saysComplete, saysNumber};
+
+// How much of each block a scan reads: every page, or the first and the last page, the mark byte of page 1, and the other pages
+// where these two are whole.
+pub enum Depth {
+    Full,
+    Quick,
+}
 
 // What the pages of a block told so far. `marked` and `complete` are 1 or 0; kind, logical and number are those of page 0.
 pub struct Summary {
@@ -129,6 +137,16 @@ impl Summary {
             return self.whole_step(marked, page, main, place);
         }
         self.broken(marked)
+    }
+
+    // After the mark byte of a page alone.
+    pub fn mark(mut self, byte: u8) -> Self
+        ensures { λ r. ⌜ r ≡ marking byte self ⌝ }
+    {
+        if byte != 255 {
+            self.marked = 1;
+        }
+        self
     }
 
     // Whether a block with this summary of all pages is complete.

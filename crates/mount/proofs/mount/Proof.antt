@@ -28,8 +28,8 @@ returns c =
     let entry = begun .before .before .before .before .before .before .before .before .before in
     let set = setting (entry .args .g) (now (entry .args .mask)) (now (entry .args .fates)) in
     let d = device (entry .args .interface) (now (entry .args .array)) (now (entry .args .register)) (now (entry .args .history)) in
-    refused-is set d (entry .args .allowed) _ _ (begun .start .ensures) (entry .args .state) (λ p. mountEnd set (entry .args .allowed) (blocksRead set (entry .args .g .blocks) p)) (c .if1 .taken)
-    ∙ mount-started set d (entry .args .allowed) (entry .args .state)
+    refused-is set d (entry .args .allowed) _ _ (begun .start .ensures) (entry .args .state) (λ p. mountEnd (entry .args .depth) set (entry .args .allowed) (blocksRead (entry .args .depth) set (entry .args .g .blocks) p)) (c .if1 .taken)
+    ∙ mount-started (entry .args .depth) set d (entry .args .allowed) (entry .args .state)
 
 blank-requires : tie.Need-blank-requires
 blank-requires c κs = search needs
@@ -60,8 +60,8 @@ returns-2 c =
     let set = setting (entry .args .g) (now (entry .args .mask)) (now (entry .args .fates)) in
     let d = device (entry .args .interface) (now (entry .args .array)) (now (entry .args .register)) (now (entry .args .history)) in
     c .end .ensures _ _ _
-    ∙ stopped-is set d (entry .args .allowed) _ _ (begun .start .ensures) (entry .args .state) (λ p. mountEnd set (entry .args .allowed) (blocksRead set (entry .args .g .blocks) p)) (mount-stops set (entry .args .allowed)) (c .before .before .before .if1 .left) (c .before .before .if2 .taken) _ (c .before .blank .ensures)
-    ∙ mount-started set d (entry .args .allowed) (entry .args .state)
+    ∙ stopped-is set d (entry .args .allowed) _ _ (begun .start .ensures) (entry .args .state) (λ p. mountEnd (entry .args .depth) set (entry .args .allowed) (blocksRead (entry .args .depth) set (entry .args .g .blocks) p)) (mount-stops (entry .args .depth) set (entry .args .allowed)) (c .before .before .before .if1 .left) (c .before .before .if2 .taken) _ (c .before .blank .ensures)
+    ∙ mount-started (entry .args .depth) set d (entry .args .allowed) (entry .args .state)
 
 scan-and-judge-requires : tie.Need-scan-and-judge-requires
 scan-and-judge-requires c κs =
@@ -89,8 +89,8 @@ returns-3 c =
     let entry = begun .before .before .before .before .before .before .before .before .before in
     let set = setting (entry .args .g) (now (entry .args .mask)) (now (entry .args .fates)) in
     let d = device (entry .args .interface) (now (entry .args .array)) (now (entry .args .register)) (now (entry .args .history)) in
-    goes-on set d (entry .args .allowed) _ _ (begun .start .ensures) (entry .args .state) (λ p. mountEnd set (entry .args .allowed) (blocksRead set (entry .args .g .blocks) p)) (tested .if2 .left) _ (at-scan-and-judge .scan-and-judge .ensures)
-    ∙ mount-started set d (entry .args .allowed) (entry .args .state)
+    goes-on set d (entry .args .allowed) _ _ (begun .start .ensures) (entry .args .state) (λ p. mountEnd (entry .args .depth) set (entry .args .allowed) (blocksRead (entry .args .depth) set (entry .args .g .blocks) p)) (tested .if2 .left) _ (at-scan-and-judge .scan-and-judge .ensures)
+    ∙ mount-started (entry .args .depth) set d (entry .args .allowed) (entry .args .state)
 
 pub mount-spec : {M : Type 1} → statement M
 mount-spec =

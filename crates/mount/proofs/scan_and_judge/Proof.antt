@@ -63,7 +63,7 @@ end-requires c κs =
     let at-scan-chip = way .before .before .before .before .before in
     let way-2 = at-scan-chip .before .before .before .before .before .before .before .before .before in
     let s = way-2 .before .before .before .before .before in
-    omega (arith, s .pre .1, scan-left (setting (s .args .g) (now (s .args .mask)) (now (s .args .fates))) (line (s .args .from) (now (s .args .array)) (now (s .args .register)) (now (s .args .history))) _ (s .args .g .blocks) (at-scan-chip .scan-chip .ensures .0 [] []))
+    omega (arith, s .pre .1, scan-left (s .args .depth) (setting (s .args .g) (now (s .args .mask)) (now (s .args .fates))) (line (s .args .from) (now (s .args .array)) (now (s .args .register)) (now (s .args .history))) _ (s .args .g .blocks) (at-scan-chip .scan-chip .ensures .0 [] []))
 
 same-length : tie.Need-same-length
 same-length c =
@@ -92,7 +92,7 @@ returns c =
     let set = setting (s .args .g) (now (s .args .mask)) (now (s .args .fates)) in
     let l = line (s .args .from) (now (s .args .array)) (now (s .args .register)) (now (s .args .history)) in
     let f = at-scan-chip .scan-chip .ensures in
-    λ cs os. c .end .ensures _ _ _ ∙ stopped-end set (s .args .allowed) (blocksRead set (s .args .g .blocks) (progress l Passed cs os)) _ (at-scan-chip .scan-chip .result .outcome) (f .0 cs os) (f .1 .0 cs os) _ _ (other-by-tag _ (c .before .before .before .match .keys2)) (c .before .before .stop-answer .ensures) (c .before .blank .ensures)
+    λ cs os. c .end .ensures _ _ _ ∙ stopped-end (s .args .depth) set (s .args .allowed) (blocksRead (s .args .depth) set (s .args .g .blocks) (progress l Passed cs os)) _ (at-scan-chip .scan-chip .result .outcome) (f .0 cs os) (f .1 .0 cs os) _ _ (other-by-tag _ (c .before .before .before .match .keys2)) (c .before .before .stop-answer .ensures) (c .before .blank .ensures)
 
 judge-requires : tie.Need-judge-requires
 judge-requires c κs =
@@ -104,7 +104,7 @@ judge-requires c κs =
     let f = at-scan-chip .scan-chip .ensures in
     let p = passed-by-tag _ (at-match .match .keys1) in
     let v = s .pre .0 .is-valid in
-    (v, subst (λ (x : Found). x .table < 4096) (sym (f .1 .1 .1 .1 .1 .0 p)) (table-small (s .args .g) (now (s .args .array)) (s .args .g .blocks) (v .blocks-most)))
+    (v, subst (λ (x : Found). x .table < 4096) (sym (f .1 .1 .1 .1 .1 .0 p)) (table-small (s .args .depth) (s .args .g) (now (s .args .array)) (s .args .g .blocks) (v .blocks-most)))
 
 blank-requires-2 : tie.Need-blank-requires-2
 blank-requires-2 c κs = search needs
@@ -116,7 +116,7 @@ end-requires-2 c κs =
     let at-scan-chip = way-2 .before .before in
     let way-3 = at-scan-chip .before .before .before .before .before .before .before .before .before in
     let s = way-3 .before .before .before .before .before in
-    omega (arith, s .pre .1, scan-left (setting (s .args .g) (now (s .args .mask)) (now (s .args .fates))) (line (s .args .from) (now (s .args .array)) (now (s .args .register)) (now (s .args .history))) _ (s .args .g .blocks) (at-scan-chip .scan-chip .ensures .0 [] []))
+    omega (arith, s .pre .1, scan-left (s .args .depth) (setting (s .args .g) (now (s .args .mask)) (now (s .args .fates))) (line (s .args .from) (now (s .args .array)) (now (s .args .register)) (now (s .args .history))) _ (s .args .g .blocks) (at-scan-chip .scan-chip .ensures .0 [] []))
 
 same-length-4 : tie.Need-same-length-4
 same-length-4 c =
@@ -148,8 +148,8 @@ returns-2 c =
     let l = line (s .args .from) (now (s .args .array)) (now (s .args .register)) (now (s .args .history)) in
     let f = at-scan-chip .scan-chip .ensures in
     let p = passed-by-tag _ (at-match .match .keys1) in
-    let a = answer-found (s .args .g) (s .pre .0 .is-valid) (now (s .args .array)) _ (s .pre .0 .array-long) (f .1 .1 .0) _ _ (f .1 .1 .1 .1 .1 .0 p) (f .1 .1 .1 .1 .1 .1 p) in
-    λ cs os. c .end2 .ensures _ _ _ ∙ refused-end set (s .args .allowed) (blocksRead set (s .args .g .blocks) (progress l Passed cs os)) _ (at-scan-chip .scan-chip .result .outcome) (f .0 cs os) (f .1 .0 cs os) p _ (c .before .before .before .judge .ensures ∙ a) _ (c .before .before .if1 .taken) (c .before .blank2 .ensures)
+    let a = answer-found (s .args .depth) (s .args .g) (s .pre .0 .is-valid) (now (s .args .array)) _ (s .pre .0 .array-long) (f .1 .1 .0) _ _ (f .1 .1 .1 .1 .1 .0 p) (f .1 .1 .1 .1 .1 .1 p) in
+    λ cs os. c .end2 .ensures _ _ _ ∙ refused-end (s .args .depth) set (s .args .allowed) (blocksRead (s .args .depth) set (s .args .g .blocks) (progress l Passed cs os)) _ (at-scan-chip .scan-chip .result .outcome) (f .0 cs os) (f .1 .0 cs os) p _ (c .before .before .before .judge .ensures ∙ a) _ (c .before .before .if1 .taken) (c .before .blank2 .ensures)
 
 mounted-state-requires : tie.Need-mounted-state-requires
 mounted-state-requires c κs =
@@ -168,7 +168,7 @@ end-requires-3 c κs =
     let at-scan-chip = way-2 .before .before .before .before .before in
     let way-3 = at-scan-chip .before .before .before .before .before .before .before .before .before in
     let s = way-3 .before .before .before .before .before in
-    omega (arith, s .pre .1, scan-left (setting (s .args .g) (now (s .args .mask)) (now (s .args .fates))) (line (s .args .from) (now (s .args .array)) (now (s .args .register)) (now (s .args .history))) _ (s .args .g .blocks) (at-scan-chip .scan-chip .ensures .0 [] []))
+    omega (arith, s .pre .1, scan-left (s .args .depth) (setting (s .args .g) (now (s .args .mask)) (now (s .args .fates))) (line (s .args .from) (now (s .args .array)) (now (s .args .register)) (now (s .args .history))) _ (s .args .g .blocks) (at-scan-chip .scan-chip .ensures .0 [] []))
 
 same-length-7 : tie.Need-same-length-7
 same-length-7 c =
@@ -204,10 +204,10 @@ returns-3 c =
     let l = line (s .args .from) (now (s .args .array)) (now (s .args .register)) (now (s .args .history)) in
     let f = at-scan-chip .scan-chip .ensures in
     let p = passed-by-tag _ (at-match .match .keys1) in
-    let a = answer-found (s .args .g) (s .pre .0 .is-valid) (now (s .args .array)) _ (s .pre .0 .array-long) (f .1 .1 .0) _ _ (f .1 .1 .1 .1 .1 .0 p) (f .1 .1 .1 .1 .1 .1 p) in
+    let a = answer-found (s .args .depth) (s .args .g) (s .pre .0 .is-valid) (now (s .args .array)) _ (s .pre .0 .array-long) (f .1 .1 .0) _ _ (f .1 .1 .1 .1 .1 .0 p) (f .1 .1 .1 .1 .1 .1 p) in
     let z = sym (at-judge .judge .ensures ∙ a) ∙ at-if1 .if1 .left in
-    let st = state-found (s .args .g) (s .pre .0 .is-valid) (now (s .args .array)) _ (s .pre .0 .array-long) (f .1 .1 .0) _ _ (f .1 .1 .1 .1 .1 .0 p) (f .1 .1 .1 .1 .1 .1 p) z in
-    λ cs os. c .end3 .ensures _ _ _ ∙ mounted-end set (s .args .allowed) (blocksRead set (s .args .g .blocks) (progress l Passed cs os)) _ (at-scan-chip .scan-chip .result .outcome) (f .0 cs os) (f .1 .0 cs os) p _ (at-judge .judge .ensures ∙ a) _ (at-if1 .if1 .left) (c .before .mounted-state .ensures ∙ st)
+    let st = state-found (s .args .depth) (s .args .g) (s .pre .0 .is-valid) (now (s .args .array)) _ (s .pre .0 .array-long) (f .1 .1 .0) _ _ (f .1 .1 .1 .1 .1 .0 p) (f .1 .1 .1 .1 .1 .1 p) z in
+    λ cs os. c .end3 .ensures _ _ _ ∙ mounted-end (s .args .depth) set (s .args .allowed) (blocksRead (s .args .depth) set (s .args .g .blocks) (progress l Passed cs os)) _ (at-scan-chip .scan-chip .result .outcome) (f .0 cs os) (f .1 .0 cs os) p _ (at-judge .judge .ensures ∙ a) _ (at-if1 .if1 .left) (c .before .mounted-state .ensures ∙ st)
 
 pub scan-and-judge-spec : {M : Type 1} → statement M
 scan-and-judge-spec =

@@ -20,13 +20,13 @@ use Rattle.scan.proofs.scan_chip.Statement.{statement}
 use Rattle.scan.proofs.scan_chip.Tie as tie
 
 abbrev Inv-loop : tie.InvT-loop
-Inv-loop g array₀ register₀ history₀ mask fates page₀ kinds₀ logicals₀ numbers₀ b₀ found₀ block₀ blocks array register history page kinds logicals numbers b found block =
+Inv-loop depth g array₀ register₀ history₀ mask fates page₀ kinds₀ logicals₀ numbers₀ b₀ found₀ block₀ blocks array register history page kinds logicals numbers b found block =
     (block ≤ g .blocks) × (length array ≡ length array₀) × (length register ≡ length register₀) × (length history ≡ length history₀)
     × (length page ≡ length page₀) × (length kinds ≡ length kinds₀) × (length logicals ≡ length logicals₀) × (length numbers ≡ length numbers₀)
-    × Through (setting g mask fates) (line b₀ array₀ register₀ history₀) (line b array register history) block found (contents kinds₀ logicals₀ numbers₀) (contents kinds logicals numbers)
+    × Through depth (setting g mask fates) (line b₀ array₀ register₀ history₀) (line b array register history) block found (contents kinds₀ logicals₀ numbers₀) (contents kinds logicals numbers)
 
 abbrev μ-loop : tie.MeasureT-loop
-μ-loop g array₀ register₀ history₀ mask fates page₀ kinds₀ logicals₀ numbers₀ b₀ found₀ block₀ blocks array register history page kinds logicals numbers b found block =
+μ-loop depth g array₀ register₀ history₀ mask fates page₀ kinds₀ logicals₀ numbers₀ b₀ found₀ block₀ blocks array register history page kinds logicals numbers b found block =
     g .blocks - block
 
 blank-requires : tie.Need-blank-requires Inv-loop μ-loop
@@ -36,13 +36,13 @@ loop-holds : tie.Need-loop-holds Inv-loop μ-loop
 loop-holds c =
     let way = c .before .before .before .before .before .before .before .before .before in
     let s = way .before in
-    (omega arith, refl, refl, refl, refl, refl, refl, refl, chip-begins (setting (s .args .g) (now (s .args .mask)) (now (s .args .fates))) (line (s .args .from) (now (s .args .array)) (now (s .args .register)) (now (s .args .history))) (c .blank .result) (contents (now (s .args .kinds)) (now (s .args .logicals)) (now (s .args .numbers))) (c .blank .ensures) (s .pre .0))
+    (omega arith, refl, refl, refl, refl, refl, refl, refl, chip-begins (s .args .depth) (setting (s .args .g) (now (s .args .mask)) (now (s .args .fates))) (line (s .args .from) (now (s .args .array)) (now (s .args .register)) (now (s .args .history))) (c .blank .result) (contents (now (s .args .kinds)) (now (s .args .logicals)) (now (s .args .numbers))) (c .blank .ensures) (s .pre .0))
 
-slice-aggregate-scan-block : tie.Need-slice-aggregate-scan-block Inv-loop μ-loop
-slice-aggregate-scan-block c = search needs
+slice-aggregate-scan-at : tie.Need-slice-aggregate-scan-at Inv-loop μ-loop
+slice-aggregate-scan-at c = search needs
 
-scan-block-requires : tie.Need-scan-block-requires Inv-loop μ-loop
-scan-block-requires c κs =
+scan-at-requires : tie.Need-scan-at-requires Inv-loop μ-loop
+scan-at-requires c κs =
     let at-loop-test = c .before .before .before .before .before in
     let turn = at-loop-test .before in
     let way = turn .before .before .before .before .before .before .before .before .before in
@@ -103,17 +103,17 @@ same-length-7 c =
 returns : tie.Need-returns Inv-loop μ-loop
 returns c =
     let way = c .before .before .before .before .before .before .before .before .before in
-    let at-scan-block = way .before .before in
-    let at-loop-test = at-scan-block .before .before .before .before .before .before in
+    let at-scan = way .before .before in
+    let at-loop-test = at-scan .before .before .before .before .before .before in
     let turn = at-loop-test .before in
     let way-2 = turn .before .before .before .before .before .before .before .before .before in
     let s = way-2 .before .before in
     let lp = turn .loop in
-    let f = at-scan-block .scan-block .ensures in
+    let f = at-scan .scan-at .ensures in
     let t = other-by-tag _ (c .match .keys2) in
     let r = lp .inv .8 in
-    let stops = chip-stops (setting (s .args .g) (now (s .args .mask)) (now (s .args .fates))) (line (s .args .from) (now (s .args .array)) (now (s .args .register)) (now (s .args .history))) (line (lp .b) (lp .array) (lp .register) (lp .history)) (lp .block) (lp .found) (contents (now (s .args .kinds)) (now (s .args .logicals)) (now (s .args .numbers))) (contents (lp .kinds) (lp .logicals) (lp .numbers)) (at-loop-test .loop-test .taken) r _ (at-scan-block .scan-block .result .outcome) (f .0) (f .1 .0) t in
-    (λ cs os. stops cs os .0, (λ cs os. stops cs os .1, (f .1 .1 .0 ∙ r .same-array, (f .1 .1 .1 .0 ∙ r .same-history, (λ p. absurd (false≢true (sym t ∙ p)), (λ p. absurd (false≢true (sym t ∙ p)), λ p. absurd (false≢true (sym t ∙ p))))))))
+    let stops = chip-stops (s .args .depth) (setting (s .args .g) (now (s .args .mask)) (now (s .args .fates))) (line (s .args .from) (now (s .args .array)) (now (s .args .register)) (now (s .args .history))) (line (lp .b) (lp .array) (lp .register) (lp .history)) (lp .block) (lp .found) (contents (now (s .args .kinds)) (now (s .args .logicals)) (now (s .args .numbers))) (contents (lp .kinds) (lp .logicals) (lp .numbers)) (at-loop-test .loop-test .taken) r _ (at-scan .scan-at .result .outcome) (f .ran) t in
+    (λ cs os. stops cs os .0, (λ cs os. stops cs os .1, (f .ran .same-array ∙ r .same-array, (f .ran .same-history ∙ r .same-history, (λ p. absurd (false≢true (sym t ∙ p)), (λ p. absurd (false≢true (sym t ∙ p)), λ p. absurd (false≢true (sym t ∙ p))))))))
 
 note-requires : tie.Need-note-requires Inv-loop μ-loop
 note-requires c κs =
@@ -127,17 +127,17 @@ note-copy-requires : tie.Need-note-copy-requires Inv-loop μ-loop
 note-copy-requires c κs =
     let way = c .before .before .before .before .before .before .before .before .before in
     let at-match = c .before .before .before .before .before .before in
-    let at-scan-block = way .before .before .before .before .before .before .before .before in
-    let at-loop-test = at-scan-block .before .before .before .before .before .before in
+    let at-scan = way .before .before .before .before .before .before .before .before in
+    let at-loop-test = at-scan .before .before .before .before .before .before in
     let turn = at-loop-test .before in
     let at-slice-known = turn .before .before .before .before .before .before .before .before .before .before in
     let s = at-slice-known .before in
     let lp = turn .loop in
     let v = lp .inv .8 .called .is-valid in
     let p = passed-by-tag _ (at-match .match .keys1) in
-    let summary-is = at-scan-block .scan-block .ensures .1 .1 .1 .1 .1 .0 p ∙ ap (λ (x : List ℕ). summaryAt (s .args .g) x (lp .block)) (lp .inv .8 .same-array) in (
+    let summary-is = at-scan .scan-at .ensures .summary-is p ∙ ap (λ (x : List ℕ). summaryAt (s .args .depth) (s .args .g) x (lp .block)) (lp .inv .8 .same-array) in (
       subst (λ (x : Summary). saysComplete x ≡ true → (x .kind < 256) × (x .logical < 65536)) (sym summary-is)
-          (copy-fits (s .args .g) (omega (arith, v .pages-least)) (now (s .args .array)) (λ i. omega (arith, at-slice-known .slice-known .given i)) (lp .block)),
+          (copy-fits (s .args .depth) (s .args .g) (omega (arith, v .pages-least)) (now (s .args .array)) (λ i. omega (arith, at-slice-known .slice-known .given i)) (lp .block)),
       (omega (arith, at-loop-test .loop-test .taken, lp .inv .5, s .pre .1 .1 .0), (omega (arith, at-loop-test .loop-test .taken, lp .inv .6, s .pre .1 .1 .1 .0), omega (arith, at-loop-test .loop-test .taken, lp .inv .7, s .pre .1 .1 .1 .1))),
     )
 
@@ -168,13 +168,13 @@ loop-again c =
     let at-history = at-page .before .before in
     let at-register = at-history .before .before in
     let at-array = at-register .before .before in
-    let at-scan-block = at-array .before in
-    let at-loop-test = at-scan-block .before .before .before .before .before .before in
+    let at-scan = at-array .before in
+    let at-loop-test = at-scan .before .before .before .before .before .before in
     let turn = at-loop-test .before in
     let way = turn .before .before .before .before .before .before .before .before .before in
     let s = way .before .before in
     let lp = turn .loop in
-    let f = at-scan-block .scan-block .ensures in
+    let f = at-scan .scan-at .ensures in
     let p = passed-by-tag _ (at-match .match .keys1) in
     let t = is-passed _ p in (
       omega (arith, at-loop-test .loop-test .taken),
@@ -185,7 +185,7 @@ loop-again c =
       at-kinds .kinds .given ∙ lp .inv .5,
       c .before .before .before .logicals .given ∙ lp .inv .6,
       c .before .numbers .given ∙ lp .inv .7,
-      chip-goes (setting (s .args .g) (now (s .args .mask)) (now (s .args .fates))) (line (s .args .from) (now (s .args .array)) (now (s .args .register)) (now (s .args .history))) (line (lp .b) (lp .array) (lp .register) (lp .history)) (lp .block) (lp .found) (contents (now (s .args .kinds)) (now (s .args .logicals)) (now (s .args .numbers))) (contents (lp .kinds) (lp .logicals) (lp .numbers)) (at-loop-test .loop-test .taken) (lp .inv .8) _ (at-scan-block .scan-block .result .outcome) (f .0) (f .1 .0) t (f .1 .1 .1 .1 .0 p) (f .1 .1 .0) (f .1 .1 .1 .0) (at-scan-block .scan-block .result .summary) (at-scan-block .scan-block .result .right) _ (f .1 .1 .1 .1 .1 .0 p) (f .1 .1 .1 .1 .1 .1 .0 p) (f .1 .1 .1 .1 .1 .1 .1 p) (at-note .note .ensures) (at-note-copy .note-copy .ensures),
+      chip-goes (s .args .depth) (setting (s .args .g) (now (s .args .mask)) (now (s .args .fates))) (line (s .args .from) (now (s .args .array)) (now (s .args .register)) (now (s .args .history))) (line (lp .b) (lp .array) (lp .register) (lp .history)) (lp .block) (lp .found) (contents (now (s .args .kinds)) (now (s .args .logicals)) (now (s .args .numbers))) (contents (lp .kinds) (lp .logicals) (lp .numbers)) (at-loop-test .loop-test .taken) (lp .inv .8) _ (at-scan .scan-at .result .outcome) (f .ran) t p (omega (arith, lp .inv .8 .called .is-valid .pages-least)) (at-scan .scan-at .result .summary) (at-scan .scan-at .result .right) _ (f .summary-is p) (f .right-is p) (f .bits-are p) (at-note .note .ensures) (at-note-copy .note-copy .ensures),
     )
 
 same-length-8 : tie.Need-same-length-8 Inv-loop μ-loop
@@ -215,7 +215,7 @@ returns-2 c =
     let s = way .before .before .before in
     let lp = c .before .loop in
     let e : lp .block ≡ s .args .g .blocks = omega arith in
-    let r = subst (λ (k : ℕ). Through (setting (s .args .g) (now (s .args .mask)) (now (s .args .fates))) (line (s .args .from) (now (s .args .array)) (now (s .args .register)) (now (s .args .history))) (line (lp .b) (lp .array) (lp .register) (lp .history)) k (lp .found) (contents (now (s .args .kinds)) (now (s .args .logicals)) (now (s .args .numbers))) (contents (lp .kinds) (lp .logicals) (lp .numbers))) e (lp .inv .8) in
+    let r = subst (λ (k : ℕ). Through (s .args .depth) (setting (s .args .g) (now (s .args .mask)) (now (s .args .fates))) (line (s .args .from) (now (s .args .array)) (now (s .args .register)) (now (s .args .history))) (line (lp .b) (lp .array) (lp .register) (lp .history)) k (lp .found) (contents (now (s .args .kinds)) (now (s .args .logicals)) (now (s .args .numbers))) (contents (lp .kinds) (lp .logicals) (lp .numbers))) e (lp .inv .8) in
     (r .reached, (r .passing, (r .same-array, (r .same-history, (λ p. r .called, (λ p. r .found-is, λ p. r .contents-are))))))
 
 pub scan-chip-spec : {M : Type 1} → statement M
@@ -226,8 +226,8 @@ scan-chip-spec =
     μ-loop
     blank-requires
     loop-holds
-    slice-aggregate-scan-block
-    scan-block-requires
+    slice-aggregate-scan-at
+    scan-at-requires
     enum-told
     same-length
     same-length-2

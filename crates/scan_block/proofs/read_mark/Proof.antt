@@ -1,13 +1,13 @@
--- `format_marks::read_mark` meets its contract. Assumes nothing.
+-- `scan_block::read_mark` meets its contract. Assumes nothing.
 use mathlib.Core.Path.{refl}
 use denote.Ref.{now}
 use lib.ListN.{replicate}
 use Rattle.chip_array.specs.Device.{setting}
 use Rattle.bus.specs.Line.{line}
-use Rattle.format_marks.proofs.MarkLaws.{mark-read}
+use Rattle.scan_block.proofs.MarkLaws.{mark-read}
 use borrow.Author.Needs.{needs}
-use Rattle.format_marks.proofs.read_mark.Statement.{statement}
-use Rattle.format_marks.proofs.read_mark.Tie as tie
+use Rattle.scan_block.proofs.read_mark.Statement.{statement}
+use Rattle.scan_block.proofs.read_mark.Tie as tie
 
 row-of-requires : tie.Need-row-of-requires
 row-of-requires c κs = search needs

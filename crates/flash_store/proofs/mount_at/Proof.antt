@@ -1,4 +1,4 @@
--- `flash_store::flash_store_mount` meets its contract. Assumes nothing.
+-- `flash_store::mount_at` meets its contract. Assumes nothing.
 use mathlib.Core.Path.{sym, _∙_}
 use borrow.Author.Tests.{not-true, not-false}
 use denote.Ref.{now}
@@ -10,8 +10,8 @@ use Rattle.flash_store.specs.Library.{mountingLent}
 use Rattle.c_buffers.proofs.BufferLaws.{right-long}
 use Rattle.flash_store.proofs.LibraryLaws.{lent-wrongly, request-handed}
 use borrow.Author.Needs.{needs}
-use Rattle.flash_store.proofs.flash_store_mount.Statement.{statement}
-use Rattle.flash_store.proofs.flash_store_mount.Tie as tie
+use Rattle.flash_store.proofs.mount_at.Statement.{statement}
+use Rattle.flash_store.proofs.mount_at.Tie as tie
 
 is-lent-rightly-requires : tie.Need-is-lent-rightly-requires
 is-lent-rightly-requires c κs = search needs
@@ -78,10 +78,10 @@ returns-2 c =
     let at-if1 = at-load .before .before in
     let at-is-lent-rightly = at-if1 .before in
     let s = at-is-lent-rightly .before .before .before .before .before .before .before .before .before in
-    request-handed (λ (d : Device) (state : State). mounting (setting (geometryOf (s .args .main) (s .args .spare) (s .args .pages) (s .args .blocks) (s .args .logical)) (now (s .args .mask)) (now (s .args .fates))) d (s .args .allowed) state) (lent (now (s .args .state)) (now (s .args .interface)) (now (s .args .array)) (now (s .args .register)) (now (s .args .history)) (now (s .args .sent))) _ _ _ (at-load .load .result) (at-interface-of .interface-of .result) (sym (at-is-lent-rightly .is-lent-rightly .ensures) ∙ not-false _ (at-if1 .if1 .left)) (at-load .load .ensures) (at-interface-of .interface-of .ensures) (at-mount .mount .ensures) (at-hand-back .hand-back .ensures .0 _ _ _) (at-hand-back .hand-back .ensures .1)
+    request-handed (λ (d : Device) (state : State). mounting (s .args .depth) (setting (geometryOf (s .args .main) (s .args .spare) (s .args .pages) (s .args .blocks) (s .args .logical)) (now (s .args .mask)) (now (s .args .fates))) d (s .args .allowed) state) (lent (now (s .args .state)) (now (s .args .interface)) (now (s .args .array)) (now (s .args .register)) (now (s .args .history)) (now (s .args .sent))) _ _ _ (at-load .load .result) (at-interface-of .interface-of .result) (sym (at-is-lent-rightly .is-lent-rightly .ensures) ∙ not-false _ (at-if1 .if1 .left)) (at-load .load .ensures) (at-interface-of .interface-of .ensures) (at-mount .mount .ensures) (at-hand-back .hand-back .ensures .0 _ _ _) (at-hand-back .hand-back .ensures .1)
 
-pub flash-store-mount-spec : {M : Type 1} → statement M
-flash-store-mount-spec =
+pub mount-at-spec : {M : Type 1} → statement M
+mount-at-spec =
     tie.close
     (tie.spec
     is-lent-rightly-requires

@@ -1,0 +1,3 @@
+pub mod RanLaws
+pub mod QuickScanLaws
+pub mod BlockKeepLaws
