@@ -1,5 +1,5 @@
 // Times the library against the second implementation in differential/store.rs: the same calls on equal buffers, in turn,
-// on the part with 2,048 + 128 bytes a page, 64 pages a block and 4,096 blocks. Prints three tables in Markdown. The exit
+// on the part with 2,048 + 128 bytes a page, 64 pages a block and 4,096 blocks. Prints four tables in Markdown. The exit
 // status is 1 where an answer, the cycles sent or a byte differ, or an answer is not 0.
 
 #[path = "../differential/draws.rs"]
@@ -162,7 +162,7 @@ fn print_head(first: &str) {
     println!("|---|---|---|---|---|---|");
 }
 
-// Calls on a chip that was all FFh before it was formatted.
+// Calls on a chip that was all FFh before it was formatted: the second and the third formatting carry over the list of the one before.
 fn requests() -> bool {
     let geometry = geometry(MOST);
     let mut both = Both::new(geometry, vec![0xFF; geometry.chip_bytes()]);
@@ -180,18 +180,25 @@ fn requests() -> bool {
     both.differs
 }
 
-// Mounts of chips whose pages are all whole, as the blocks double.
-fn mounts() -> bool {
+// Mounts of chips whose pages are all whole, as the blocks double; then one formatting of each.
+fn mounts_and_formattings() -> bool {
     let mut differs = false;
+    let mut formattings = Vec::new();
     println!();
-    print_head("Blocks");
+    print_head("Blocks, mounted");
     for blocks in [MOST / 8, MOST / 4, MOST / 2, MOST] {
         let geometry = geometry(blocks);
         let mut array = vec![0xFF; geometry.chip_bytes()];
         whole_pages(&geometry, &mut array);
         let mut both = Both::new(geometry, array);
         both.row(&grouped(blocks as u64), 3, |_| vec![Request::Mount]);
+        formattings.push((blocks, both.measure(1, |_| vec![Request::Format])));
         differs |= both.differs;
+    }
+    println!();
+    print_head("Blocks, formatted");
+    for (blocks, figures) in formattings {
+        print_row(&grouped(blocks as u64), &figures);
     }
     differs
 }
@@ -256,7 +263,7 @@ fn loads() -> bool {
 }
 
 fn main() {
-    let differs = requests() | mounts() | loads();
+    let differs = requests() | mounts_and_formattings() | loads();
     if differs {
         println!("\nThe two differ, or an answer is not 0.");
         std::process::exit(1);

@@ -9,13 +9,13 @@
 
 enum { MAIN = 32, SPARE = 16, PAGES = 4, BLOCKS = 4, LOGICAL = 2, PAGE = MAIN + SPARE, BLOCK = PAGE * PAGES };
 
-/* Cycles: the status, an erase, a program, the factory marks after a reset, a mount, a read with a copy. */
-enum { STATUS = 2, ERASE = 7, PROGRAM = PAGE + 9, MARKS = 91, MOUNT = 931, READ = MAIN + 10 };
+/* Cycles: the status, an erase, a program, every page after a reset, a read with a copy. */
+enum { STATUS = 2, ERASE = 7, PROGRAM = PAGE + 9, MOUNT = 931, READ = MAIN + 10 };
 
-/* A filled block, a formatting, a new copy of a block, one that keeps three pages of the old copy. */
+/* A filled block, a formatting, which reads every page first, a new copy of a block, one that keeps three pages of the old copy. */
 enum {
     FILL = ERASE + PAGES * PROGRAM,
-    FORMAT = MARKS + STATUS + BLOCKS * ERASE + FILL,
+    FORMAT = MOUNT + STATUS + BLOCKS * ERASE + FILL,
     COPY = STATUS + FILL,
     COPY_OVER = COPY + 3 * READ
 };
@@ -133,7 +133,7 @@ static void tie_low(uint8_t held) {
     memcpy(before, array, sizeof array);
     show("write 77, line low", write_page(&low, 0x77), FLASH_STORE_PROTECTED, &low, STATUS);
     show("erase block 0, line low", flash_store_do_erase(&store, &low, 0), FLASH_STORE_PROTECTED, &low, STATUS);
-    show("format, line low", flash_store_do_format(&store, &low), FLASH_STORE_PROTECTED, &low, MARKS + STATUS);
+    show("format, line low", flash_store_do_format(&store, &low), FLASH_STORE_PROTECTED, &low, MOUNT + STATUS);
     show_page("read block 0 page 0, line low", &low, held, READ);
     show("mount, line low", flash_store_do_mount(&store, &low), FLASH_STORE_DONE, &low, MOUNT);
     show_page("read block 0 page 0, line low", &low, held, READ);

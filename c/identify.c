@@ -116,7 +116,7 @@ static enum flash_store_answer read_page(uint8_t *page) {
 static void use_sizes(void) {
     uint8_t written[MAIN], page[MAIN] = {0};
     memset(written, 0xa5, sizeof written);
-    show("format", flash_store_do_format(&store, &uncut), FLASH_STORE_DONE, 356);
+    show("format", flash_store_do_format(&store, &uncut), FLASH_STORE_DONE, 1196);
     show("mount", flash_store_do_mount(&store, &uncut), FLASH_STORE_DONE, 931);
     show("write block 0 page 0", flash_store_do_write(&store, &uncut, 0, 0, written, store.main), FLASH_STORE_DONE, 237);
     show("read block 0 page 0", read_page(page), FLASH_STORE_DONE, MAIN + 10);

@@ -1,6 +1,7 @@
 /*
  * The small chip with one sequence number left: a write takes it, the next write finds none and stops the state, and a mount
- * brings it back with the page under the last number. Ends with 1 where a figure is not the expected one.
+ * brings it back with the page under the last number. A formatting goes on from the greatest number on the chip and finds none either,
+ * but has erased that page by then: the next one goes on from the table's number. Ends with 1 where a figure is not the expected one.
  */
 #include <inttypes.h>
 #include <stdio.h>
@@ -10,8 +11,8 @@
 
 enum { MAIN = 32, SPARE = 16, PAGES = 4, BLOCKS = 4, LOGICAL = 2, PAGE = MAIN + SPARE, BLOCK = PAGE * PAGES };
 
-/* Cycles: the status, a formatting, a mount, a read with a copy, a write without an old copy and one over it. */
-enum { STATUS = 2, FORMAT = 356, MOUNT = 931, READ = MAIN + 10, WRITE = 237, WRITE_OVER = 363 };
+/* Cycles: the status, a formatting, one up to its table, a mount, a read with a copy, a write without an old copy and one over it. */
+enum { STATUS = 2, FORMAT = 1196, ERASED = 954, MOUNT = 931, READ = MAIN + 10, WRITE = 237, WRITE_OVER = 363 };
 
 /* Where numbers stand: in the state, and in the spare bytes of a page (docs/FORMAT.md). */
 enum { STATE_NUMBER = 24, PAGE_NUMBER = MAIN + 5 };
@@ -105,5 +106,7 @@ int main(void) {
     show("write 33, stopped", write_page(0x33), FLASH_STORE_MOUNT_FIRST, 0, 0);
     show("mount", flash_store_do_mount(&store, &call), FLASH_STORE_DONE, MOUNT, UINT64_MAX);
     show_page(0x22, UINT64_MAX);
+    show("format", flash_store_do_format(&store, &call), FLASH_STORE_SPENT, ERASED, 0);
+    show("format again", flash_store_do_format(&store, &call), FLASH_STORE_DONE, FORMAT, 2);
     return differs;
 }

@@ -35,9 +35,7 @@ impl Book {
 
     // The step for one call, with the checks on what it answered.
     pub fn step(&mut self, run: &mut Run, world: &World, request: &Request, answer: usize, bytes: &[u8]) {
-        if world.watch.confirmed.iter().any(|confirmed| confirmed.forbidden) {
-            run.fail("a block was programmed or erased that is marked, listed or failed");
-        }
+        check_spared(run, world);
         if answer == ILLEGAL {
             run.fail("a cycle was answered illegal within a list");
         }
@@ -93,6 +91,13 @@ impl Book {
                 }
             }
         }
+    }
+}
+
+// Of the last call.
+pub fn check_spared(run: &Run, world: &World) {
+    if world.watch.confirmed.iter().any(|confirmed| confirmed.forbidden) {
+        run.fail("a block was programmed or erased that is marked, listed or failed");
     }
 }
 

@@ -37,10 +37,17 @@ pub fn random_number(random: &mut Random) -> u64 {
     }
 }
 
-// One of the layouts, and the number as far as it has room for it.
-fn in_layout(random: &mut Random, layouts: &[Layout], number: u64) -> (Layout, u64) {
-    let layout = random.pick(layouts);
-    (layout, number & layout.last_number())
+// What the pages of a chip are drawn from: their layouts and the greatest number.
+#[derive(Clone, Copy)]
+struct Drawn {
+    layouts: &'static [Layout],
+    most: u64,
+}
+
+// One of the layouts, and the number as far as there is room for it.
+fn in_layout(random: &mut Random, drawn: Drawn, number: u64) -> (Layout, u64) {
+    let layout = random.pick(drawn.layouts);
+    (layout, (number & layout.last_number()).min(drawn.most))
 }
 
 fn random_main(random: &mut Random, geometry: &Geometry) -> Vec<u8> {
@@ -51,10 +58,10 @@ fn random_main(random: &mut Random, geometry: &Geometry) -> Vec<u8> {
     }
 }
 
-fn random_label(random: &mut Random, geometry: &Geometry, layouts: &[Layout]) -> Label {
+fn random_label(random: &mut Random, geometry: &Geometry, drawn: Drawn) -> Label {
     let page = random.below(geometry.pages + 1);
     let number = random_number(random);
-    let (layout, number) = in_layout(random, layouts, number);
+    let (layout, number) = in_layout(random, drawn, number);
     if random.one_in(3) {
         return table_label(layout, page, number);
     }
@@ -85,7 +92,8 @@ fn table_block(random: &mut Random, geometry: &Geometry, own: usize, label: Labe
 }
 
 fn table_of(random: &mut Random, geometry: &Geometry, invalid: &[u8], label: Label) -> Vec<u8> {
-    let mut main = table_main(geometry, invalid);
+    let named = if random.one_in(6) { random_word(random) as u16 as usize } else { geometry.logical };
+    let mut main = table_main(&Geometry { logical: named, ..*geometry }, invalid);
     if random.one_in(5) {
         spoil_table(random, geometry, &mut main);
     }
@@ -112,24 +120,24 @@ fn spoil_table(random: &mut Random, geometry: &Geometry, main: &mut [u8]) {
 }
 
 // Pages that do not belong together.
-fn mixed_block(random: &mut Random, geometry: &Geometry, layouts: &[Layout]) -> Vec<u8> {
+fn mixed_block(random: &mut Random, geometry: &Geometry, drawn: Drawn) -> Vec<u8> {
     let mut block = Vec::new();
     for _ in 0..geometry.pages {
         let main = random_main(random, geometry);
-        let label = random_label(random, geometry, layouts);
+        let label = random_label(random, geometry, drawn);
         block.extend(encode_page(geometry, &main, &label));
     }
     block
 }
 
-fn random_block(random: &mut Random, geometry: &Geometry, layouts: &[Layout], own: usize, number: u64) -> Vec<u8> {
+fn random_block(random: &mut Random, geometry: &Geometry, drawn: Drawn, own: usize, number: u64) -> Vec<u8> {
     let size = geometry.block_bytes();
-    let (layout, number) = in_layout(random, layouts, number);
+    let (layout, number) = in_layout(random, drawn, number);
     let mut block = match random.below(12) {
         0 | 1 => vec![0xFF; size],
         2 => random.bytes(size),
         3 | 4 => table_block(random, geometry, own, table_label(layout, 0, number)),
-        5 => mixed_block(random, geometry, layouts),
+        5 => mixed_block(random, geometry, drawn),
         6 => copy_block(random, geometry, data_label(layout, geometry.logical, 0, number)),
         _ => {
             let logical = random.below(geometry.logical);
@@ -139,7 +147,7 @@ fn random_block(random: &mut Random, geometry: &Geometry, layouts: &[Layout], ow
     if random.one_in(4) {
         damage(random, geometry, &mut block);
     }
-    if layouts.len() > 1 && random.one_in(10) {
+    if drawn.layouts.len() > 1 && random.one_in(10) {
         relay_page(random, geometry, &mut block);
     }
     block
@@ -188,19 +196,19 @@ fn relay_page(random: &mut Random, geometry: &Geometry, block: &mut [u8]) {
 
 pub fn random_array(random: &mut Random, geometry: &Geometry) -> Vec<u8> {
     let layouts = random.pick(&[NARROW, WIDE, BOTH]);
-    array_in(random, geometry, layouts)
+    array_of(random, geometry, Drawn { layouts, most: u64::MAX })
 }
 
-fn array_in(random: &mut Random, geometry: &Geometry, layouts: &[Layout]) -> Vec<u8> {
+fn array_of(random: &mut Random, geometry: &Geometry, drawn: Drawn) -> Vec<u8> {
     match random.below(12) {
         0 => vec![0xFF; geometry.chip_bytes()],
         1 => random.bytes(geometry.chip_bytes()),
         2 => vec![0; geometry.chip_bytes()],
-        3 => (0..geometry.blocks).flat_map(|_| mixed_block(random, geometry, layouts)).collect(),
+        3 => (0..geometry.blocks).flat_map(|_| mixed_block(random, geometry, drawn)).collect(),
         _ => {
             let numbers = random_numbers(random, geometry.blocks);
             let all = numbers.into_iter().enumerate();
-            all.flat_map(|(block, number)| random_block(random, geometry, layouts, block, number)).collect()
+            all.flat_map(|(block, number)| random_block(random, geometry, drawn, block, number)).collect()
         }
     }
 }
@@ -225,11 +233,12 @@ fn random_numbers(random: &mut Random, count: usize) -> Vec<u64> {
     numbers
 }
 
-// A chip of which few blocks are marked, so that a formatting mostly succeeds; for a store that writes the narrow layout one
-// whose pages are in that layout.
+// A chip of which few blocks are marked and few hold one of the last numbers, so that a formatting mostly succeeds; for a store that
+// writes the narrow layout one whose pages are in that layout.
 pub fn used_array(random: &mut Random, geometry: &Geometry, store: Layout) -> Vec<u8> {
     let layouts = if store == Layout::Narrow { NARROW } else { random.pick(&[NARROW, WIDE, BOTH]) };
-    let mut array = array_in(random, geometry, layouts);
+    let room = if random.one_in(8) { 0 } else { 100 };
+    let mut array = array_of(random, geometry, Drawn { layouts, most: store.last_number() - room });
     let size = geometry.page_bytes();
     for block in 0..geometry.blocks {
         let from = geometry.page_start(block, 0) + geometry.main;
@@ -286,8 +295,8 @@ pub fn random_fates(random: &mut Random, geometry: &Geometry) -> Vec<u32> {
 fn usual_cycles(geometry: &Geometry, request: &Request) -> usize {
     let page = geometry.page_bytes() + 10;
     match request {
-        Request::Format => 5 + geometry.blocks * 29 + geometry.pages * page + 20,
-        Request::Mount => 3 + geometry.blocks * geometry.pages * page,
+        Request::Format => cycles_of_reads(geometry) as usize + 9 + geometry.blocks * 7 + geometry.pages * page,
+        Request::Mount => cycles_of_reads(geometry) as usize,
         Request::QuickMount => 3 + geometry.blocks * (geometry.pages * page + 11),
         Request::Read { .. } => 10 + geometry.main,
         Request::Identify => ASKED as usize,
@@ -300,14 +309,25 @@ pub fn random_allowance(random: &mut Random, geometry: &Geometry, request: &Requ
         0 => random.below(14) as u32,
         1 | 2 => random.below(usual_cycles(geometry, request) + 5) as u32,
         3 => random.below(2 * usual_cycles(geometry, request)) as u32,
+        4 | 5 | 6 if matches!(request, Request::Format) => cut_late(random, geometry),
         _ => u32::MAX,
     }
 }
 
+// A formatting cut after its page reads.
+fn cut_late(random: &mut Random, geometry: &Geometry) -> u32 {
+    let reads = cycles_of_reads(geometry);
+    reads + random.below(2 * (usual_cycles(geometry, &Request::Format) - reads as usize)) as u32
+}
+
 pub fn random_call(random: &mut Random, geometry: &Geometry, request: &Request) -> Call {
+    let mut fates = random_fates(random, geometry);
+    if matches!(request, Request::Format) && !random.one_in(4) {
+        fates = after_reads(geometry, &fates);
+    }
     Call {
         mask: random_mask(random, geometry),
-        fates: random_fates(random, geometry),
+        fates,
         allowed: random_allowance(random, geometry, request),
         protected: random_line(random),
     }

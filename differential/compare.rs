@@ -9,6 +9,7 @@ mod dearest_writes;
 #[allow(dead_code)]
 mod draws;
 mod fixed;
+mod formattings;
 mod identify;
 mod library;
 mod lists;
@@ -23,6 +24,7 @@ use book::*;
 use chips::*;
 use dearest_writes::*;
 use fixed::*;
+use formattings::*;
 use identify::*;
 use library::*;
 use lists::*;
@@ -142,6 +144,7 @@ struct Run {
     answers: [[usize; ANSWERS.len()]; KINDS.len()],
     books: usize,
     updated: usize,
+    formatted: usize,
     entered: usize,
     progress: usize,
 }
@@ -173,6 +176,7 @@ impl Run {
             }
         }
         line += &format!("; {} lists with a book, {} boxes updated", self.books, self.updated);
+        line += &format!(", {} formatted within a list", self.formatted);
         line + &format!(", {} requests entered by a mount", self.entered)
     }
 
@@ -245,10 +249,12 @@ fn print_arguments(geometry: &Geometry, request: &Request, call: &Call, before: 
 
 const LARGEST_SHOWN: usize = 200_000;
 
-// A box, and the layout that its store writes: while that is the narrow one, the library takes no part.
+// A box, and the layout that its store writes: while that is the narrow one, the library takes no part. `left` says that every page
+// of an unmarked block that the table does not list is as this store's programs and erases leave pages.
 struct World {
     geometry: Geometry,
     layout: Layout,
+    left: bool,
     own: Side,
     library: Side,
     watch: Watch,
@@ -277,7 +283,7 @@ impl World {
         };
         let (state, sizes) = (vec![0; STATE_BYTES], vec![0; SIZE_WORDS]);
         let own = Side { state, chip, buffer: Vec::new(), sent: vec![0], sizes };
-        World { geometry, layout: Layout::Wide, library: own.clone(), own, watch: Watch::default() }
+        World { geometry, layout: Layout::Wide, left: false, library: own.clone(), own, watch: Watch::default() }
     }
 
     fn fresh(geometry: Geometry) -> World {
@@ -316,7 +322,7 @@ impl World {
         run.updated += 1;
     }
 
-    // One call on both sides, which are alike before it; the answer.
+    // One call on both sides, which are alike before it; the answer. Of a formatting also what it must keep.
     fn call(&mut self, run: &mut Run, geometry: Geometry, request: &Request, call: &Call, buffer: &[u8]) -> usize {
         self.both(|side| side.buffer = buffer.to_vec());
         self.both(|side| side.sent.fill(0xABCD));
@@ -324,6 +330,9 @@ impl World {
         let before = self.own.shown_part();
         let (mask, fates) = (call.mask.clone(), call.fates.clone());
         let answer = self.own_call(&geometry, request, call);
+        if matches!(request, Request::Format) && ![GEOMETRY, BAD_BUFFER].contains(&answer) {
+            keeps_carried(run, &geometry, &before.chip, &self.own.chip, self.left);
+        }
         if self.layout == Layout::Narrow {
             return answer;
         }
@@ -357,6 +366,18 @@ impl World {
 
     fn format(&mut self, run: &mut Run) -> usize {
         self.simple(run, &Request::Format, &[])
+    }
+
+    // A formatting for so many logical blocks, the number that it goes on with where it is acknowledged: its pages are then as this
+    // store leaves them.
+    fn format_for(&mut self, run: &mut Run, logical: usize, call: &Call) -> usize {
+        let geometry = Geometry { logical, ..self.geometry };
+        let answer = self.call(run, geometry, &Request::Format, call, &[]);
+        if answer == DONE {
+            self.geometry = geometry;
+            self.left = true;
+        }
+        answer
     }
 
     fn mount(&mut self, run: &mut Run) -> usize {
@@ -402,7 +423,7 @@ impl World {
 
     fn duplicate(&self) -> World {
         let (own, library) = (self.own.clone(), self.own.clone());
-        World { geometry: self.geometry, layout: self.layout, own, library, watch: self.watch.clone() }
+        World { geometry: self.geometry, layout: self.layout, left: self.left, own, library, watch: self.watch.clone() }
     }
 }
 

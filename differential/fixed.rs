@@ -1,7 +1,7 @@
 // The fixed selection: the paper's bench figures, then every cut, failure and silence of requests on small chips, with the
-// write-protect line high and low, forged states and interfaces, wrong lengths, chips in both layouts and updated boxes,
-// parameter pages, a chip with rows past sixteen bits, random lists and the dearest writes; and beside the store the draws of the
-// test load, price rules and lists of sales.
+// write-protect line high and low, forged states and interfaces, wrong lengths, formattings of chips that hold a table, chips in both
+// layouts and updated boxes, parameter pages, a chip with rows past sixteen bits, random lists and the dearest writes; and beside the
+// store the draws of the test load, price rules and lists of sales.
 
 use super::*;
 use crate::draws::drawn;
@@ -26,6 +26,7 @@ pub fn fixed_selection(run: &mut Run) {
     every_mixture(run);
     every_number(run);
     every_formatting(run);
+    formattings(run);
     updates(run);
     parameter_pages(run);
     large_chip(run);
@@ -56,10 +57,10 @@ fn draws_alike(run: &mut Run) {
 
 // ---- bench figures ----
 
-type Line = (usize, u64, usize);
+pub type Line = (usize, u64, usize);
 
 // Answer, cycles and free blocks after a call.
-fn line(world: &World, answer: usize) -> Line {
+pub fn line(world: &World, answer: usize) -> Line {
     (answer, world.own.sent[0], world.state().free_blocks(&world.geometry))
 }
 
@@ -84,7 +85,7 @@ pub fn bench_figures(run: &mut Run) {
 fn bench_program(run: &mut Run) {
     let mut world = World::fresh(SMALL);
     let answer = world.format(run);
-    expect(run, "F", line(&world, answer), (0, 356, 3));
+    expect(run, "F", line(&world, answer), (0, 1196, 3));
     let page = &world.own.chip.array[..SMALL.page_bytes()];
     expect(run, "check of the table", (page[45], page[46]), (160, 0));
     let answer = world.write(run, 0, 0, 0xA5);
@@ -126,7 +127,7 @@ fn bench_limits(run: &mut Run) {
     expect(run, "a mount of an erased chip", answer, NO_TABLE);
     world.both(|side| side.chip.array[SMALL.page_start(2, 1) + 32] = 0x7F);
     let answer = world.format(run);
-    expect(run, "one marked block of four", line(&world, answer), (8, 114, 0));
+    expect(run, "one marked block of four", line(&world, answer), (8, 954, 0));
 }
 
 // A formatted small chip with one page written to each logical block.
@@ -141,7 +142,8 @@ pub fn written_in(layout: Layout) -> (World, Book) {
     world.layout = layout;
     world.watch.on = true;
     let mut book = Book::new(&SMALL);
-    world.format(&mut run);
+    let call = world.plain();
+    world.format_for(&mut run, SMALL.logical, &call);
     for (block, page, byte) in [(0, 0, 0x11), (1, 2, 0x3C)] {
         let answer = world.write(&mut run, block, page, byte);
         book.step(&mut run, &world, &Request::Write { block, page }, answer, &vec![byte; SMALL.main]);
@@ -216,27 +218,40 @@ fn bench_numbers(run: &mut Run) {
     expect(run, "a mount after the last number", (answer, world.state().number), (DONE, last));
     let answer = world.read(run, 0, 0);
     expect(run, "the page under the last number", (answer, world.own.buffer[0]), (DONE, 0x77));
-    bench_formatting(run, 1, (9, 353, 0));
-    bench_formatting(run, 2, (8, 353, 0));
+    bench_formatting(run, 1, (9, 1186, 0));
+    bench_formatting(run, 2, (8, 1186, 0));
 }
 
-// A formatting that finds the last number in a block whose erase fails: it counts its blocks before it takes a number.
+// A formatting of a chip whose table bears the last number, and of which an erase fails: it counts its blocks before it takes a number.
 fn bench_formatting(run: &mut Run, logical: usize, wanted: Line) {
     let label = table_label(Layout::Wide, 0, Layout::Wide.last_number());
     let mut array = table_with(&table_main(&SMALL, &[0; 512]), &[0xFF; 32], label);
     array.resize(SMALL.chip_bytes(), 0xFF);
     let mut world = World::new(Geometry { logical, ..SMALL }, array);
-    let call = Call { fates: vec![0, 0, 0, 0, 0, 0, 0, 0, 1 << 16], ..world.plain() };
+    let call = Call { fates: after_reads(&SMALL, &[1 << 16]), ..world.plain() };
     let answer = world.right(run, &Request::Format, &call, &[]);
     expect(run, "a formatting over the last number", line(&world, answer), wanted);
 }
 
+// A reset and a read of every page, unbusied, with which a formatting begins.
+pub fn cycles_of_reads(geometry: &Geometry) -> u32 {
+    (3 + geometry.blocks * geometry.pages * (geometry.page_bytes() + 10)) as u32
+}
+
+// The words of a formatting, after those of its page reads.
+pub fn after_reads(geometry: &Geometry, fates: &[u32]) -> Vec<u32> {
+    let mut all = vec![0; geometry.blocks * geometry.pages];
+    all.extend(fates);
+    all
+}
+
+// A quick mount asks for the mark byte of page 1 after its first two pages.
 fn bench_column(run: &mut Run) {
     let mut world = World::fresh(Geometry { main: 2048, ..SMALL });
-    let call = Call { allowed: 9, ..world.plain() };
-    let answer = world.right(run, &Request::Format, &call, &[]);
-    expect(run, "a formatting cut at the first address", answer, CUT);
-    expect(run, "column 2,048", world.own.chip.interface[ADDRESS_REGISTER], 0x0800);
+    let call = Call { allowed: 3 + 2 * (2064 + 10) + 6, ..world.plain() };
+    let answer = world.right(run, &Request::QuickMount, &call, &[]);
+    expect(run, "a quick mount cut after the address of a mark byte", answer, CUT);
+    expect(run, "column 2,048 of page 1", world.own.chip.interface[ADDRESS_REGISTER], 0x1_0800);
 }
 
 // With the write-protect line low: the requests that write get 13 and change nothing, the others pass.
@@ -249,8 +264,8 @@ fn bench_line(run: &mut Run) {
         (&write, 1, (11, 1)),
         (&write, 0, (11, 0)),
         (&Request::Erase { block: 1 }, u32::MAX, (13, 2)),
-        (&Request::Format, u32::MAX, (13, 93)),
-        (&Request::Format, 92, (11, 92)),
+        (&Request::Format, u32::MAX, (13, 933)),
+        (&Request::Format, 932, (11, 932)),
         (&Request::Mount, u32::MAX, (0, 931)),
         (&Request::Read { block: 0, page: 0 }, u32::MAX, (0, 42)),
         (&Request::Identify, u32::MAX, (0, ASKED)),
@@ -331,7 +346,7 @@ fn try_call(run: &mut Run, base: &(World, Book), request: &Request, call: &Call)
     let buffer = buffer_for(&world, request);
     let answer = world.right(run, request, call, &buffer);
     if matches!(request, Request::Format) {
-        world.mount(run);
+        mount_formatted(run, &mut world, answer);
         return;
     }
     book.step(run, &world, request, answer, &buffer);
@@ -342,6 +357,15 @@ fn try_call(run: &mut Run, base: &(World, Book), request: &Request, call: &Call)
     let answer = quick.quick_mount(run);
     beside.step(run, &quick, &Request::QuickMount, answer, &[]);
     beside.compare_all(run, &quick);
+}
+
+// A mount of the chip that a formatting left; after an acknowledged one it gives the same state.
+pub fn mount_formatted(run: &mut Run, world: &mut World, answer: usize) {
+    let state = world.own.state.clone();
+    let mounted = world.mount(run);
+    if answer == DONE && (mounted != DONE || world.own.state != state) {
+        run.fail("a mount does not give the state of the formatting before it");
+    }
 }
 
 // Cycles and fate words of a request that is not cut, with these words at hand and this line.
@@ -357,6 +381,14 @@ fn operations(base: &World, request: &Request) -> usize {
     usual(base, request, &[0; 1000], 0).1
 }
 
+// The operation from which on failures can count: a formatting begins with a read of every page, and the last of them is tried.
+fn first_change(base: &World, request: &Request) -> usize {
+    match request {
+        Request::Format => base.geometry.blocks * base.geometry.pages - 1,
+        _ => 0,
+    }
+}
+
 // A chip with eight pages a block, six blocks, one of them marked and one invalid.
 fn larger() -> (World, Book) {
     let geometry = Geometry { main: 40, spare: 17, pages: 8, blocks: 6, logical: 2 };
@@ -365,10 +397,8 @@ fn larger() -> (World, Book) {
     world.watch.on = true;
     world.both(|side| side.chip.array[geometry.page_start(2, 0) + 40] = 0);
     let mut book = Book::new(&geometry);
-    let mut fates = vec![0; 13];
-    fates[12] = 1 << 16;
-    let call = Call { fates, ..world.plain() };
-    world.right(&mut run, &Request::Format, &call, &[]);
+    let call = Call { fates: after_reads(&geometry, &[1 << 16]), ..world.plain() };
+    world.format_for(&mut run, geometry.logical, &call);
     let answer = world.write(&mut run, 0, 1, 0x10);
     book.step(&mut run, &world, &Request::Write { block: 0, page: 1 }, answer, &vec![0x10; 40]);
     (world, book)
@@ -386,22 +416,24 @@ fn every_cut(run: &mut Run) {
     }
 }
 
-// The call with every allowance up to the cycles that it sends.
+// The call with every allowance up to the cycles that it sends, but for most of those that end in a long reading.
 pub fn cuts_of(run: &mut Run, base: &(World, Book), request: &Request, call: &Call) {
     let Call { fates, protected, .. } = call;
     let geometry = base.0.geometry;
     run.origin = format!("every cut of {request:?} on {geometry:?} with fates {fates:X?} and line {protected}");
     let (cycles, _) = usual(&base.0, request, fates, *protected);
-    for allowed in (0..=cycles as u32).step_by(stride(&base.0, request)) {
+    let every = every_cycle_from(&geometry, request);
+    for allowed in (0..=cycles as u32).filter(|allowed| *allowed >= every || allowed % 7 == 0) {
         try_call(run, base, request, &Call { allowed, ..call.clone() });
     }
 }
 
-// Every cycle, but every seventh one of the longest mount.
-fn stride(world: &World, request: &Request) -> usize {
+// Of the longest mount, and of the page reads of a formatting, every seventh cycle is enough.
+fn every_cycle_from(geometry: &Geometry, request: &Request) -> u32 {
     match request {
-        Request::Mount | Request::QuickMount if world.geometry.pages > 4 => 7,
-        _ => 1,
+        Request::Mount | Request::QuickMount if geometry.pages > 4 => u32::MAX,
+        Request::Format => cycles_of_reads(geometry),
+        _ => 0,
     }
 }
 
@@ -411,7 +443,7 @@ fn every_failure(run: &mut Run) {
             let count = operations(&base.0, &request);
             run.origin = format!("every failure of {request:?} on {:?}", base.0.geometry);
             for mask in masks(&base.0, &request) {
-                for first in 0..count.min(60) {
+                for first in first_change(&base.0, &request)..count.min(80) {
                     for second in [first, first + 1, first + 2, first + 5, count] {
                         let mut fates = vec![0; second + 1];
                         fates[first] = 1 << 16;
@@ -726,13 +758,27 @@ fn contents() -> Vec<Vec<u8>> {
     contents
 }
 
+// All are mounted, and every seventh is formatted.
 fn every_arrangement(run: &mut Run) {
     let contents = contents();
     let count = contents.len();
     for place in 0..count.pow(4) {
         run.origin = format!("arrangement {place}");
         let chosen = [place, place / count, place / count.pow(2), place / count.pow(3)];
-        mount_array(run, chosen.iter().flat_map(|block| contents[block % count].clone()).collect());
+        let array: Vec<u8> = chosen.iter().flat_map(|block| contents[block % count].clone()).collect();
+        if place % 7 == 0 {
+            format_array(run, array.clone());
+        }
+        mount_array(run, array);
+    }
+}
+
+// For as many logical blocks as the tables name, and for one.
+fn format_array(run: &mut Run, array: Vec<u8>) {
+    for logical in [SMALL.logical, 1] {
+        let mut world = World::new(Geometry { logical, ..SMALL }, array.clone());
+        let answer = world.format(run);
+        mount_formatted(run, &mut world, answer);
     }
 }
 
@@ -762,6 +808,10 @@ fn large_chip(run: &mut Run) {
         let answer = world.read(run, block, page);
         expect(run, "a read", answer, DONE);
     }
+    let state = world.state();
+    let answer = world.format(run);
+    expect(run, "a formatting", (answer, world.state().number), (DONE, state.number + 1));
+    expect(run, "its list", world.state().invalid == state.invalid && state.invalid != [0; 512], true);
 }
 
 // The state with another block filled last.

@@ -77,6 +77,11 @@ fn wild_call(run: &mut Run, random: &mut Random, world: &mut World) {
     let request = random_request(random, &world.geometry);
     let call = random_call(random, &world.geometry, &request);
     let buffer = random_buffer(random, &world.geometry, &request);
+    if matches!(request, Request::Format) && random.one_in(2) {
+        let logical = other_logical(random, &world.geometry);
+        world.call(run, Geometry { logical, ..world.geometry }, &request, &call, &buffer);
+        return;
+    }
     match random.below(12) {
         0 => {
             let wrong = random_wrong(random, &world.geometry);
@@ -111,14 +116,16 @@ fn book_list(run: &mut Run, random: &mut Random) {
     }
     skip_numbers(random, &mut world);
     run.books += 1;
-    let mut book = Book::new(&geometry);
-    book_calls(run, random, &mut world, &mut book);
-    if layout == Layout::Narrow {
+    let mut book = Book::new(&world.geometry);
+    let mut stands = book_calls(run, random, &mut world, &mut book);
+    if stands && layout == Layout::Narrow {
         world.update(run);
-        book_calls(run, random, &mut world, &mut book);
+        stands = book_calls(run, random, &mut world, &mut book);
     }
-    last_mount(run, random, &mut world, &mut book);
-    book.compare_all(run, &world);
+    if stands {
+        last_mount(run, random, &mut world, &mut book);
+        book.compare_all(run, &world);
+    }
 }
 
 // As if many writes had taken numbers: few are left in the layout, or in the narrow one.
@@ -133,21 +140,65 @@ fn skip_numbers(random: &mut Random, world: &mut World) {
     world.both(|side| side.state = state.to_bytes());
 }
 
-fn book_calls(run: &mut Run, random: &mut Random, world: &mut World, book: &mut Book) {
-    for _ in 0..1 + random.below(25) {
+// Whether the book stands at the end.
+fn book_calls(run: &mut Run, random: &mut Random, world: &mut World, book: &mut Book) -> bool {
+    (0..1 + random.below(25)).all(|_| {
+        if random.one_in(20) {
+            return book_formatting(run, random, world, book);
+        }
         book_call(run, random, world, book);
-    }
+        true
+    })
 }
 
+// Mostly the same number of logical blocks.
+fn other_logical(random: &mut Random, geometry: &Geometry) -> usize {
+    if random.one_in(3) {
+        return 1 + random.below(geometry.blocks - 2);
+    }
+    geometry.logical
+}
+
+fn random_formatting(run: &mut Run, random: &mut Random, world: &mut World) -> usize {
+    let logical = other_logical(random, &world.geometry);
+    let call = random_call(random, &world.geometry, &Request::Format);
+    let (left, failed) = (world.left, std::mem::take(&mut world.watch.failed));
+    let answer = world.format_for(run, logical, &call);
+    if left {
+        check_spared(run, world);
+    }
+    if answer == PROTECTED {
+        world.watch.failed = failed;
+    }
+    answer
+}
+
+// Up to three; between them a mount of what the last one left.
 fn acknowledged_formatting(run: &mut Run, random: &mut Random, world: &mut World) -> bool {
     for _ in 0..3 {
-        world.watch.failed.clear();
-        let call = random_call(random, &world.geometry, &Request::Format);
-        if world.right(run, &Request::Format, &call, &[]) == DONE {
+        if random_formatting(run, random, world) == DONE {
             return true;
         }
+        let request = either_mount(random);
+        world.simple(run, &request, &[]);
     }
     false
+}
+
+// A formatting within a list. One that is not acknowledged promises nothing of the pages, and is made again: then the book is new.
+// Whether it stands.
+fn book_formatting(run: &mut Run, random: &mut Random, world: &mut World, book: &mut Book) -> bool {
+    let answer = random_formatting(run, random, world);
+    if answer == PROTECTED {
+        return true;
+    }
+    if answer != DONE && !acknowledged_formatting(run, random, world) {
+        return false;
+    }
+    mount_formatted(run, &mut world.duplicate(), DONE);
+    run.formatted += 1;
+    *book = Book::new(&world.geometry);
+    true
 }
 
 fn book_call(run: &mut Run, random: &mut Random, world: &mut World, book: &mut Book) {

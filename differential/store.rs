@@ -800,7 +800,7 @@ pub fn table_main(geometry: &Geometry, invalid: &[u8]) -> Vec<u8> {
     main
 }
 
-// The bitmap of a table that is rightly laid out for this chip.
+// The bitmap of a table that is rightly laid out for this chip and does not list its own block.
 fn table_bitmap(geometry: &Geometry, pages: &[&[u8]], marks: &[u8], block: usize) -> Option<Vec<u8>> {
     let main = &pages[0][..geometry.main];
     let mut bitmap = main[8..8 + (geometry.blocks + 7) / 8].to_vec();
@@ -816,22 +816,68 @@ fn table_bitmap(geometry: &Geometry, pages: &[&[u8]], marks: &[u8], block: usize
     Some(bitmap)
 }
 
-// Whether the factory marked the block or the current table lists it.
-fn forbidden_block(geometry: &Geometry, array: &[u8], block: usize) -> bool {
-    if summary_of(geometry, array, block).marked {
-        return true;
-    }
+// The complete table with the greatest number, in the lower block at a tie.
+fn current_table(summaries: &[Summary]) -> Option<usize> {
     let mut table: Option<(u64, usize)> = None;
-    for place in 0..geometry.blocks {
-        let label = summary_of(geometry, array, place).complete;
-        if let Some(label) = label.filter(Label::is_table) {
-            if table.map_or(true, |(number, _)| label.number > number) {
-                table = Some((label.number, place));
-            }
+    for (block, summary) in summaries.iter().enumerate() {
+        let Some(label) = summary.complete.filter(Label::is_table) else { continue };
+        if table.map_or(true, |(number, _)| label.number > number) {
+            table = Some((label.number, block));
         }
     }
-    let Some((_, place)) = table else { return false };
-    let from = geometry.page_start(place, 0) + 8;
+    table.map(|(_, block)| block)
+}
+
+fn marks_of(summaries: &[Summary]) -> Vec<u8> {
+    let mut marks = vec![0; MOST_BLOCKS / 8];
+    for (block, summary) in summaries.iter().enumerate() {
+        if summary.marked {
+            set_bit(&mut marks, block);
+        }
+    }
+    marks
+}
+
+// The block and the list of a current table that is right but for the number of logical blocks, which may be any.
+#[derive(Clone, PartialEq, Eq)]
+pub struct Carried {
+    pub table: usize,
+    pub list: Vec<u8>,
+}
+
+impl Carried {
+    pub fn lists(&self, block: usize) -> bool {
+        bit(&self.list, block)
+    }
+}
+
+fn carried_by(geometry: &Geometry, table: usize, pages: &[&[u8]], marks: &[u8]) -> Option<Carried> {
+    let named = Geometry { logical: u16_at(pages[0], 2) as usize, ..*geometry };
+    let list = table_bitmap(&named, pages, marks, table)?;
+    Some(Carried { table, list })
+}
+
+fn summaries_of(geometry: &Geometry, array: &[u8]) -> Vec<Summary> {
+    (0..geometry.blocks).map(|block| summary_of(geometry, array, block)).collect()
+}
+
+// What a formatting of this array carries over.
+pub fn carried_in(geometry: &Geometry, array: &[u8]) -> Option<Carried> {
+    let summaries = summaries_of(geometry, array);
+    let table = current_table(&summaries)?;
+    let from = geometry.page_start(table, 0);
+    let pages = block_pages(geometry, &array[from..from + geometry.block_bytes()]);
+    carried_by(geometry, table, &pages, &marks_of(&summaries))
+}
+
+// Whether the factory marked the block or the current table lists it.
+fn forbidden_block(geometry: &Geometry, array: &[u8], block: usize) -> bool {
+    let summaries = summaries_of(geometry, array);
+    if summaries[block].marked {
+        return true;
+    }
+    let Some(table) = current_table(&summaries) else { return false };
+    let from = geometry.page_start(table, 0) + 8;
     bit(&array[from..from + (geometry.blocks + 7) / 8], block)
 }
 
@@ -1052,39 +1098,40 @@ impl<'a> Store<'a> {
 
     fn format(&mut self) -> Result<(), Stop> {
         let geometry = self.geometry();
-        self.state = State::blank(MOUNTED);
-        self.state.map.fill(EMPTY);
-        self.bus.reset()?;
-        for block in 0..geometry.blocks {
-            self.read_marks(block)?;
-        }
+        let scan = self.scan(false)?;
         self.bus.ask_writable()?;
-        let mut greatest = 0;
-        for block in 0..geometry.blocks {
-            greatest = greatest.max(self.clear_block(block)?);
+        let carried = scan.carried(&geometry);
+        let old = carried.as_ref().map(|carried| carried.table);
+        self.state = State { marks: marks_of(&scan.summaries), ..State::blank(MOUNTED) };
+        self.state.map.fill(EMPTY);
+        if let Some(carried) = carried {
+            self.state.invalid = carried.list;
         }
+        let found = self.clear_blocks(old)?;
         let usable = (0..geometry.blocks).filter(|block| self.state.usable(*block)).count();
         if usable < geometry.logical + 2 {
             return Err(Stop::Worn);
         }
-        self.state.number = greatest;
+        self.state.number = scan.greatest().0.max(found);
         self.state.last = geometry.blocks as u64 - 1;
-        self.fill(&Filling::Table)
+        self.held = old.iter().map(|block| *block as u64).collect();
+        self.fill(&Filling::Table)?;
+        old.map_or(Ok(()), |block| self.give_up(block))
     }
 
-    fn read_marks(&mut self, block: usize) -> Result<(), Stop> {
-        for page in 0..2 {
-            let byte = self.bus.read(block, page, self.geometry().main, 1)?[0];
-            if byte != 0xFF {
-                set_bit(&mut self.state.marks, block);
+    // The first round of erases, the old table's block left aside; the greatest number on whole pages of those that failed, else 0.
+    fn clear_blocks(&mut self, old: Option<usize>) -> Result<u64, Stop> {
+        let mut greatest = 0;
+        for block in 0..self.geometry().blocks {
+            if self.state.usable(block) && old != Some(block) {
+                greatest = greatest.max(self.clear_block(block)?);
             }
         }
-        Ok(())
+        Ok(greatest)
     }
 
-    // Erases an unmarked block; the greatest number on whole pages if it failed, else 0.
     fn clear_block(&mut self, block: usize) -> Result<u64, Stop> {
-        if bit(&self.state.marks, block) || self.bus.erase(block)? {
+        if self.bus.erase(block)? {
             return Ok(0);
         }
         set_bit(&mut self.state.invalid, block);
@@ -1098,11 +1145,20 @@ impl<'a> Store<'a> {
         Ok(greatest)
     }
 
+    // The erase of the old table's block, once the new table is complete; another table where it fails.
+    fn give_up(&mut self, block: usize) -> Result<(), Stop> {
+        if self.bus.erase(block)? {
+            return Ok(());
+        }
+        set_bit(&mut self.state.invalid, block);
+        self.fill(&Filling::Table)
+    }
+
     // ---- mounting ----
 
     fn scan(&mut self, quick: bool) -> Result<Scan, Stop> {
         let geometry = self.geometry();
-        let mut scan = Scan { summaries: Vec::new(), table: None, pages: Vec::new() };
+        let mut scan = Scan { summaries: Vec::new(), table: Vec::new() };
         self.bus.reset()?;
         for block in 0..geometry.blocks {
             let pages = if quick { self.ends_first(block)? } else { self.in_order(block)? };
@@ -1135,37 +1191,31 @@ impl<'a> Store<'a> {
     }
 }
 
+// What was found on each block, and the pages of the current table.
 struct Scan {
     summaries: Vec<Summary>,
-    table: Option<(u64, usize)>,
-    pages: Vec<u8>,
+    table: Vec<u8>,
 }
 
 impl Scan {
     fn add(&mut self, geometry: &Geometry, block: usize, bytes: Vec<u8>) {
         let summary = summarise(geometry, &block_pages(geometry, &bytes));
         self.summaries.push(summary);
-        let Some(label) = summary.complete.filter(Label::is_table) else { return };
-        if self.table.map_or(true, |(number, _)| label.number > number) {
-            self.table = Some((label.number, block));
-            self.pages = bytes;
+        let is_table = summary.complete.is_some_and(|label| label.is_table());
+        if is_table && current_table(&self.summaries) == Some(block) {
+            self.table = bytes;
         }
     }
 
-    fn marks(&self) -> Vec<u8> {
-        let mut marks = vec![0; MOST_BLOCKS / 8];
-        for (block, summary) in self.summaries.iter().enumerate() {
-            if summary.marked {
-                set_bit(&mut marks, block);
-            }
-        }
-        marks
+    fn carried(&self, geometry: &Geometry) -> Option<Carried> {
+        let table = current_table(&self.summaries)?;
+        carried_by(geometry, table, &block_pages(geometry, &self.table), &marks_of(&self.summaries))
     }
 
     fn judge(&self, geometry: &Geometry) -> Result<State, usize> {
-        let (_, table) = self.table.ok_or(NO_TABLE)?;
-        let marks = self.marks();
-        let pages = block_pages(geometry, &self.pages);
+        let table = current_table(&self.summaries).ok_or(NO_TABLE)?;
+        let marks = marks_of(&self.summaries);
+        let pages = block_pages(geometry, &self.table);
         let invalid = table_bitmap(geometry, &pages, &marks, table).ok_or(WRONG_TABLE)?;
         let copies = self.copies(&invalid);
         if clash(geometry, &copies) {

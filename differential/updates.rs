@@ -155,8 +155,8 @@ fn numbered(run: &mut Run, array: Vec<u8>, first: u64, second: u64) -> Option<St
     Some(state)
 }
 
-// Formattings that find a number in a block whose erase fails, with table fills that fail: each takes a number, as long as
-// there is one.
+// Formattings that find a number in a table for other blocks, whose erase fails, with table fills that fail: each takes a number, as
+// long as there is one.
 pub fn every_formatting(run: &mut Run) {
     let geometry = Geometry { blocks: 8, logical: 1, ..SMALL };
     for (layout, found) in numbers() {
@@ -180,8 +180,7 @@ pub fn every_formatting(run: &mut Run) {
 // The erase of block 0 fails, and with it the erases of the first fills; none takes effect.
 fn failing_fills(world: &World, failing: usize) -> Call {
     let Geometry { blocks, pages, .. } = world.geometry;
-    let mut fates = vec![0; 2 * blocks];
-    fates.push(1 << 16);
+    let mut fates = after_reads(&world.geometry, &[1 << 16]);
     fates.resize(fates.len() + pages + blocks - 1, 0);
     fates.resize(fates.len() + failing, 1 << 16);
     Call { fates, ..world.plain() }

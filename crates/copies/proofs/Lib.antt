@@ -5,3 +5,4 @@ pub mod NumberLaws
 pub mod CompleteLaws
 pub mod QuickLaws
 pub mod QuickTests
+pub mod CarriedLaws

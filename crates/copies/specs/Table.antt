@@ -71,9 +71,23 @@ unfoldable pub rightTo : Geometry → List ℕ → ℕ → Bool
 rightTo g block zero = true
 rightTo g block (suc n) = let less = rightTo g block n in cond (rightPage g n (pageIn g block n)) less false
 
--- 1 or 0 for that, one page more
+-- the geometry with another number of logical blocks
+abbrev pub withLogical : ℕ → Geometry → Geometry
+withLogical n g = record { main = g .main; spare = g .spare; pages = g .pages; blocks = g .blocks; logical = n }
+
+-- the number that a table's page 0 names itself
+abbrev pub ownCount : Geometry → List ℕ → Geometry
+ownCount g block = withLogical (fieldOf (mainIn g block 0) 2) g
+
+-- the layout of the first n pages: 1 right for the geometry, 2 right for the number of logical blocks named in page 0 only, 0 neither
+abbrev pub layoutTo : Geometry → List ℕ → ℕ → ℕ
+layoutTo g block n = cond (rightTo g block n) 1 (cond (rightTo (ownCount g block) block n) 2 0)
+
+-- one page more
 unfoldable pub rightWith : Geometry → ℕ → List ℕ → ℕ → ℕ
-rightWith g p page right = cond (eqb right 0) 0 (cond (rightPage g p page) 1 0)
+rightWith g p page right =
+    cond (eqb right 0) 0
+    (cond (rightPage g p page) right (cond (rightPage (withLogical (fieldOf (take (g .main) page) 2) g) p page) 2 0))
 
 -- a buffer that takes the bitmap of page 0, one page more
 unfoldable pub bitsWith : Geometry → ℕ → List ℕ → List ℕ → List ℕ
@@ -83,3 +97,7 @@ bitsWith g p page bits = cond (eqb p 0) (put 0 (bitmapOf (g .blocks) (take (g .m
 unfoldable pub rightTable : Geometry → (ℕ → Bool) → List ℕ → Bool
 rightTable g marked block =
     cond (rightTo g block (g .pages)) (clearWhere marked (bitmapOf (g .blocks) (mainIn g block 0)) (g .blocks)) false
+
+-- right for the number of logical blocks that it names itself
+unfoldable pub laidTable : Geometry → (ℕ → Bool) → List ℕ → Bool
+laidTable g marked block = rightTable (ownCount g block) marked block

@@ -54,8 +54,8 @@ fn main() {
     show_format(b"three-logical", 3, 0xff, &none, UNCUT);
     show_format(b"busy-255", 2, 0xff, &[255u32], UNCUT);
     show_format(b"busy-256", 2, 0xff, &[256u32], UNCUT);
-    show_format(b"allowed-355", 2, 0xff, &none, 355);
-    show_format(b"allowed-356", 2, 0xff, &none, 356);
+    show_format(b"allowed-1195", 2, 0xff, &none, 1195);
+    show_format(b"allowed-1196", 2, 0xff, &none, 1196);
     writes::show_write(b"write", &none, UNCUT);
     writes::show_write(b"write-busy-255", &[255u32], UNCUT);
     writes::show_write(b"write-busy-256", &[256u32], UNCUT);

@@ -237,7 +237,7 @@ fn show_from(label: &[u8], name: &[u8], allowed: u32, seen: Seen) {
     print_block(seen);
 }
 
-fn print_count(x: usize, word: &[u8]) {
+pub(crate) fn print_count(x: usize, word: &[u8]) {
     io::print_decimal(STDOUT_FILENO, x as u64);
     io::write_all(STDOUT_FILENO, word);
 }
@@ -249,7 +249,7 @@ fn differ(a: Seen, b: Seen) -> bool {
     a.block != b.block
 }
 
-fn is(x: usize, y: usize) -> usize
+pub(crate) fn is(x: usize, y: usize) -> usize
     ensures { λ r. ⌜ r ≤ 1 ⌝ }
 {
     if x == y {

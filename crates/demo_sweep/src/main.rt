@@ -1,6 +1,7 @@
-// A power-cut sweep: a write cut at every cycle with several masks, then a mount, a quick mount and a reading after each; and lists
-// of calls.
+// A power-cut sweep: a write cut at every cycle with several masks, then a mount, a quick mount and a reading after each; a formatting
+// cut at every cycle, then a mount and another formatting; and lists of calls.
 mod cuts;
+mod formattings;
 mod lists;
 
 use libc::STDOUT_FILENO;
@@ -38,6 +39,12 @@ fn main() {
         io::write_all(
             STDOUT_FILENO,
             b"none was anything else, by a mount or by a quick mount\n",
+        );
+    }
+    if formattings::sweep_both() == 0 {
+        io::write_all(
+            STDOUT_FILENO,
+            b"no entry was lost, by the formatting or by another one after it\n",
         );
     }
     lists::show(b"survives:", b"AbM");

@@ -2,7 +2,7 @@
 use Prim.Native.Nat.{ℕ, _*_}
 use mathlib.Core.Bool.{cond}
 use mathlib.Core.List.{List, [], _∷_, _++_}
-use lib.ListN.{replicate, set}
+use lib.ListN.{getD, replicate, set}
 use Rattle.geometry.specs.declared.Geometry.{Geometry}
 use Rattle.geometry.specs.Sizes.{rowOf, rowBytes, columnBytes}
 use Rattle.cells.specs.Part.{put}
@@ -135,7 +135,7 @@ formattedFrom n number fates =
     formatting (setting (record { main = 32; spare = 16; pages = 4; blocks = 4; logical = n }) (replicate 192 0) fates) (chipWith (arrayWith 0 (tableBlock number 0))) 10000 (blank 0)
 
 abbrev pub eraseFails : List ℕ
-eraseFails = replicate 8 0 ++ (65536 ∷ [])
+eraseFails = replicate 16 0 ++ (65536 ∷ [])
 
 abbrev pub programFails : List ℕ
 programFails = eraseFails ++ (replicate 8 0 ++ (65536 ∷ []))
@@ -160,3 +160,13 @@ formatRows =
     ∷ figure (formattedFrom 1 18446744073709551615 eraseFails .answer ∷ []) (9 ∷ [])
     ∷ figure (formattedFrom 2 18446744073709551615 eraseFails .answer ∷ []) (8 ∷ [])
     ∷ []
+
+-- a formatting for one logical block of a chip whose current table, under number 7 in block 0, was filled for two and lists the blocks whose bits one byte
+-- has set
+abbrev pub formattedAgain : ℕ → List ℕ → Result
+formattedAgain bits fates =
+    formatting (setting (record { main = 32; spare = 16; pages = 4; blocks = 4; logical = 1 }) (replicate 192 0) fates) (chipWith (arrayWith 0 (tableBlock 7 bits))) 10000 (blank 0)
+
+-- answer, cycles, the table's block, its number and the first byte of its bitmap
+abbrev pub again : Result → List ℕ
+again r = r .answer ∷ r .sent ∷ r .state .table ∷ r .state .number ∷ getD (r .state .invalid) 0 0 ∷ []

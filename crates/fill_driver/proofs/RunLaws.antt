@@ -15,7 +15,7 @@ use Rattle.bus.specs.Line.{Line}
 use Rattle.bus_polling.specs.Outcomes.{isPassed, isFailed, answered, isProtected}
 use Rattle.bus_polling.specs.declared.Outcome.{Outcome}
 use Rattle.bus_polling.specs.declared.Outcome.the-variants.{Passed, Failed, Silent, Cut, Illegal, Protected}
-use Rattle.operations.specs.Ends.{Lent}
+use Rattle.operations.specs.Ends.{Called, Lent}
 use Rattle.operations.specs.Trace.{ArrayOperation}
 use Rattle.operations.proofs.UnreadyLaws.{called-lent}
 use Rattle.progress.specs.Progress.{Progress, progress}
@@ -25,6 +25,7 @@ use Rattle.fill_cursor.specs.Cursor.{running, firstCursor, prepared, pageAfter,
 use Rattle.fill_cursor.specs.declared.Cursor.{Cursor}
 use Rattle.fill_cursor.specs.declared.Running.{Running}
 use Rattle.fill_cursor.proofs.FitLaws.{prepared-goes, after-goes, prepared-less, after-less}
+use Rattle.fill_cursor.proofs.EndLaws.{prepared-unfinished, after-finished}
 use Rattle.fill_driver.specs.Driver.{performed, Due, Ran, ranTo, gone, goneOn, acted, ran, runFor, RanAs}
 
 pub gone-on : (o : Outcome) → answered o ≡ true → isProtected o ≡ false → gone o ≡ Passed
@@ -116,6 +117,7 @@ pub record Going (s : Setting) (bytes : List ℕ) (most : ℕ) (start : Running)
   pub started : List Cycle → List ArrayOperation → List ArrayOperation
   pub going : (cs : List Cycle) (os : List ArrayOperation) → ran s bytes fuel left r (progress m outcome (cycles cs os) (started cs os)) ≡ runFor s bytes most start (progress l Passed cs os)
   pub opened : r .cursor .phase < 2 → Open s (length bytes) r m outcome
+  pub next-called : start .cursor .phase < 2 → (r .cursor .phase < 2 → ⊥) → r .cursor .answer ≡ 0 → Called s m × (r .state .last < s .geometry .blocks)
 
 pub run-begins : (s : Setting) (bytes : List ℕ) (most : ℕ) (start : Running) (l : Line) → Lent s l → (start .cursor .phase < 2 → Due s (length bytes) (start .cursor) l) → (start .cursor .phase < 2 → start .state .last < s .geometry .blocks)
     → Going s bytes most start l most start l
@@ -128,6 +130,7 @@ run-begins s bytes most start l lent due last =
       started = λ cs os. os;
       going = λ cs os. refl;
       opened = λ h. record { lent = lent; passed = refl; due = due h; last-below = last h };
+      next-called = λ h n. absurd (n h);
     }
 
 module _ (s : Setting) (bytes : List ℕ) (most : ℕ) (start : Running) (l : Line) (left : ℕ) (r : Running) (m : Line) (w : Going s bytes most start l left r m) where
@@ -136,7 +139,7 @@ module _ (s : Setting) (bytes : List ℕ) (most : ℕ) (start : Running) (l : Li
   run-over f =
       let all : (cs : List Cycle) (os : List ArrayOperation) → ranTo (progress m (w .outcome) (w .cycles cs os) (w .started cs os)) r ≡ runFor s bytes most start (progress l Passed cs os) =
       λ cs os. sym (ran-over s bytes r _ (w .fuel) left f) ∙ w .going cs os in
-      record { line-is = λ cs os. ap (λ (x : Ran). x .progress .line) (all cs os); running-is = λ cs os. ap (λ (x : Ran). x .running) (all cs os) }
+      record { line-is = λ cs os. ap (λ (x : Ran). x .progress .line) (all cs os); running-is = λ cs os. ap (λ (x : Ran). x .running) (all cs os); next-called = w .next-called }
 
   module _ (t : isOpen (r .cursor) left ≡ true) where
     pub is-open : Open s (length bytes) r m (w .outcome)
@@ -183,6 +186,7 @@ module _ (s : Setting) (bytes : List ℕ) (most : ℕ) (start : Running) (l : Li
                   due = record { fits = x .0 .fits; ready = λ e. absurd (omega (arith, e, x .1)); in-order = λ e. absurd (omega (arith, e, x .1)) };
                   last-below = x .0 .last-below;
                 };
+            next-called = λ h n z. absurd (prepared-unfinished g (r .cursor) (r .state) (open-phase (r .cursor) left t) n z);
           }
 
     -- the erase or the page that was due comes to line m' with outcome o
@@ -227,6 +231,9 @@ module _ (s : Setting) (bytes : List ℕ) (most : ℕ) (start : Running) (l : Li
                   };
                   last-below = x .0 .last-below;
                 };
+            next-called = λ h n z.
+                let x = after-finished (g .pages) (g .blocks) (r .cursor) (r .state) (open-phase (r .cursor) left t) (a .due .fits .block-below (omega (arith, some))) o n z in
+                (q .next-called (x .0), x .1);
           }
 
       -- the same of a cursor and state that equal the next

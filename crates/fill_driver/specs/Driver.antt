@@ -1,5 +1,5 @@
 -- A write or erase run on the chip: what is due is performed, one action after the other.
-use Prim.Native.Nat.{ℕ, zero, suc, _-_, _≤_}
+use Prim.Native.Nat.{ℕ, zero, suc, _-_, _≤_, _<_}
 use mathlib.Core.Bool.{cond}
 use mathlib.Core.List.{List}
 use mathlib.Core.Path.{_≡_}
@@ -13,6 +13,7 @@ use Rattle.bus.specs.Line.{Line}
 use Rattle.bus_polling.specs.Outcomes.{isFailed}
 use Rattle.bus_polling.specs.declared.Outcome.{Outcome}
 use Rattle.bus_polling.specs.declared.Outcome.the-variants.{Passed}
+use Rattle.operations.specs.Ends.{Called}
 use Rattle.operations.specs.Trace.{ArrayOperation}
 use Rattle.progress.specs.Progress.{Progress, progress}
 use Rattle.progress.specs.Steps.{eraseOn}
@@ -82,7 +83,9 @@ ran s bytes (suc n) left r p =
 abbrev pub runFor : Setting → List ℕ → ℕ → Running → Progress → Ran
 runFor s bytes left r p = ran s bytes (actionsMost left r) left r p
 
--- a run from line l, which comes to line m
+-- a run from line l, which comes to line m; if it ends with answer 0, the chip takes the next command, and the search for the next block starts on
+-- the chip
 pub record RanAs (s : Setting) (bytes : List ℕ) (left : ℕ) (start : Running) (l m : Line) (r : Running) : Type 0 where
   pub line-is : (cs : List Cycle) (os : List ArrayOperation) → m ≡ runFor s bytes left start (progress l Passed cs os) .progress .line
   pub running-is : (cs : List Cycle) (os : List ArrayOperation) → r ≡ runFor s bytes left start (progress l Passed cs os) .running
+  pub next-called : start .cursor .phase < 2 → (r .cursor .phase < 2 → ⊥) → r .cursor .answer ≡ 0 → Called s m × (r .state .last < s .geometry .blocks)

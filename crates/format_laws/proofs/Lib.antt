@@ -1,8 +1,11 @@
 pub mod CountLaws
+pub mod RaisedLaws
 pub mod TableBlockLaws
+pub mod SurveyedLaws
 pub mod SettledLaws
 pub mod TablesLaws
 pub mod RoundLaws
+pub mod LateLaws
 pub mod FormatLaws
 pub mod FormattingLaws
 pub mod ProtectLaws

@@ -1,5 +1,5 @@
 -- A formatting of a chip whose write-protect line is low: what it answers, and that it starts nothing but reads. Assumes nothing.
-use Prim.Native.Nat.{ℕ, zero, suc, _-_, _≤_}
+use Prim.Native.Nat.{ℕ, _-_, _≤_}
 use mathlib.Core.Bool.{true, false}
 use mathlib.Core.List.{List, []}
 use mathlib.Core.Logic.{_⊎_, inl, inr, ⊎-elim}
@@ -7,7 +7,6 @@ use mathlib.Core.Path.{_≡_, refl, sym, ap, subst, _∙_}
 use borrow.Table.Steps.{cases}
 use borrow.Author.Tests.{ne-eqb, le-ltb, ltb-false}
 use lib.Dec.{ltb}
-use Rattle.geometry.specs.Sizes.{rowOf}
 use Rattle.chip_interface.specs.Interface.{inPhase}
 use Rattle.chip_array.specs.Device.{Device, Setting, withInterface}
 use Rattle.bus.specs.Line.{Line, sendAll, uncutLine}
@@ -22,23 +21,16 @@ use Rattle.state.specs.State.{blank}
 use Rattle.state.specs.declared.State.{State}
 use Rattle.request.specs.Call.{Result, result, sizedFor, callLine, resultOf, stopAnswer, statusAnswer, statusState}
 use Rattle.request.proofs.CallLaws.{stop-answer}
-use Rattle.progress.specs.Progress.{Progress, progress, lineOf, readOn, resetOn, statusOn}
+use Rattle.progress.specs.Progress.{Progress, progress, lineOf, resetOn, statusOn}
 use Rattle.progress.proofs.StatusLaws.{status-line}
-use Rattle.format_marks.specs.Marks.{marksRead}
+use Rattle.scan.proofs.KeepLaws.{blocks-reads}
+use Rattle.scan_summary.specs.declared.Depth.the-variants.{Full}
 use Rattle.fill_tables.specs.Tables.{Tabled, tabled, endOfRun}
 use Rattle.format.specs.Format.{formatRun, formatRequest, formatting}
 use Rattle.damage.specs.Touched.{Each}
 use Rattle.damage.proofs.TouchLaws.{Reads, read-reads}
-use Rattle.format_laws.specs.Formatting.{marksDone, statusDone}
-use Rattle.format_laws.proofs.FormatLaws.{unmarked-is, status-same, status-is, marks-left, marks-line, same-array, same-history, status-cut, status-low}
-
-module _ (s : Setting) where
-  marks-reads : (n : ℕ) (p : Progress) → Reads p → Reads (marksRead s n p)
-  unfolding marksRead
-  marks-reads zero p h = h
-  marks-reads (suc n) p h =
-      read-reads s (rowOf (s .geometry) n 1) (s .geometry .main) 1 (readOn s (rowOf (s .geometry) n 0) (s .geometry .main) 1 (marksRead s n p))
-      (read-reads s (rowOf (s .geometry) n 0) (s .geometry .main) 1 (marksRead s n p) (marks-reads n p h))
+use Rattle.format_laws.specs.Formatting.{readsDone, statusDone}
+use Rattle.format_laws.proofs.FormatLaws.{unread-is, status-same, status-is, reads-left, reads-line, same-array, same-history, status-cut, status-low}
 
 -- what a formatting leaves then, os the operations that it started: it is silent, cut or protected, array and history are as they were,
 -- and it started nothing but reads
@@ -51,19 +43,19 @@ pub record Untouched (d : Device) (r : Result) (os : List ArrayOperation) : Type
 -- the sizes go together, and the line is low
 module _ (s : Setting) (d : Device) (n : ℕ) (state : State) (t : sizedFor s d ≡ true) (low : d .interface .protected ≡ 0 → ⊥) where
   abbrev q : Progress
-  q = marksDone s d n
+  q = readsDone s d n
 
   line-low : lineOf q ≡ 0 → ⊥
-  line-low e = low (sym (marks-line s d n t) ∙ e)
+  line-low e = low (sym (reads-line s d n t) ∙ e)
 
   run-is : formatting s d n state ≡ endOfRun n (formatRun s d n state)
   unfolding resultOf formatRequest
   run-is = rw t
 
-  -- the marks passed, and two cycles are left
+  -- the page reads passed, and two cycles are left
   module _ (y : isPassed (q .outcome) ≡ true) (h : 2 ≤ q .line .left) where
     called : Called s (q .line)
-    called = marks-left s d n t .sound .called (passed-answered (q .outcome) y)
+    called = reads-left s d n t .sound .called (passed-answered (q .outcome) y)
 
     abbrev shown : Device
     shown = withInterface (inPhase 1 (q .line .chip .interface)) (q .line .chip)
@@ -95,7 +87,7 @@ module _ (s : Setting) (d : Device) (n : ℕ) (state : State) (t : sizedFor s d 
   status-reads : Reads (statusDone s d n)
   unfolding statusOn
   status-reads =
-      let reads = marks-reads s (s .geometry .blocks) (resetOn s (progress (callLine d n) Passed [] [])) begun-reads in
+      let reads = blocks-reads Full s Reads (read-reads s) (s .geometry .blocks) (resetOn s (progress (callLine d n) Passed [] [])) begun-reads in
       cases (isPassed (q .outcome)) (λ y. rw y reads) (λ f. rw f reads)
 
   ends-so : (a : ℕ) (st : State) → (a ≡ 10) ⊎ ((a ≡ 11) ⊎ (a ≡ 13)) → Ends (tabled (statusDone s d n) a st)
@@ -105,8 +97,8 @@ module _ (s : Setting) (d : Device) (n : ℕ) (state : State) (t : sizedFor s d 
   unpassed : isPassed (q .outcome) ≡ false → Ends (formatRun s d n state)
   unpassed f =
       subst Ends {x = tabled (statusDone s d n) (stopAnswer (q .outcome)) (blank 2)}
-      (ap (λ (x : Progress). tabled x (stopAnswer (q .outcome)) (blank 2)) (status-same s d n f) ∙ sym (unmarked-is s d n state f))
-      (ends-so _ (blank 2) (⊎-elim (λ e. inl e) (λ e. inr (inl e)) (stop-answer (q .outcome) (marks-left s d n t .ends) f)))
+      (ap (λ (x : Progress). tabled x (stopAnswer (q .outcome)) (blank 2)) (status-same s d n f) ∙ sym (unread-is s d n state f))
+      (ends-so _ (blank 2) (⊎-elim (λ e. inl e) (λ e. inr (inl e)) (stop-answer (q .outcome) (reads-left s d n t .ends) f)))
 
   cut : isPassed (q .outcome) ≡ true → ltb (q .line .left) 2 ≡ true → Ends (formatRun s d n state)
   unfolding isPassed isProtected isSilent isCut statusAnswer stopAnswer

@@ -1,4 +1,4 @@
--- The first round of erases: every unmarked block is erased, or is invalid and its greatest number is known. Assumes nothing.
+-- The first round of erases: every block that is not passed over is erased, or is invalid and its greatest number is known. Assumes nothing.
 use Prim.Native.Nat.{ℕ, zero, suc, _+_, _*_, _/_, _≤_, _<_, max}
 use mathlib.Core.Bool.{Bool, true, false, cond, true≢false, false≢true}
 use mathlib.Core.List.{List}
@@ -65,21 +65,21 @@ module _ (g : Geometry) (v : Valid g) (row ms : List ℕ) (long : length row ≡
       (λ b. absurd (true≢false (sym (rw (a, b)) ∙ f))))
       (λ a. absurd (true≢false (sym (rw a) ∙ f)))
 
-  raised-no-mark : isMarked g row ≡ false → isMarked g (raised row ms) ≡ false
+  pub raised-no-mark : isMarked g row ≡ false → isMarked g (raised row ms) ≡ false
   raised-no-mark f =
       let full = bytes-full f in
       no-mark g (raised row ms) (byte-raised 0 (omega (arith, v .pages-least)) (full .0)) (byte-raised 1 (omega (arith, v .pages-least)) (full .1))
 
--- the first n blocks led from p to r
-pub record Rounded (s : Setting) (marked : List ℕ) (p : Progress) (n : ℕ) (r : Round) : Type 0 where
+-- the first n blocks led from p to r; those of a bitmap are passed over
+pub record Rounded (s : Setting) (skip : List ℕ) (p : Progress) (n : ℕ) (r : Round) : Type 0 where
   pub sound : Sound s (r .progress)
   pub ends : isReadEnd (r .progress .outcome) ≡ true
-  pub marked-kept : (b : ℕ) → b < s .geometry .blocks → bitAt marked b ≡ true → blockOn s (r .progress) b ≡ blockOn s p b
+  pub kept : (b : ℕ) → b < s .geometry .blocks → bitAt skip b ≡ true → blockOn s (r .progress) b ≡ blockOn s p b
   pub ahead : (b : ℕ) → b < s .geometry .blocks → n ≤ b → blockOn s (r .progress) b ≡ blockOn s p b
   pub invalid-bits : Bitmap (s .geometry .blocks) (r .invalid)
-  pub apart : (b : ℕ) → b < s .geometry .blocks → bitAt marked b ≡ true → bitAt (r .invalid) b ≡ false
+  pub apart : (b : ℕ) → b < s .geometry .blocks → bitAt skip b ≡ true → bitAt (r .invalid) b ≡ false
   pub later : (b : ℕ) → b < s .geometry .blocks → n ≤ b → bitAt (r .invalid) b ≡ false
-  pub erased : isPassed (r .progress .outcome) ≡ true → (b : ℕ) → b < n → bitAt marked b ≡ false → bitAt (r .invalid) b ≡ false → blockOn s (r .progress) b ≡ replicate (blockSize (s .geometry)) 255
+  pub erased : isPassed (r .progress .outcome) ≡ true → (b : ℕ) → b < n → bitAt skip b ≡ false → bitAt (r .invalid) b ≡ false → blockOn s (r .progress) b ≡ replicate (blockSize (s .geometry)) 255
   pub unmarked : isPassed (r .progress .outcome) ≡ true → (b : ℕ) → b < n → bitAt (r .invalid) b ≡ true → isMarked (s .geometry) (blockOn s (r .progress) b) ≡ false
   pub numbers : isPassed (r .progress .outcome) ≡ true → (b : ℕ) → b < n → bitAt (r .invalid) b ≡ true → greatestTo (s .geometry) (blockOn s (r .progress) b) (s .geometry .pages) ≤ r .numbers .greatest
   pub spent : Spent p (r .progress) (n * blockMost (s .geometry))
@@ -88,19 +88,19 @@ pub record Rounded (s : Setting) (marked : List ℕ) (p : Progress) (n : ℕ) (r
   pub none-greatest : r .numbers .any ≡ 0 → r .numbers .greatest ≡ 0
   pub greatest-by : (r .numbers .greatest ≡ 0 → ⊥) → Failing (s .fates)
 
-module _ (s : Setting) (v : Valid (s .geometry)) (mask-bytes : Bytes (s .mask)) (marked : List ℕ) (p : Progress) (marks : (b : ℕ) → b < s .geometry .blocks → isMarked (s .geometry) (blockOn s p b) ≡ bitAt marked b) where
+module _ (s : Setting) (v : Valid (s .geometry)) (mask-bytes : Bytes (s .mask)) (skip : List ℕ) (p : Progress) (clear : (b : ℕ) → b < s .geometry .blocks → bitAt skip b ≡ false → isMarked (s .geometry) (blockOn s p b) ≡ false) where
   next-round : ℕ → Round → Round
   next-round n r =
-      round (blockErased s marked n (r .progress))
-      (cond (failedAt s marked n (r .progress)) (withBit (r .invalid) n) (r .invalid))
-      (joined (r .numbers) (numbersAt s marked n (r .progress)))
+      round (blockErased s skip n (r .progress))
+      (cond (failedAt s skip n (r .progress)) (withBit (r .invalid) n) (r .invalid))
+      (joined (r .numbers) (numbersAt s skip n (r .progress)))
 
-  one-round : (n : ℕ) → erasedTo s marked (suc n) p ≡ next-round n (erasedTo s marked n p)
+  one-round : (n : ℕ) → erasedTo s skip (suc n) p ≡ next-round n (erasedTo s skip n p)
   unfolding erasedTo next-round
   one-round n = refl
 
   -- a block that is passed over
-  module _ (n : ℕ) (r : Round) (x : Rounded s marked p n r) where
+  module _ (n : ℕ) (r : Round) (x : Rounded s skip p n r) where
     more : suc n * blockMost (s .geometry) ≡ n * blockMost (s .geometry) + blockMost (s .geometry)
     more = suc-mul n (blockMost (s .geometry))
 
@@ -109,31 +109,31 @@ module _ (s : Setting) (v : Valid (s .geometry)) (mask-bytes : Bytes (s .mask)) 
     stopped-is f =
         let unfailed : isFailed (eraseOn s n (r .progress) .outcome) ≡ false =
         ap (λ (q : Progress). isFailed (q .outcome)) (erase-stopped s n (r .progress) f) ∙ read-end-unfailed (r .progress .outcome) (x .ends) in
-        cases (bitAt marked n) (λ t. rw (f, t)) (λ t. rw (f, t, unfailed))
+        cases (bitAt skip n) (λ t. rw (f, t)) (λ t. rw (f, t, unfailed))
 
-    marked-is : isPassed (r .progress .outcome) ≡ true → bitAt marked n ≡ true → r ≡ next-round n r
+    skipped-is : isPassed (r .progress .outcome) ≡ true → bitAt skip n ≡ true → r ≡ next-round n r
     unfolding next-round blockErased failedAt joined numbersAt
-    marked-is t m = rw (t, m)
+    skipped-is t m = rw (t, m)
 
     module _ (below : n < s .geometry .blocks) (high : lineOf (r .progress) ≡ 0) where
       unlisted : {A : Type 0} → bitAt (r .invalid) n ≡ true → A
       unlisted t = absurd (false≢true (sym (x .later n below (omega arith)) ∙ t))
 
-      due : (bitAt marked n ≡ true) ⊎ (isPassed (r .progress .outcome) ≡ false) → isPassed (r .progress .outcome) ≡ true → bitAt marked n ≡ false → ⊥
+      due : (bitAt skip n ≡ true) ⊎ (isPassed (r .progress .outcome) ≡ false) → isPassed (r .progress .outcome) ≡ true → bitAt skip n ≡ false → ⊥
       due why y m = ⊎-elim (λ t. false≢true (sym m ∙ t)) (λ f. false≢true (sym f ∙ y)) why
 
-      passed-over : (bitAt marked n ≡ true) ⊎ (isPassed (r .progress .outcome) ≡ false) → Rounded s marked p (suc n) r
+      passed-over : (bitAt skip n ≡ true) ⊎ (isPassed (r .progress .outcome) ≡ false) → Rounded s skip p (suc n) r
       passed-over why =
           record {
             sound = x .sound;
             ends = x .ends;
-            marked-kept = x .marked-kept;
+            kept = x .kept;
             ahead = λ b h l. x .ahead b h (omega (arith, l));
             invalid-bits = x .invalid-bits;
             apart = x .apart;
             later = λ b h l. x .later b h (omega (arith, l));
             erased = λ y b l.
-                up-to (λ k. bitAt marked k ≡ false → bitAt (r .invalid) k ≡ false → blockOn s (r .progress) k ≡ replicate (blockSize (s .geometry)) 255) n b l (x .erased y b) (λ m f. absurd (due why y m));
+                up-to (λ k. bitAt skip k ≡ false → bitAt (r .invalid) k ≡ false → blockOn s (r .progress) k ≡ replicate (blockSize (s .geometry)) 255) n b l (x .erased y b) (λ m f. absurd (due why y m));
             unmarked = λ y b l. up-to (λ k. bitAt (r .invalid) k ≡ true → isMarked (s .geometry) (blockOn s (r .progress) k) ≡ false) n b l (x .unmarked y b) unlisted;
             numbers = λ y b l.
                 up-to (λ k. bitAt (r .invalid) k ≡ true → greatestTo (s .geometry) (blockOn s (r .progress) k) (s .geometry .pages) ≤ r .numbers .greatest) n b l (x .numbers y b) unlisted;
@@ -145,7 +145,7 @@ module _ (s : Setting) (v : Valid (s .geometry)) (mask-bytes : Bytes (s .mask)) 
           }
 
       -- a block that is erased
-      module _ (t : isPassed (r .progress .outcome) ≡ true) (free : bitAt marked n ≡ false) where
+      module _ (t : isPassed (r .progress .outcome) ≡ true) (free : bitAt skip n ≡ false) where
         abbrev q : Progress
         q = r .progress
 
@@ -158,11 +158,11 @@ module _ (s : Setting) (v : Valid (s .geometry)) (mask-bytes : Bytes (s .mask)) 
         left : Erased s q e n
         left = erase-leaves s q n below t called high
 
-        off-marked : (b : ℕ) → bitAt marked b ≡ true → b ≡ n → ⊥
-        off-marked b m same = false≢true (sym free ∙ ap (bitAt marked) (sym same) ∙ m)
+        off-skipped : (b : ℕ) → bitAt skip b ≡ true → b ≡ n → ⊥
+        off-skipped b m same = false≢true (sym free ∙ ap (bitAt skip) (sym same) ∙ m)
 
-        others-marked : (b : ℕ) → b < s .geometry .blocks → bitAt marked b ≡ true → blockOn s e b ≡ blockOn s p b
-        others-marked b h m = left .others b h (off-marked b m) ∙ x .marked-kept b h m
+        others-skipped : (b : ℕ) → b < s .geometry .blocks → bitAt skip b ≡ true → blockOn s e b ≡ blockOn s p b
+        others-skipped b h m = left .others b h (off-skipped b m) ∙ x .kept b h m
 
         others-ahead : (b : ℕ) → b < s .geometry .blocks → suc n ≤ b → blockOn s e b ≡ blockOn s p b
         others-ahead b h l = left .others b h (λ same. omega (arith, same, l)) ∙ x .ahead b h (omega (arith, l))
@@ -176,18 +176,18 @@ module _ (s : Setting) (v : Valid (s .geometry)) (mask-bytes : Bytes (s .mask)) 
           unfolding next-round blockErased afterErase failedAt joined numbersAt
           unfailed-is = rw (t, free, f)
 
-          unfailed : Rounded s marked p (suc n) (round e (r .invalid) (r .numbers))
+          unfailed : Rounded s skip p (suc n) (round e (r .invalid) (r .numbers))
           unfailed =
               record {
                 sound = left .sound;
                 ends = unfailed-end (e .outcome) (left .sound .known) f (left .sound .unprotected);
-                marked-kept = others-marked;
+                kept = others-skipped;
                 ahead = others-ahead;
                 invalid-bits = x .invalid-bits;
                 apart = x .apart;
                 later = λ b h l. x .later b h (omega (arith, l));
                 erased = λ y b l.
-                    up-to (λ k. bitAt marked k ≡ false → bitAt (r .invalid) k ≡ false → blockOn s e k ≡ replicate (blockSize (s .geometry)) 255) n b l
+                    up-to (λ k. bitAt skip k ≡ false → bitAt (r .invalid) k ≡ false → blockOn s e k ≡ replicate (blockSize (s .geometry)) 255) n b l
                     (λ h m c. others-before b h ∙ x .erased t b h m c) (λ m c. left .whole y);
                 unmarked = λ y b l.
                     up-to (λ k. bitAt (r .invalid) k ≡ true → isMarked (s .geometry) (blockOn s e k) ≡ false) n b l
@@ -240,7 +240,7 @@ module _ (s : Setting) (v : Valid (s .geometry)) (mask-bytes : Bytes (s .mask)) 
           same-block b = ap (λ (a : List ℕ). blockIn (s .geometry) a b) (unchanged .same-array)
 
           was-unmarked : isMarked (s .geometry) (blockOn s q n) ≡ false
-          was-unmarked = ap (isMarked (s .geometry)) (x .ahead n below (omega arith)) ∙ marks n below ∙ free
+          was-unmarked = ap (isMarked (s .geometry)) (x .ahead n below (omega arith)) ∙ clear n below free
 
           still-unmarked : isMarked (s .geometry) (blockOn s e n) ≡ false
           still-unmarked =
@@ -267,18 +267,18 @@ module _ (s : Setting) (v : Valid (s .geometry)) (mask-bytes : Bytes (s .mask)) 
               ∙ ap (λ (y : Bool). cond y true (cond (eqb n b) true false)) (x .failures b h)
               ∙ bit-more (r .invalid) n b byte-there
 
-          failed : Rounded s marked p (suc n) (round scanned (withBit (r .invalid) n) all-numbers)
+          failed : Rounded s skip p (suc n) (round scanned (withBit (r .invalid) n) all-numbers)
           failed =
               record {
                 sound = unchanged .sound;
                 ends = unchanged .ends;
-                marked-kept = λ b h m. same-block b ∙ others-marked b h m;
+                kept = λ b h m. same-block b ∙ others-skipped b h m;
                 ahead = λ b h l. same-block b ∙ others-ahead b h l;
                 invalid-bits = bits-more (s .geometry .blocks) (r .invalid) n (v .blocks-most) below (x .invalid-bits);
-                apart = λ b h m. bit-kept (r .invalid) n b (off-marked b m) ∙ x .apart b h m;
+                apart = λ b h m. bit-kept (r .invalid) n b (off-skipped b m) ∙ x .apart b h m;
                 later = λ b h l. bit-kept (r .invalid) n b (λ same. omega (arith, same, l)) ∙ x .later b h (omega (arith, l));
                 erased = λ y b l.
-                    up-to (λ k. bitAt marked k ≡ false → bitAt (withBit (r .invalid) n) k ≡ false → blockOn s scanned k ≡ replicate (blockSize (s .geometry)) 255) n b l
+                    up-to (λ k. bitAt skip k ≡ false → bitAt (withBit (r .invalid) n) k ≡ false → blockOn s scanned k ≡ replicate (blockSize (s .geometry)) 255) n b l
                     (λ h m c. same-block b ∙ others-before b h ∙ x .erased t b h m (sym (bit-before b h) ∙ c))
                     (λ m c. absurd (true≢false (sym (bit-set (r .invalid) n byte-there) ∙ c)));
                 unmarked = λ y b l.
@@ -298,25 +298,25 @@ module _ (s : Setting) (v : Valid (s .geometry)) (mask-bytes : Bytes (s .mask)) 
                 greatest-by = λ z. left .sound .failed-by w;
               }
 
-      round-next : Rounded s marked p (suc n) (next-round n r)
+      round-next : Rounded s skip p (suc n) (next-round n r)
       round-next =
           cases (isPassed (r .progress .outcome))
           (λ t.
-          cases (bitAt marked n)
-          (λ m. subst (Rounded s marked p (suc n)) (marked-is t m) (passed-over (inl m)))
+          cases (bitAt skip n)
+          (λ m. subst (Rounded s skip p (suc n)) (skipped-is t m) (passed-over (inl m)))
           (λ free.
           cases (isFailed (eraseOn s n (r .progress) .outcome))
-          (λ w. subst (Rounded s marked p (suc n)) (failed-is t free w) (failed t free w))
-          (λ f. subst (Rounded s marked p (suc n)) (unfailed-is t free f) (unfailed t free f))))
-          (λ f. subst (Rounded s marked p (suc n)) (stopped-is f) (passed-over (inr f)))
+          (λ w. subst (Rounded s skip p (suc n)) (failed-is t free w) (failed t free w))
+          (λ f. subst (Rounded s skip p (suc n)) (unfailed-is t free f) (unfailed t free f))))
+          (λ f. subst (Rounded s skip p (suc n)) (stopped-is f) (passed-over (inr f)))
 
-  pub round-leaves : Sound s p → isReadEnd (p .outcome) ≡ true → ((b : ℕ) → failedIn b (p .started) ≡ false) → lineOf p ≡ 0 → (n : ℕ) → n ≤ s .geometry .blocks → Rounded s marked p n (erasedTo s marked n p)
+  pub round-leaves : Sound s p → isReadEnd (p .outcome) ≡ true → ((b : ℕ) → failedIn b (p .started) ≡ false) → lineOf p ≡ 0 → (n : ℕ) → n ≤ s .geometry .blocks → Rounded s skip p n (erasedTo s skip n p)
   unfolding erasedTo
   round-leaves sound ends none high zero h =
       record {
         sound = sound;
         ends = ends;
-        marked-kept = λ b l m. refl;
+        kept = λ b l m. refl;
         ahead = λ b l k. refl;
         invalid-bits = bits-none (s .geometry .blocks);
         apart = λ b l m. blank-bit 512 b;
@@ -331,4 +331,4 @@ module _ (s : Setting) (v : Valid (s .geometry)) (mask-bytes : Bytes (s .mask)) 
         greatest-by = λ z. absurd (z refl);
       }
   round-leaves sound ends none high (suc n) h =
-      subst (Rounded s marked p (suc n)) (sym (one-round n)) (round-next n (erasedTo s marked n p) (round-leaves sound ends none high n (omega (arith, h))) (omega (arith, h)) (round-keeps s (λ q. lineOf q ≡ 0) (line-kept s 0) marked n p high))
+      subst (Rounded s skip p (suc n)) (sym (one-round n)) (round-next n (erasedTo s skip n p) (round-leaves sound ends none high n (omega (arith, h))) (omega (arith, h)) (round-keeps s (λ q. lineOf q ≡ 0) (line-kept s 0) skip n p high))

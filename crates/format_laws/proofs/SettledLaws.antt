@@ -2,10 +2,11 @@
 use Prim.Native.Nat.{ℕ, zero, suc, _≤_, _<_}
 use mathlib.Core.Bool.{true, false, cond, false≢true}
 use mathlib.Core.List.{List}
+use mathlib.Core.Logic.{_⊎_, inl, inr, ⊎-elim}
 use mathlib.Core.Path.{_≡_, sym, ap, subst, _∙_}
 use native.Mathlib.Omega.{arith}
 use borrow.Table.Steps.{cases}
-use borrow.Author.Tests.{eqb-true, eqb-false, not-true}
+use borrow.Author.Tests.{eqb-true, eqb-false, ne-eqb, not-true}
 use lib.Dec.{eqb}
 use lib.ListN.{length, replicate, length-replicate, getD-replicate}
 use Rattle.geometry.specs.declared.Geometry.{Geometry}
@@ -32,8 +33,8 @@ use Rattle.state.specs.State.{numberEnd}
 use Rattle.format_laws.proofs.TableBlockLaws as held
 
 -- a table under a number lists the invalid blocks; every other unmarked block is erased, or is listed and has no whole
--- page with that number or a greater one
-pub record Settled (g : Geometry) (array invalid : List ℕ) (table number : ℕ) : Type 0 where
+-- page with that number or a greater one, or is the former table's: block `former`, none if it is not on the chip
+pub record Settled (g : Geometry) (array invalid : List ℕ) (table former number : ℕ) : Type 0 where
   pub is-valid : Valid g
   pub array-long : length array ≡ chipSize g
   pub invalid-bits : Bitmap (g .blocks) invalid
@@ -42,12 +43,14 @@ pub record Settled (g : Geometry) (array invalid : List ℕ) (table number : ℕ
   pub number-some : 0 < number
   pub number-fits : number < numberEnd
   pub table-pages : (i : ℕ) → i < g .pages → pageIn g (blockIn g array table) i ≡ copyPage g (tableCopy number) i (tableMain g invalid i)
-  pub erased : (b : ℕ) → b < g .blocks → (b ≡ table → ⊥) → isMarked g (blockIn g array b) ≡ false → bitAt invalid b ≡ false
+  pub erased : (b : ℕ) → b < g .blocks → (b ≡ table → ⊥) → (b ≡ former → ⊥) → isMarked g (blockIn g array b) ≡ false → bitAt invalid b ≡ false
       → (i : ℕ) → i < g .pages → pageIn g (blockIn g array b) i ≡ replicate (pageSize g) 255
   pub listed : (b : ℕ) → b < g .blocks → isMarked g (blockIn g array b) ≡ false → bitAt invalid b ≡ true → greatestTo g (blockIn g array b) (g .pages) < number
   pub apart : (b : ℕ) → b < g .blocks → isMarked g (blockIn g array b) ≡ true → bitAt invalid b ≡ false
+  pub former-lower : former < g .blocks → greatestTo g (blockIn g array former) (g .pages) < number
+  pub former-no-data : former < g .blocks → isData g (blockIn g array former) ≡ false
 
-module _ {g : Geometry} {array invalid : List ℕ} {table number : ℕ} (r : Settled g array invalid table number) where
+module _ {g : Geometry} {array invalid : List ℕ} {table former number : ℕ} (r : Settled g array invalid table former number) where
   abbrev row : ℕ → List ℕ
   row b = blockIn g array b
 
@@ -70,27 +73,38 @@ module _ {g : Geometry} {array invalid : List ℕ} {table number : ℕ} (r : Set
   pub number-is : numberAt g array table ≡ number
   number-is = held.number-is g v invalid (r .invalid-bits) number (r .number-fits) (row table) (r .table-pages)
 
-  table-no-data : isData g (row table) ≡ false
+  pub table-no-data : isData g (row table) ≡ false
   table-no-data = held.table-no-data g v invalid (r .invalid-bits) number (r .number-fits) (row table) (r .table-pages)
 
   pub bitmap-back : bitsAt g array table ≡ invalid
   bitmap-back = held.bitmap-back g v invalid (r .invalid-bits) number (r .number-fits) (row table) (r .table-pages)
 
-  -- nothing unlisted is complete but the table
-  pub only-table : (b : ℕ) → b < g .blocks → isComplete g (row b) ≡ true → bitAt invalid b ≡ false → b ≡ table
+  pub table-greatest : greatestTo g (row table) (g .pages) ≡ number
+  table-greatest = held.table-greatest g v invalid (r .invalid-bits) number (r .number-fits) (row table) (r .table-pages)
+
+  -- nothing unlisted is complete but the table and the former one
+  pub only-table : (b : ℕ) → b < g .blocks → isComplete g (row b) ≡ true → bitAt invalid b ≡ false → (b ≡ table) ⊎ (b ≡ former)
   only-table b h t f =
       cases (eqb b table)
-      (λ e. eqb-true b table e)
+      (λ e. inl (eqb-true b table e))
       (λ e.
-      let blank = erased-unwhole g v (row b) (r .erased b h (eqb-false b table e) (complete-pages g (row b) t .unmarked) f) 0 zero-below in
-      absurd (false≢true (sym blank ∙ complete-pages g (row b) t .is-whole 0 zero-below)))
+      cases (eqb b former)
+      (λ u. inr (eqb-true b former u))
+      (λ u.
+      let blank = erased-unwhole g v (row b) (r .erased b h (eqb-false b table e) (eqb-false b former u) (complete-pages g (row b) t .unmarked) f) 0 zero-below in
+      absurd (false≢true (sym blank ∙ complete-pages g (row b) t .is-whole 0 zero-below))))
 
   -- every other block's numbers are lower
   lower : (b : ℕ) → b < g .blocks → (b ≡ table → ⊥) → isMarked g (row b) ≡ false → greatestTo g (row b) (g .pages) < number
   lower b h x m =
+      cases (eqb b former)
+      (λ e.
+      let at-former = eqb-true b former e in
+      subst (λ (k : ℕ). greatestTo g (row k) (g .pages) < number) (sym at-former) (r .former-lower (omega (arith, h, at-former))))
+      (λ e.
       cases (bitAt invalid b)
       (λ t. r .listed b h m t)
-      (λ f. omega (arith, r .number-some, erased-greatest g v (row b) (r .erased b h x m f)))
+      (λ f. omega (arith, r .number-some, erased-greatest g v (row b) (r .erased b h x (eqb-false b former e) m f))))
 
   lower-complete : (b : ℕ) → b < g .blocks → (b ≡ table → ⊥) → isComplete g (row b) ≡ true → numberAt g array b < number
   lower-complete b h x t =
@@ -118,7 +132,7 @@ module _ {g : Geometry} {array invalid : List ℕ} {table number : ℕ} (r : Set
 
   greatest-table : greatest g (row table) ≡ number
   unfolding greatest
-  greatest-table = rw (held.table-unmarked g v invalid (r .invalid-bits) number (r .number-fits) (row table) (r .table-pages)) (held.table-greatest g v invalid (r .invalid-bits) number (r .number-fits) (row table) (r .table-pages))
+  greatest-table = rw (held.table-unmarked g v invalid (r .invalid-bits) number (r .number-fits) (row table) (r .table-pages)) table-greatest
 
   greatest-other : (b : ℕ) → b < g .blocks → (b ≡ table → ⊥) → greatest g (row b) < number
   unfolding greatest
@@ -155,6 +169,13 @@ module _ {g : Geometry} {array invalid : List ℕ} {table number : ℕ} (r : Set
   unlisted-bit : (b : ℕ) → b < g .blocks → unlisted g array table b ≡ true → bitAt invalid b ≡ false
   unlisted-bit b h t = sym (lists-invalid b h) ∙ not-true (lists g (row table) b) t
 
+  no-data : (b : ℕ) → b < g .blocks → isComplete g (row b) ≡ true → bitAt invalid b ≡ false → isData g (row b) ≡ false
+  no-data b h t f =
+      ⊎-elim
+      (λ e. ap (λ (k : ℕ). isData g (row k)) e ∙ table-no-data)
+      (λ e. ap (λ (k : ℕ). isData g (row k)) e ∙ r .former-no-data (omega (arith, h, e)))
+      (only-table b h t f)
+
   pub no-copy : (logical : ℕ) → currentCopy g array table logical ≡ nothing
   unfolding currentCopy
   no-copy logical =
@@ -165,32 +186,35 @@ module _ {g : Geometry} {array invalid : List ℕ} {table number : ℕ} (r : Set
       none-passes k h t =
           let parts = both (unlisted g array table k) (isCopyOf g logical (row k)) t in
           let copy = copy-data g logical (row k) (parts .1) .0 in
-          let here = only-table k h (data-complete g (row k) copy) (unlisted-bit k h (parts .0)) in
-          false≢true (sym table-no-data ∙ ap (λ (b : ℕ). isData g (row b)) (sym here) ∙ copy)
+          false≢true (sym (no-data k h (data-complete g (row k) copy) (unlisted-bit k h (parts .0))) ∙ copy)
 
   -- no clash
-  only-counts : (b : ℕ) → b < g .blocks → counts g array table b ≡ true → b ≡ table
-  only-counts b h t =
-      let parts = both (unlisted g array table b) (isComplete g (row b)) t in
-      only-table b h (parts .1) (unlisted-bit b h (parts .0))
+  counted : (b : ℕ) → b < g .blocks → counts g array table b ≡ true → (isComplete g (row b) ≡ true) × (bitAt invalid b ≡ false)
+  counted b h t = let parts = both (unlisted g array table b) (isComplete g (row b)) t in (parts .1, unlisted-bit b h (parts .0))
 
-  uncounted : (b : ℕ) → b < g .blocks → (b ≡ table → ⊥) → counts g array table b ≡ false
-  uncounted b h x = cases (counts g array table b) (λ t. absurd (x (only-counts b h t))) (λ f. f)
+  differ : (b c : ℕ) → b < g .blocks → c < b → counts g array table b ≡ true → counts g array table c ≡ true → numberAt g array c ≡ numberAt g array b → ⊥
+  differ b c h l t u same =
+      let below : c < g .blocks = omega (arith, h, l) in
+      ⊎-elim
+      (λ e. omega (arith, lower-complete c below (λ x. omega (arith, x, e, l)) (counted c below u .0), same, ap (numberAt g array) e, number-is))
+      (λ e.
+      ⊎-elim
+      (λ w. omega (arith, lower-complete b h (λ x. omega (arith, x, w, l)) (counted b h t .0), same, ap (numberAt g array) w, number-is))
+      (λ w. omega (arith, w, e, l))
+      (only-table c below (counted c below u .0) (counted c below u .1)))
+      (only-table b h (counted b h t .0) (counted b h t .1))
 
-  not-shared : (n : ℕ) → sharesNumber g array table n table ≡ false
+  not-shared : (b : ℕ) → b < g .blocks → counts g array table b ≡ true → sharesNumber g array table (numberAt g array b) b ≡ false
   unfolding sharesNumber
-  not-shared n =
-      none-below (λ b. cond (counts g array table b) (eqb (numberAt g array b) n) false) table
-      (λ b h. rw (uncounted b (omega (arith, h, r .table-below)) (λ e. omega (arith, e, h))))
+  not-shared b h t =
+      none-below (λ c. cond (counts g array table c) (eqb (numberAt g array c) (numberAt g array b)) false) b
+      (λ c l. cases (counts g array table c) (λ u. rw u (ne-eqb (numberAt g array c) (numberAt g array b) (differ b c h l t u))) (λ u. rw u))
 
   no-clash-at : (b : ℕ) → b < g .blocks → clashesAt g array table b ≡ false
   unfolding clashesAt
   no-clash-at b h =
       cases (counts g array table b)
-      (λ t.
-      let here = only-counts b h t in
-      subst (λ (k : ℕ). clashesAt g array table k ≡ false) (sym here)
-      (cases (counts g array table table) (λ u. rw (u, table-no-data) (not-shared (numberAt g array table))) (λ u. rw u)))
+      (λ t. rw (t, no-data b h (counted b h t .0) (counted b h t .1)) (not-shared b h t))
       (λ f. rw f)
 
   no-clash : clashes g array table (g .blocks) ≡ false

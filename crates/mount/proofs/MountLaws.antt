@@ -17,7 +17,7 @@ use Rattle.bitmaps.proofs.BitLaws.{bit-set, bit-kept}
 use Rattle.copies.specs.Blocks.{blockIn, isMarked, isTable, mainIn}
 use Rattle.copies.specs.Current.{numberAt, currentTable, judgeTable, mountAnswer}
 use Rattle.copies.specs.Pick.{Pick, nothing, at, pick, Picked, someBelow}
-use Rattle.copies.specs.Table.{bitmapOf, clearWhere, rightTo, rightTable}
+use Rattle.copies.specs.Table.{bitmapOf, clearWhere, lists, ownCount, rightTo, rightTable}
 use Rattle.copies.proofs.PickLaws.{pick-is, up-to}
 use Rattle.state.specs.State.{mountedWith}
 use Rattle.scan_summary.specs.Depth.{belowBy, lastBy}
@@ -95,10 +95,6 @@ never-where xs ys zs test zero e f = refl
 never-where xs ys zs test (suc n) e f =
     rw (e n (omega arith), f n (omega arith), never-where xs ys zs test n (λ b h. e b (omega (arith, h))) (λ b h. f b (omega (arith, h))))
 
-flag : (b : Bool) (x : ℕ) → cond (eqb (cond b 1 0) 0) 5 x ≡ cond b x 5
-flag true x = refl
-flag false x = refl
-
 -- the state of either depth, from the numbers that it finds
 pub state-by : (depth : Depth) (g : Geometry) (array : List ℕ) → stateWith g array (belowBy depth g array (g .blocks)) (lastBy depth g array) ≡ stateBy depth g array
 unfolding stateBy mountedState quickState belowBy lastBy
@@ -117,28 +113,33 @@ module _ (depth : Depth) (g : Geometry) (v : Valid g) (array : List ℕ) (long :
   all-told = told depth g three array (g .blocks) (v .blocks-most)
 
   -- the current table is on the chip
-  table-below : (t : ℕ) → currentTable g array ≡ at t → t < g .blocks
+  pub table-below : (t : ℕ) → currentTable g array ≡ at t → t < g .blocks
   unfolding currentTable
   table-below t e = below-of (λ b. isTable g (blockIn g array b)) (numberAt g array) (g .blocks) (pick (λ b. isTable g (blockIn g array b)) (numberAt g array) (g .blocks)) (pick-is (λ b. isTable g (blockIn g array b)) (numberAt g array) (g .blocks)) t e
 
-  clear-is : (t : ℕ) → t < g .blocks → neverBoth (marksTo g array (g .blocks)) (bitsAt g array t) (g .blocks) ≡ clearWhere (λ b. isMarked g (blockIn g array b)) (bitmapOf (g .blocks) (mainIn g (blockIn g array t) 0)) (g .blocks)
+  -- what it lists
+  pub bit-of : (t : ℕ) → t < g .blocks → (b : ℕ) → b < g .blocks → bitAt (bitsAt g array t) b ≡ lists g (blockIn g array t) b
+  bit-of = bit-is g v array long all all-told
+
+  pub clear-is : (t : ℕ) → t < g .blocks → neverBoth (marksTo g array (g .blocks)) (bitsAt g array t) (g .blocks) ≡ clearWhere (λ b. isMarked g (blockIn g array b)) (bitmapOf (g .blocks) (mainIn g (blockIn g array t) 0)) (g .blocks)
   clear-is t h =
       never-where (marksTo g array (g .blocks)) (bitsAt g array t) (bitmapOf (g .blocks) (mainIn g (blockIn g array t) 0)) (λ b. isMarked g (blockIn g array b)) (g .blocks)
       (mark-bit g array (g .blocks) (v .blocks-most))
-      (bit-is g v array long all all-told t h)
+      (bit-of t h)
 
   -- with the pages right or not
-  two-tests : (a b : Bool) (x : ℕ) → cond (eqb (cond a 1 0) 0) 5 (cond b x 5) ≡ cond (cond a b false) x 5
-  two-tests true b x = refl
-  two-tests false b x = refl
+  two-tests : (a l b : Bool) (x : ℕ) → cond (eqb (cond a 1 (cond l 2 0)) 1) (cond b x 5) 5 ≡ cond (cond a b false) x 5
+  two-tests true l b x = refl
+  two-tests false true b x = refl
+  two-tests false false b x = refl
 
   judge-chosen : (t : ℕ) → t < g .blocks
-      → cond (eqb (rightAt g array t) 0) 5 (cond (neverBoth (marksTo g array (g .blocks)) (bitsAt g array t) (g .blocks)) (cond (bitAt (bitsAt g array t) t) 5 (cond (someBelow (clashing all (bitsAt g array t) (g .logical)) (g .blocks)) 6 0)) 5)
+      → cond (eqb (rightAt g array t) 1) (cond (neverBoth (marksTo g array (g .blocks)) (bitsAt g array t) (g .blocks)) (cond (bitAt (bitsAt g array t) t) 5 (cond (someBelow (clashing all (bitsAt g array t) (g .logical)) (g .blocks)) 6 0)) 5) 5
       ≡ judgeTable g array (at t)
   unfolding judgeTable rightTable
   judge-chosen t h =
       rw (clear-is t h, bit-is g v array long all all-told t h t h, clash-same g v array long all all-told t h)
-      (two-tests (rightTo g (blockIn g array t) (g .pages)) (clearWhere (λ b. isMarked g (blockIn g array b)) (bitmapOf (g .blocks) (mainIn g (blockIn g array t) 0)) (g .blocks)) _)
+      (two-tests (rightTo g (blockIn g array t) (g .pages)) (rightTo (ownCount g (blockIn g array t)) (blockIn g array t) (g .pages)) (clearWhere (λ b. isMarked g (blockIn g array b)) (bitmapOf (g .blocks) (mainIn g (blockIn g array t) 0)) (g .blocks)) _)
 
   judge-missing : Missing depth g three array (g .blocks) (kept (foundTo depth g array (g .blocks))) → judgedBy g (foundTo depth g array (g .blocks)) all ≡ mountAnswer g array
   unfolding judgedBy mountAnswer judgeTable currentTable

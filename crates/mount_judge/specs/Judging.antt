@@ -15,10 +15,11 @@ use Rattle.scan_found.specs.declared.Found.{Found}
 unfoldable pub judgedBy : Geometry → Found → Contents → ℕ
 judgedBy g f c =
     cond (eqb (f .tables) 0) 4
-    (cond (eqb (f .right) 0) 5
+    (cond (eqb (f .right) 1)
     (cond (neverBoth (f .marked) (f .bits) (g .blocks))
     (cond (bitAt (f .bits) (f .table)) 5 (cond (someBelow (clashing c (f .bits) (g .logical)) (g .blocks)) 6 0))
-    5))
+    5)
+    5)
 
 -- the state that a mount answered 0 gives
 abbrev pub stateOf : Geometry → Found → Contents → State

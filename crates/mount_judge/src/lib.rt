@@ -25,7 +25,7 @@ pub fn judge(
         return 4;
     }
     let right = found.right;
-    if right == 0 {
+    if right != 1 {
         return 5;
     }
     let bits = found.bits;

@@ -72,12 +72,12 @@ byte-past bits j h =
     ∙ getD-drop (length bits) (replicate 512 0) (j - length bits) 0
     ∙ bits-none 0 .past (length bits + (j - length bits)) (omega arith)
 
-bit-past : (bits : List ℕ) (b : ℕ) → length bits ≤ byteOf b → bitAt (put 0 bits (replicate 512 0)) b ≡ false
+pub bit-past : (bits : List ℕ) (b : ℕ) → length bits ≤ byteOf b → bitAt (put 0 bits (replicate 512 0)) b ≡ false
 unfolding bitAt
 bit-past bits b h = ap (λ (x : ℕ). eqb (bitIn x (placeOf b)) 1) (byte-past bits (byteOf b) h) ∙ rw (zero-div (2 ^ placeOf b))
 
 -- page 0 of a right table
-right-first : (g : Geometry) (x : List ℕ) (n : ℕ) → 0 < n → rightTo g x n ≡ true → rightPage g 0 (pageIn g x 0) ≡ true
+pub right-first : (g : Geometry) (x : List ℕ) (n : ℕ) → 0 < n → rightTo g x n ≡ true → rightPage g 0 (pageIn g x 0) ≡ true
 unfolding rightTo
 right-first g x zero h t = absurd (omega (arith, h))
 right-first g x (suc zero) h t = both (rightPage g 0 (pageIn g x 0)) _ t .0
@@ -97,7 +97,7 @@ first-clear blocks logical main t =
     fifth-holds (eqb (fieldOf main 0) blocks) (eqb (fieldOf main 2) logical) (eqb (fieldOf main 4) (countBits (bitmapOf blocks main) blocks)) (eqb (fieldOf main 6) 8)
     (clearFrom (bitmapOf blocks main) blocks (8 * bitmapBytes blocks - blocks)) (allOnes (drop (8 + bitmapBytes blocks) main)) t
 
-page-clear : (g : Geometry) (page : List ℕ) → rightPage g 0 page ≡ true → clearFrom (bitmapOf (g .blocks) (take (g .main) page)) (g .blocks) (8 * bitmapBytes (g .blocks) - g .blocks) ≡ true
+pub page-clear : (g : Geometry) (page : List ℕ) → rightPage g 0 page ≡ true → clearFrom (bitmapOf (g .blocks) (take (g .main) page)) (g .blocks) (8 * bitmapBytes (g .blocks) - g .blocks) ≡ true
 unfolding rightPage
 page-clear g page t = first-clear (g .blocks) (g .logical) (take (g .main) page) (both (eqb (labelOf (g .main) page .logical) 0) _ t .1)
 

@@ -55,10 +55,10 @@ pub record Recovered (g : Geometry) (y : Store) (r : Result) : Type 0 where
       (q .returned .answer ≡ 10 → ⊥) → (q .returned .answer ≡ 11 → ⊥) → (q .returned .answer ≡ 0) × (q .buffer ≡ readingBy g r logical page)
 
 -- what is said of a store that a list of calls, with power lost at any places between them, has come to, after every acknowledged
--- formatting of any chip
+-- formatting of any chip whose array is bytes
 abbrev pub Always : (Geometry → Store → Type 0) → Type 0
 Always P =
-    (g : Geometry) (a : Lent) (d : Device) (st : State) → Bytes (a .mask) → formatOn g a d st .answer ≡ 0
+    (g : Geometry) (a : Lent) (d : Device) (st : State) → Bytes (a .mask) → Bytes (d .array) → formatOn g a d st .answer ≡ 0
     → (es : List Event) → AllPossible g es → P g (after g es (begun g a d st))
 
 -- every mount, full or quick, that is not answered 1, 10 or 11 recovers the book

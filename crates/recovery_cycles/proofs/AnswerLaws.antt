@@ -1,5 +1,5 @@
 -- A request is answered 10 exactly where its last array operation has a slow fate word and it is not cut. Assumes nothing.
-use Prim.Native.Nat.{ℕ, zero, suc}
+use Prim.Native.Nat.{ℕ, zero, suc, max}
 use mathlib.Core.Bool.{Bool, true, false, cond}
 use mathlib.Core.List.{List}
 use mathlib.Core.Logic.{_⊎_, inl, inr, ⊎-elim}
@@ -7,8 +7,8 @@ use mathlib.Core.Path.{_≡_, refl, ap, _∙_}
 use native.Mathlib.Omega.{arith}
 use borrow.Author.Tests.{eqb-true}
 use borrow.Table.Steps.{cases}
-use lib.Dec.{eqb}
-use lib.ListN.{getD, replicate}
+use lib.Dec.{eqb, ltb}
+use lib.ListN.{getD}
 use Rattle.bools.proofs.BoolLaws.{clash}
 use Rattle.geometry.specs.declared.Geometry.{Geometry}
 use Rattle.chip_array.specs.Device.{Device, Setting}
@@ -18,21 +18,23 @@ use Rattle.bus_polling.specs.declared.Outcome.the-variants.{Passed, Failed, Sil
 use Rattle.state_choose.specs.Choose.{chosen}
 use Rattle.state_choose.specs.declared.Choice.{Choice}
 use Rattle.state_choose.specs.declared.Choice.the-variants.{Block, Worn}
-use Rattle.state.specs.State.{none, numbersLeft, heldBits}
+use Rattle.state.specs.State.{none, numbersLeft, heldBits, withInvalid}
 use Rattle.state.specs.declared.State.{State}
 use Rattle.progress.specs.Progress.{Progress, statusOn}
-use Rattle.progress.specs.Steps.{resumed}
+use Rattle.progress.specs.Steps.{eraseOn, resumed}
 use Rattle.request.specs.Call.{Result, result, resultOf, sentIn, startedIn, unsent, performed, sizedFor, callLine, stopAnswer, answerFor, statusAnswer}
 use Rattle.request.proofs.CallLaws.{stop-silent, stop-least}
 use Rattle.request_refusals.specs.Refusals.{refusal, refusalOf}
 use Rattle.request_refusals.proofs.RefusalLaws.{by-refusal}
-use Rattle.scan_found.specs.Found.{marksTo}
+use Rattle.scan.specs.Scan.{blocksRead}
+use Rattle.format_scan.specs.Survey.{surveyed, unionTo, passedOver}
+use Rattle.format_scan.specs.declared.Survey.{Survey}
 use Rattle.fill_tables.specs.Tables.{tryBlock, tryTable, tablesFilled, Tabled, afterStatus}
 use Rattle.write_changes.specs.Changes.{Update, writeUpdate, eraseUpdate, copyFilled, Copied, afterTry, copyTried, copiesFilled, thenTable, changeRun, changeCall, changeRequest, writeRequest, eraseRequest, changeFirst}
-use Rattle.format_marks.specs.Marks.{marksRead}
 use Rattle.format_erase.specs.Round.{erasedTo}
-use Rattle.format.specs.Format.{firstState, tooFew, tablesRun, roundRun, marksRun, formatRun, formatRequest, statusRun}
+use Rattle.format.specs.Format.{firstState, tooFew, tablesFrom, afterLate, lateRun, tablesRun, roundRun, readsRun, formatRun, formatRequest, statusRun}
 use Rattle.scan_summary.specs.declared.Depth.{Depth}
+use Rattle.scan_summary.specs.declared.Depth.the-variants.{Full}
 use Rattle.mount.specs.Mount.{mountRun, mountEnd, mountRequest}
 use Rattle.mount_laws.proofs.MountingLaws.{answer-judged}
 use Rattle.read_page.specs.Fetching.{pageProgress, readingBlock}
@@ -138,32 +140,49 @@ module _ (s : Setting) where
       status-told st p (changeRun s st u p) (change-told st u p)
 
   -- a formatting
-  tables-run-told : (marked invalid : List ℕ) (greatest : ℕ) (p : Progress) → isPassed (p .outcome) ≡ true → Told (tablesRun s marked invalid greatest p .answer) (tablesRun s marked invalid greatest p .progress .outcome)
+  late-told : (old : ℕ) (st : State) (e : Progress) → Told (afterLate s old st e .answer) (afterLate s old st e .progress .outcome)
+  unfolding afterLate isPassed
+  late-told old st e =
+      cases (isPassed (e .outcome))
+      (λ t. rw t (told-passed 0 (e .outcome) t (λ x. omega (arith, x))))
+      (λ t.
+      cases (isFailed (e .outcome))
+      (λ f. rw (t, f) (tables-told (heldBits (withInvalid old st) (s .geometry .logical)) (numbersLeft (withInvalid old st)) (withInvalid old st) (resumed e) refl))
+      (λ f. rw (t, f) (told-stop (e .outcome))))
+
+  late-run-told : (old : ℕ) (t : Tabled) → Told (t .answer) (t .progress .outcome) → Told (lateRun s old t .answer) (lateRun s old t .progress .outcome)
+  unfolding lateRun
+  late-run-told old t h =
+      cases (eqb (t .answer) 0)
+      (λ z. cases (ltb old (s .geometry .blocks)) (λ k. rw (z, k) (late-told old (t .state) (eraseOn s old (t .progress)))) (λ k. rw (z, k) h))
+      (λ z. rw z h)
+
+  tables-run-told : (marked invalid : List ℕ) (greatest old : ℕ) (p : Progress) → isPassed (p .outcome) ≡ true → Told (tablesRun s marked invalid greatest old p .answer) (tablesRun s marked invalid greatest old p .progress .outcome)
   unfolding tablesRun
-  tables-run-told marked invalid greatest p t =
-      let st = firstState (s .geometry) marked invalid greatest in
+  tables-run-told marked invalid greatest old p t =
+      let st = firstState (s .geometry) marked invalid greatest old in
       cases (tooFew (s .geometry) marked invalid)
       (λ f. rw f (told-passed 8 (p .outcome) t (λ e. omega (arith, e))))
-      (λ f. rw f (tables-told (replicate 512 0) (numbersLeft st) st p t))
+      (λ f. rw f (late-run-told old (tablesFrom s st p) (tables-told (heldBits st (s .geometry .logical)) (numbersLeft st) st p t)))
 
-  round-run-told : (marked : List ℕ) (p : Progress) → Told (roundRun s marked p .answer) (roundRun s marked p .progress .outcome)
+  round-run-told : (v : Survey) (p : Progress) → Told (roundRun s v p .answer) (roundRun s v p .progress .outcome)
   unfolding roundRun
-  round-run-told marked p =
-      let r = erasedTo s marked (s .geometry .blocks) p in
+  round-run-told v p =
+      let r = erasedTo s (passedOver (s .geometry) v) (s .geometry .blocks) p in
       cases (isPassed (r .progress .outcome))
-      (λ t. rw t (tables-run-told marked (r .invalid) (r .numbers .greatest) (r .progress) t))
+      (λ t. rw t (tables-run-told (v .marked) (unionTo (v .carried) (r .invalid) (s .geometry .blocks)) (max (v .greatest) (r .numbers .greatest)) (v .old) (r .progress) t))
       (λ t. rw t (told-stop (r .progress .outcome)))
 
-  status-run-told : (state : State) (marked : List ℕ) (p : Progress) → Told (statusRun s state marked p .answer) (statusRun s state marked p .progress .outcome)
+  status-run-told : (state : State) (v : Survey) (p : Progress) → Told (statusRun s state v p .answer) (statusRun s state v p .progress .outcome)
   unfolding statusRun
-  status-run-told state marked p = status-told state (statusOn s p) (roundRun s marked (statusOn s p)) (λ t. round-run-told marked (statusOn s p))
+  status-run-told state v p = status-told state (statusOn s p) (roundRun s v (statusOn s p)) (λ t. round-run-told v (statusOn s p))
 
-  marks-run-told : (state : State) (p : Progress) → Told (marksRun s state p .answer) (marksRun s state p .progress .outcome)
-  unfolding marksRun
-  marks-run-told state p =
-      let q = marksRead s (s .geometry .blocks) p in
+  reads-run-told : (state : State) (p : Progress) → Told (readsRun s state p .answer) (readsRun s state p .progress .outcome)
+  unfolding readsRun
+  reads-run-told state p =
+      let q = blocksRead Full s (s .geometry .blocks) p in
       cases (isPassed (q .outcome))
-      (λ t. rw t (status-run-told state (marksTo (s .geometry) (q .line .chip .array) (s .geometry .blocks)) q))
+      (λ t. rw t (status-run-told state (surveyed (s .geometry) (q .line .chip .array)) q))
       (λ t. rw t (told-stop (q .outcome)))
 
   -- a mount
@@ -240,5 +259,5 @@ pub format-exactly : (s : Setting) (d : Device) (n : ℕ) (st : State) → Silen
 unfolding formatRequest
 format-exactly s d n st =
     cases (sizedFor s d)
-    (λ t. rw t (exactly s _ _ (formatRun s d n st .progress) (format-heard s d n t st) (marks-run-told s st _)))
+    (λ t. rw t (exactly s _ _ (formatRun s d n st .progress) (format-heard s d n t st) (reads-run-told s st _)))
     (λ f. rw f (unstarted-exactly s _ _ (λ e. omega (arith, e))))

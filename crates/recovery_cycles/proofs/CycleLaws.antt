@@ -85,7 +85,7 @@ spared-at g marked failed (x ∷ earlier) o later h =
     (fun-ext (λ b. or-assoc (failed b) (cond (eqb (x .block) b) (isFailed (x .answer)) false) (failedIn b earlier)))
     (spared-at g marked f earlier o later (h .1))
 
-not-read : (code : ℕ) → Changes code → kindOf code ≡ 1 → ⊥
+pub not-read : (code : ℕ) → Changes code → kindOf code ≡ 1 → ⊥
 unfolding kindOf
 not-read code k z =
     ⊎-elim
@@ -94,7 +94,7 @@ not-read code k z =
     k
 
 -- the operation of a 10h or D0h cycle, where it is of a block of the chip
-change-on : (g : Geometry) (t : Start) (o : ArrayOperation) → StartedAt g t o → Changes (t .code) → o .block < g .blocks → ChangeOn g (t .code) (t .chip) o
+pub change-on : (g : Geometry) (t : Start) (o : ArrayOperation) → StartedAt g t o → Changes (t .code) → o .block < g .blocks → ChangeOn g (t .code) (t .chip) o
 change-on g t o h k below =
     record {
       kind-is = h .kind-is;
@@ -284,16 +284,16 @@ module _ (g : Geometry) (y : Store) where
   calls-trace sp w (toIdentify a parameters logical) t = λ xs ys code e k. absurd (identify-sends g y a parameters logical xs ys code e (inr (inr k)))
 
 pub traces-cycles : Always TracesCycles
-traces-cycles g a d st m z es t =
-    calls-trace g _ (spares g a d st m z es t) (sends-legally g a d st m z es t)
+traces-cycles g a d st m k z es t =
+    calls-trace g _ (spares g a d st m k z es t) (sends-legally g a d st m k z es t)
 
 pub spares-cycles : Always SparesCycles
-spares-cycles g a d st m z es t =
-    calls-spare g _ (spares g a d st m z es t) (sends-legally g a d st m z es t)
+spares-cycles g a d st m k z es t =
+    calls-spare g _ (spares g a d st m k z es t) (sends-legally g a d st m k z es t)
 
 pub sends-no-change : Always ProtectedSends
-sends-no-change g a d st m z es t = protected-sends g (after g es (begun g a d st))
+sends-no-change g a d st m k z es t = protected-sends g (after g es (begun g a d st))
 
 pub fails-read : Always FailsRead
-fails-read g a d st m z es t c typed b =
-    sym (failed-traced g _ _ (call-traced g c _) (spared-on-chip g _ _ _ (spares g a d st m z es t c typed)) b)
+fails-read g a d st m k z es t c typed b =
+    sym (failed-traced g _ _ (call-traced g c _) (spared-on-chip g _ _ _ (spares g a d st m k z es t c typed)) b)

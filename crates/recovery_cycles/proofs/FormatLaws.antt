@@ -1,6 +1,6 @@
 -- Every operation of a formatting is a read, or of a block of the chip, and is the one that its confirm cycle started. Assumes
 -- nothing.
-use Prim.Native.Nat.{ℕ, zero, suc, _<_, _≤_}
+use Prim.Native.Nat.{ℕ, zero, suc, _<_, _≤_, max}
 use mathlib.Core.Bool.{Bool, true}
 use mathlib.Core.List.{List, [], _∷_, _++_}
 use mathlib.Core.Logic.{inl, inr}
@@ -8,8 +8,9 @@ use mathlib.Core.Path.{_≡_, sym}
 use native.Mathlib.Nat.{le-refl}
 use native.Mathlib.Omega.{arith}
 use borrow.Table.Steps.{cases}
-use lib.Dec.{eqb}
-use lib.ListN.{length, replicate}
+use borrow.Author.Tests.{eqb-true, ltb-true}
+use lib.Dec.{eqb, ltb}
+use lib.ListN.{length}
 use Rattle.geometry.specs.Limits.{Valid}
 use Rattle.geometry.specs.Sizes.{pageSize, rowOf}
 use Rattle.geometry.proofs.SizeLaws.{block-of-row}
@@ -30,17 +31,20 @@ use Rattle.state_choose.specs.Choose.{nextBlock, searchAfter, chosen}
 use Rattle.state_choose.specs.declared.Choice.{Choice}
 use Rattle.state_choose.specs.declared.Choice.the-variants.{Block, Worn}
 use Rattle.state_choose.proofs.ChooseLaws.{next-below}
-use Rattle.state.specs.State.{blank, nextNumber, numbersLeft, taken}
+use Rattle.state.specs.State.{nextNumber, numbersLeft, taken, withInvalid, heldBits}
 use Rattle.state.specs.declared.State.{State}
-use Rattle.scan_found.specs.Found.{marksTo}
+use Rattle.format_scan.specs.Survey.{surveyed, unionTo, passedOver}
+use Rattle.format_scan.specs.declared.Survey.{Survey}
 use Rattle.request.specs.Call.{sizedFor, callLine}
-use Rattle.request.proofs.CallLaws.{sizes}
+use Rattle.request.proofs.CallLaws.{sizes, answer-passed}
 use Rattle.scan_block.specs.Pages.{pagesRead}
 use Rattle.fill.specs.Fill.{Copy, Source, given, kept, mainRead, pageFilled, pagesFilled, filled, tableCopy, tableSource}
-use Rattle.fill_tables.specs.Tables.{afterFill, tryBlock, tryTable, tablesFilled, afterStatus}
-use Rattle.format_marks.specs.Marks.{marksRead}
+use Rattle.fill_tables.specs.Tables.{Tabled, afterFill, tryBlock, tryTable, tablesFilled, afterStatus}
+use Rattle.scan_summary.specs.declared.Depth.the-variants.{Full}
+use Rattle.scan.specs.Scan.{blocksRead}
+use Rattle.scan.proofs.KeepLaws.{blocks-reads}
 use Rattle.format_erase.specs.Round.{afterErase, blockErased, erasedTo}
-use Rattle.format.specs.Format.{firstState, tooFew, tablesRun, roundRun, marksRun, formatRun, statusRun}
+use Rattle.format.specs.Format.{firstState, tooFew, tablesFrom, afterLate, lateRun, tablesRun, roundRun, readsRun, formatRun, statusRun}
 use Rattle.format_laws.proofs.FormattingLaws.{format-ends}
 use Rattle.damage.specs.Run.{failedIn}
 use Rattle.damage.specs.Touched.{Each}
@@ -91,12 +95,8 @@ module _ (s : Setting) (v : Valid (s .geometry)) where
   pages-stay block (suc n) p h =
       read-stays (rowOf (s .geometry) block n) 0 (pageSize (s .geometry)) (pagesRead s block n p) (pages-stay block n p h)
 
-  marks-stay : (n : ℕ) (p : Progress) → Stays p → Stays (marksRead s n p)
-  unfolding marksRead
-  marks-stay zero p h = h
-  marks-stay (suc n) p h =
-      read-stays (rowOf (s .geometry) n 1) (s .geometry .main) 1 (readOn s (rowOf (s .geometry) n 0) (s .geometry .main) 1 (marksRead s n p))
-      (read-stays (rowOf (s .geometry) n 0) (s .geometry .main) 1 (marksRead s n p) (marks-stay n p h))
+  blocks-stay : (n : ℕ) (p : Progress) → Stays p → Stays (blocksRead Full s n p)
+  blocks-stay = blocks-reads Full s Stays read-stays
 
   -- erases and programs of a block of the chip
   module _ (block : ℕ) (below : block < s .geometry .blocks) where
@@ -175,40 +175,83 @@ module _ (s : Setting) (v : Valid (s .geometry)) where
       (λ w. cases (isFailed (t .progress .outcome)) (λ f. rw (w, f) (tables-stay held n (t .state) (here .1) (resumed (t .progress)) (here .0))) (λ f. rw (w, f) (here .0)))
       (λ w. rw w (here .0))
 
-  tables-run-stays : (marked invalid : List ℕ) (greatest : ℕ) (p : Progress) → Stays p → Stays (tablesRun s marked invalid greatest p .progress)
-  unfolding tablesRun firstState
-  tables-run-stays marked invalid greatest p h =
-      let st = firstState (s .geometry) marked invalid greatest in
-      cases (tooFew (s .geometry) marked invalid) (λ t. rw t h) (λ t. rw t (tables-stay (replicate 512 0) (numbersLeft st) st (omega (arith, v)) p h))
+  -- where one passed the search for the next block starts on the chip
+  tables-last : (held : List ℕ) (n : ℕ) (st : State) → st .last < s .geometry .blocks → (p : Progress) → Stays p → tablesFilled s held n st p .answer ≡ 0 → tablesFilled s held n st p .state .last < s .geometry .blocks
+  unfolding tablesFilled
+  tables-last held zero st l p h z = absurd (omega (arith, z))
+  tables-last held (suc n) st l p h z =
+      let t = tryTable s held st p in
+      let here = try-stays held st l p h in
+      cases (eqb (t .worn) 0)
+      (λ w.
+      cases (isFailed (t .progress .outcome))
+      (λ f. rw (w, f) (tables-last held n (t .state) (here .1) (resumed (t .progress)) (here .0) (rw (w, f) at z)))
+      (λ f. rw (w, f, answer-passed (t .progress .outcome) (rw (w, f) at z)) (here .1)))
+      (λ w. absurd (omega (arith, rw w at z)))
 
-  round-run-stays : (marked : List ℕ) (p : Progress) → Stays p → Stays (roundRun s marked p .progress)
+  -- the erase of the old table's block
+  late-stays : (old : ℕ) → old < s .geometry .blocks → (st : State) → st .last < s .geometry .blocks → (p : Progress) → Stays p → Stays (afterLate s old st (eraseOn s old p) .progress)
+  unfolding afterLate
+  late-stays old k st l p h =
+      let e = eraseOn s old p in
+      let here = erase-stays old k p h in
+      cases (isPassed (e .outcome)) (λ t. rw t here)
+      (λ t.
+      cases (isFailed (e .outcome))
+      (λ f. rw (t, f) (tables-stay (heldBits (withInvalid old st) (s .geometry .logical)) (numbersLeft (withInvalid old st)) (withInvalid old st) l (resumed e) here))
+      (λ f. rw (t, f) here))
+
+  late-run-stays : (old : ℕ) (t : Tabled) → Stays (t .progress) → (t .answer ≡ 0 → t .state .last < s .geometry .blocks) → Stays (lateRun s old t .progress)
+  unfolding lateRun
+  late-run-stays old t h l =
+      cases (eqb (t .answer) 0)
+      (λ z.
+      cases (ltb old (s .geometry .blocks))
+      (λ k. rw (z, k) (late-stays old (ltb-true old (s .geometry .blocks) k) (t .state) (l (eqb-true (t .answer) 0 z)) (t .progress) h))
+      (λ k. rw (z, k) h))
+      (λ z. rw z h)
+
+  tables-run-stays : (marked invalid : List ℕ) (greatest old : ℕ) (p : Progress) → Stays p → Stays (tablesRun s marked invalid greatest old p .progress)
+  unfolding tablesRun firstState
+  tables-run-stays marked invalid greatest old p h =
+      let st = firstState (s .geometry) marked invalid greatest old in
+      let held = heldBits st (s .geometry .logical) in
+      cases (tooFew (s .geometry) marked invalid) (λ t. rw t h)
+      (λ t.
+      rw t
+      (late-run-stays old (tablesFrom s st p) (tables-stay held (numbersLeft st) st (omega (arith, v)) p h)
+      (tables-last held (numbersLeft st) st (omega (arith, v)) p h)))
+
+  round-run-stays : (w : Survey) (p : Progress) → Stays p → Stays (roundRun s w p .progress)
   unfolding roundRun
-  round-run-stays marked p h =
-      let r = erasedTo s marked (s .geometry .blocks) p in
-      let here = round-stays marked (s .geometry .blocks) (le-refl (s .geometry .blocks)) p h in
-      cases (isPassed (r .progress .outcome)) (λ t. rw t (tables-run-stays marked (r .invalid) (r .numbers .greatest) (r .progress) here)) (λ t. rw t here)
+  round-run-stays w p h =
+      let r = erasedTo s (passedOver (s .geometry) w) (s .geometry .blocks) p in
+      let here = round-stays (passedOver (s .geometry) w) (s .geometry .blocks) (le-refl (s .geometry .blocks)) p h in
+      cases (isPassed (r .progress .outcome))
+      (λ t. rw t (tables-run-stays (w .marked) (unionTo (w .carried) (r .invalid) (s .geometry .blocks)) (max (w .greatest) (r .numbers .greatest)) (w .old) (r .progress) here))
+      (λ t. rw t here)
 
   status-stays : (p : Progress) → Stays p → Stays (statusOn s p)
   unfolding statusOn
   status-stays p h = cases (isPassed (p .outcome)) (λ t. rw t h) (λ t. rw t h)
 
-  status-run-stays : (state : State) (marked : List ℕ) (p : Progress) → Stays p → Stays (statusRun s state marked p .progress)
+  status-run-stays : (state : State) (w : Survey) (p : Progress) → Stays p → Stays (statusRun s state w p .progress)
   unfolding statusRun afterStatus
-  status-run-stays state marked p h =
+  status-run-stays state w p h =
       let q = statusOn s p in
       let here = status-stays p h in
-      cases (isPassed (q .outcome)) (λ t. rw t (round-run-stays marked q here)) (λ t. rw t here)
+      cases (isPassed (q .outcome)) (λ t. rw t (round-run-stays w q here)) (λ t. rw t here)
 
-  marks-run-stays : (state : State) (p : Progress) → Stays p → Stays (marksRun s state p .progress)
-  unfolding marksRun
-  marks-run-stays state p h =
-      let q = marksRead s (s .geometry .blocks) p in
-      let here = marks-stay (s .geometry .blocks) p h in
-      cases (isPassed (q .outcome)) (λ t. rw t (status-run-stays state (marksTo (s .geometry) (q .line .chip .array) (s .geometry .blocks)) q here)) (λ t. rw t here)
+  reads-run-stays : (state : State) (p : Progress) → Stays p → Stays (readsRun s state p .progress)
+  unfolding readsRun
+  reads-run-stays state p h =
+      let q = blocksRead Full s (s .geometry .blocks) p in
+      let here = blocks-stay (s .geometry .blocks) p h in
+      cases (isPassed (q .outcome)) (λ t. rw t (status-run-stays state (surveyed (s .geometry) (q .line .chip .array)) q here)) (λ t. rw t here)
 
   pub format-on-chip : (d : Device) (n : ℕ) (state : State) → Each (OnChip (s .geometry)) (formatRun s d n state .progress .started)
   unfolding Each
-  format-on-chip d n state = marks-run-stays state (resetOn s (progress (callLine d n) Passed [] [])) (reset-stays (progress (callLine d n) Passed [] []) tt)
+  format-on-chip d n state = reads-run-stays state (resetOn s (progress (callLine d n) Passed [] [])) (reset-stays (progress (callLine d n) Passed [] []) tt)
 
   -- the blocks that fail in it are those for which it reads E1h
   pub format-fails : (d : Device) (n : ℕ) (state : State) (b : ℕ) → failedIn b (formatRun s d n state .progress .started) ≡ failedRead (s .geometry) b (startsIn s (callLine d n .chip) (formatRun s d n state .progress .cycles))
@@ -216,8 +259,8 @@ module _ (s : Setting) (v : Valid (s .geometry)) where
       sym (failed-traced (s .geometry) (startsIn s (callLine d n .chip) (formatRun s d n state .progress .cycles)) (formatRun s d n state .progress .started) (format-traced s d n state) (format-on-chip d n state) b)
 
 -- each 10h and each D0h cycle of a formatting has its operation in the trace
-pub format-traces : (s : Setting) (d : Device) (n : ℕ) (state : State) → Bytes (s .mask) → sizedFor s d ≡ true → TracesEach s (callLine d n .chip) (formatRun s d n state .progress .cycles) (formatRun s d n state .progress .started)
-format-traces s d n state mask-bytes t =
+pub format-traces : (s : Setting) (d : Device) (n : ℕ) (state : State) → Bytes (s .mask) → Bytes (d .array) → sizedFor s d ≡ true → TracesEach s (callLine d n .chip) (formatRun s d n state .progress .cycles) (formatRun s d n state .progress .started)
+format-traces s d n state mask-bytes array-bytes t =
     traces-each s (callLine d n .chip) (formatRun s d n state .progress .cycles) (formatRun s d n state .progress .started) (format-traced s d n state)
-    (format-ends s d n mask-bytes t state .replayed .each-legal)
+    (format-ends s d n mask-bytes array-bytes t state .replayed .each-legal)
     (format-on-chip s (sizes (s .geometry) (length (d .array)) (length (d .register)) (length (d .history)) (length (s .mask)) t .chip-fits .is-valid) d n state)

@@ -1,6 +1,6 @@
 -- No mount, no read and no call that asks for the chip's size, of any chip, sends 80h, 60h, 10h or D0h, and the last starts no operation on the
 -- array at all. Nor does a request that changes the chip where the write-protect line is low. Assumes nothing.
-use Prim.Native.Nat.{ℕ, zero, suc}
+use Prim.Native.Nat.{ℕ}
 use mathlib.Core.Bool.{true, false, cond}
 use mathlib.Core.List.{List, [], _∷_, _++_}
 use mathlib.Core.Logic.{⊎-elim}
@@ -20,7 +20,8 @@ use Rattle.bus_polling.specs.declared.Outcome.the-variants.{Passed}
 use Rattle.bus_sequences.specs.Cycles.{resetCycles, confirmCycles, readAddress, pageLine, readCycles, statusCycles}
 use Rattle.progress.specs.Progress.{Progress, progress, readOn, resetOn, lineOf, statusOn}
 use Rattle.scan_summary.specs.declared.Depth.{Depth}
-use Rattle.scan.proofs.KeepLaws.{blocks-reads}
+use Rattle.scan_summary.specs.declared.Depth.the-variants.{Full}
+use Rattle.scan.proofs.KeepLaws.{blocks-reads, blocks-keep}
 use Rattle.read_page.specs.Fetching.{pageProgress}
 use Rattle.request.specs.Call.{callLine, sentIn, sizedFor}
 use Rattle.request.specs.Start.{startLine}
@@ -33,10 +34,8 @@ use Rattle.progress.proofs.StatusLaws.{status-keeps, shown-high}
 use Rattle.fill_tables.specs.Tables.{Tabled, afterStatus}
 use Rattle.fill_tables.proofs.StatusLaws.{after-stopped}
 use Rattle.write_changes.specs.Changes.{Update, changeRun, changeFirst, changeCall}
-use Rattle.format_marks.specs.Marks.{marksRead}
-use Rattle.format_marks.proofs.KeepLaws.{marks-keep}
-use Rattle.format.specs.Format.{statusRun, marksRun, formatRun, formatRequest}
-use Rattle.format_laws.specs.Formatting.{marksDone}
+use Rattle.format.specs.Format.{statusRun, readsRun, formatRun, formatRequest}
+use Rattle.format_laws.specs.Formatting.{readsDone}
 use Rattle.recovery_cycles.specs.Starts.{takes, startsIn, Changes, Modifies}
 use Rattle.recovery_cycles.specs.Spared.{OnlyReads}
 use Rattle.recovery_cycles.proofs.AllLaws.{All, all-append, all-mapped, all-repeated, all-sent, all-at, all-weaker}
@@ -129,20 +128,13 @@ module _ (s : Setting) where
         only-reads (changeCall s d n st u .progress .cycles)
         (subst (λ (x : Tabled). All Harmless (x .progress .cycles)) (sym (after-stopped st p (changeRun s st u p) (low-unpassed first low refl))) (status-harmless first tt))
 
-    marks-harmless : (k : ℕ) (p : Progress) → All Harmless (p .cycles) → All Harmless (marksRead s k p .cycles)
-    unfolding marksRead
-    marks-harmless zero p h = h
-    marks-harmless (suc k) p h =
-        read-harmless s (rowOf (s .geometry) k 1) (s .geometry .main) 1 (readOn s (rowOf (s .geometry) k 0) (s .geometry .main) 1 (marksRead s k p))
-        (read-harmless s (rowOf (s .geometry) k 0) (s .geometry .main) 1 (marksRead s k p) (marks-harmless k p h))
-
     format-harmless : (state : State) → All Harmless (formatRun s d n state .progress .cycles)
-    unfolding marksRun statusRun afterStatus
+    unfolding readsRun statusRun afterStatus
     format-harmless state =
         let first = progress (callLine d n) Passed [] [] in
-        let q = marksDone s d n in
-        let here = marks-harmless (s .geometry .blocks) (resetOn s first) (reset-harmless s first tt) in
-        let line-is : lineOf q ≡ d .interface .protected = marks-keep s (λ x. lineOf x ≡ d .interface .protected) (line-kept s (d .interface .protected)) (s .geometry .blocks) (resetOn s first) (line-kept s (d .interface .protected) .reset first refl) in
+        let q = readsDone s d n in
+        let here = blocks-reads Full s (λ p. All Harmless (p .cycles)) (read-harmless s) (s .geometry .blocks) (resetOn s first) (reset-harmless s first tt) in
+        let line-is : lineOf q ≡ d .interface .protected = blocks-keep Full s (λ x. lineOf x ≡ d .interface .protected) (line-kept s (d .interface .protected)) (s .geometry .blocks) (resetOn s first) (line-kept s (d .interface .protected) .reset first refl) in
         cases (isPassed (q .outcome))
         (λ y. rw (y, low-unpassed q (λ e. low (sym line-is ∙ e)) y) (status-harmless q here))
         (λ f. rw f here)

@@ -37,7 +37,7 @@ use Rattle.scan_summary.specs.declared.Depth.{Depth}
 use Rattle.mount.specs.Mount.{mountRun}
 use Rattle.mount_laws.proofs.MountingLaws.{mount-keeps}
 use Rattle.format.specs.Format.{formatRun}
-use Rattle.format_laws.specs.Formatting.{marksDone}
+use Rattle.format_laws.specs.Formatting.{readsDone}
 use Rattle.format_laws.proofs.FormattingLaws.{format-keeps}
 use Rattle.format_laws.proofs.ProtectLaws.{format-low}
 use Rattle.fill_tables.specs.Tables.{Tabled}
@@ -53,7 +53,7 @@ use Rattle.recovery_cycles.specs.Starts.{Start, failsNext, startsIn, Tra
 use Rattle.recovery_cycles.specs.Silent.{SlowLast}
 use Rattle.recovery_cycles.proofs.AllLaws.{All}
 use Rattle.recovery_cycles.proofs.WaitLaws.{Stopped, stopped-unpassed, stopped-unfailed, Heard, unstarted-heard, operation-heard, operation-quiet}
-use Rattle.recovery_cycles.proofs.UnfailedLaws.{marks-unfailed}
+use Rattle.recovery_cycles.proofs.UnfailedLaws.{reads-unfailed}
 use Rattle.recovery_cycles.proofs.StartLaws.{Plain, starts-append}
 use Rattle.recovery_cycles.proofs.TraceLaws.{reset-adds, status-adds, status-starts, erase-plain, program-plain, read-plain, output-plain}
 
@@ -305,9 +305,9 @@ module _ (s : Setting) (d : Device) (n : ℕ) where
   -- a formatting whose sizes go together: with the line low it starts nothing but reads
   pub format-heard : sizedFor s d ≡ true → (state : State) → HeardFrom s from (formatRun s d n state .progress)
   format-heard t state =
-      format-keeps s _ (heard-kept s from) d n state first-both (status-both s from (marksDone s d n) (marks-unfailed s d n)) .1
+      format-keeps s _ (heard-kept s from) d n state first-both (status-both s from (readsDone s d n) (reads-unfailed s d n)) .1
       (cases (eqb (d .interface .protected) 0)
-      (λ z. inl (format-keeps s _ (line-kept s 0) d n state (eqb-true _ _ z) (λ h. status-keeps s (marksDone s d n) ∙ h)))
+      (λ z. inl (format-keeps s _ (line-kept s 0) d n state (eqb-true _ _ z) (λ h. status-keeps s (readsDone s d n) ∙ h)))
       (λ z. inr (format-low s d n state t (eqb-false _ _ z) .all-reads)))
 
   pub mount-heard : (depth : Depth) → HeardFrom s from (mountRun depth s (callLine d n))

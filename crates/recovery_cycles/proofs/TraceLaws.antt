@@ -29,7 +29,7 @@ use Rattle.scan_summary.specs.declared.Depth.{Depth}
 use Rattle.mount.specs.Mount.{mountRun}
 use Rattle.mount_laws.proofs.MountingLaws.{mount-keeps}
 use Rattle.format.specs.Format.{formatRun}
-use Rattle.format_laws.specs.Formatting.{marksDone}
+use Rattle.format_laws.specs.Formatting.{readsDone}
 use Rattle.format_laws.proofs.FormattingLaws.{format-keeps}
 use Rattle.write_changes.specs.Changes.{Update, changeCall, changeFirst}
 use Rattle.write_changes.proofs.KeepLaws.{call-keeps}
@@ -38,7 +38,7 @@ use Rattle.recovery_cycles.specs.Starts.{Start, failsNext, startsIn, kin
 use Rattle.recovery_cycles.proofs.AllLaws.{All, all-append, all-mapped, all-repeated, all-sent}
 use Rattle.recovery_cycles.proofs.LatchLaws.{erase-row, program-row, program-bytes}
 use Rattle.recovery_cycles.proofs.FailLaws.{polls-pass}
-use Rattle.recovery_cycles.proofs.UnfailedLaws.{shown-failed, marks-unfailed}
+use Rattle.recovery_cycles.proofs.UnfailedLaws.{shown-failed, reads-unfailed}
 use Rattle.recovery_cycles.proofs.StartLaws.{Idle, Plain, starts-append, plain-command, plain-address, plain-in, plain-out, idle-status, idle-starts, operation-passes, operation-traced}
 
 traced-append : (g : Geometry) (ts us : List Start) (os ps : List ArrayOperation) → Traced g ts os → Traced g us ps → Traced g (ts ++ us) (os ++ ps)
@@ -255,7 +255,7 @@ module _ (s : Setting) (d : Device) (n : ℕ) where
   pub change-traced : (st : State) (u : Update) → TracedFrom s from (changeCall s d n st u .progress)
   change-traced st u = call-keeps s _ (traced-kept s from) d n st u first-traced .1
 
-  -- the one after the marks of a formatting
+  -- the one after the page reads of a formatting
   status-traced : (p : Progress) → (isPassed (p .outcome) ≡ true → p .line .chip .interface .failed ≡ 0) → Leads s from p × TracedFrom s from p → Leads s from (statusOn s p) × TracedFrom s from (statusOn s p)
   unfolding statusOn
   status-traced p unfailed b = (
@@ -267,7 +267,7 @@ module _ (s : Setting) (d : Device) (n : ℕ) where
 
   pub format-traced : (state : State) → TracedFrom s from (formatRun s d n state .progress)
   format-traced state =
-      format-keeps s _ (traced-kept s from) d n state begun (status-traced (marksDone s d n) (marks-unfailed s d n)) .1
+      format-keeps s _ (traced-kept s from) d n state begun (status-traced (readsDone s d n) (reads-unfailed s d n)) .1
 
   pub mount-traced : (depth : Depth) → TracedFrom s from (mountRun depth s (callLine d n))
   mount-traced depth = mount-keeps depth s _ (traced-kept s from) (callLine d n) begun .1

@@ -1,14 +1,13 @@
--- After the marks that a formatting reads no failure is kept on the chip, so its status read shows none. Assumes nothing.
-use Prim.Native.Nat.{ℕ, zero, suc, _≤_}
-use mathlib.Core.Bool.{true, false, cond, false≢true}
-use mathlib.Core.List.{List, [], _∷_}
-use mathlib.Core.Path.{_≡_, refl, sym, ap, _∙_}
+-- After the pages that a formatting reads no failure is kept on the chip, so its status read shows none. Assumes nothing.
+use Prim.Native.Nat.{ℕ, zero, suc}
+use mathlib.Core.Bool.{true, false, false≢true}
+use mathlib.Core.List.{[], _∷_}
+use mathlib.Core.Path.{_≡_, refl, ap, _∙_}
 use borrow.Author.Tests.{eqb-true}
 use borrow.Table.Steps.{cases}
 use lib.Dec.{eqb, leb, ltb}
 use lib.ListN.{length, replicate}
 use Rattle.bools.proofs.BoolLaws.{clash}
-use Rattle.geometry.specs.Sizes.{rowOf}
 use Rattle.chip_interface.specs.Interface.{plainCommand, statusMode, readMode}
 use Rattle.chip_array.specs.Device.{Device, Setting}
 use Rattle.chip.specs.Chip.{Cycle, exec, commanded, isConfirm, dataGiven, outputsRegister}
@@ -16,15 +15,16 @@ use Rattle.chip.specs.Chip.Cycle.{command, dataOut}
 use Rattle.bus.specs.Line.{Line, admits, send, sendAll}
 use Rattle.bus.proofs.LineLaws.{send-on, send-off, sendAll-append}
 use Rattle.bus_polling.specs.Outcomes.{isPassed}
-use Rattle.bus_polling.specs.Polling.{outcomeOf, endedAs}
+use Rattle.bus_polling.specs.Polling.{outcomeOf}
 use Rattle.bus_polling.specs.declared.Outcome.the-variants.{Passed}
-use Rattle.bus_sequences.specs.Cycles.{resetCycles, pageRead, pageLine, readCycles, readOutcome}
+use Rattle.bus_sequences.specs.Cycles.{pageRead, pageLine, readCycles, readOutcome}
 use Rattle.operations.proofs.ResetLaws.{reset-leaves}
 use Rattle.progress.specs.Progress.{Progress, progress, readOn, resetOn}
 use Rattle.request.specs.Call.{callLine}
 use Rattle.request.proofs.ResetLaws.{reset-enough}
-use Rattle.format_marks.specs.Marks.{marksRead}
-use Rattle.format_laws.specs.Formatting.{marksDone}
+use Rattle.scan_summary.specs.declared.Depth.the-variants.{Full}
+use Rattle.scan.proofs.KeepLaws.{blocks-reads}
+use Rattle.format_laws.specs.Formatting.{readsDone}
 
 -- an operation that passed left no failure
 passed-unfailed : (l : Line) → isPassed (outcomeOf l) ≡ true → l .chip .interface .failed ≡ 0
@@ -89,17 +89,12 @@ module _ (s : Setting) where
       (λ u. clash (rw (t, u) at y) u))
       (λ t. clash (rw t at y) t)
 
-  -- the marks, after a reset
-  marks-end : (n : ℕ) (p : Progress) → (isPassed (p .outcome) ≡ true → p .line .chip .interface .failed ≡ 0) → isPassed (marksRead s n p .outcome) ≡ true → marksRead s n p .line .chip .interface .failed ≡ 0
-  unfolding marksRead
-  marks-end zero p h = h
-  marks-end (suc n) p h =
-      read-unfailed (rowOf (s .geometry) n 1) (s .geometry .main) 1 (readOn s (rowOf (s .geometry) n 0) (s .geometry .main) 1 (marksRead s n p))
-
+  -- a reset, and every page after it
   reset-unfailed : (d : Device) (n : ℕ) → isPassed (resetOn s (progress (callLine d n) Passed [] []) .outcome) ≡ true → resetOn s (progress (callLine d n) Passed [] []) .line .chip .interface .failed ≡ 0
   unfolding resetOn isPassed
   reset-unfailed d n t =
       ap (λ (x : Line). x .chip .interface .failed) (reset-leaves s (callLine d n) refl refl (reset-enough s d n t))
 
-  pub marks-unfailed : (d : Device) (n : ℕ) → isPassed (marksDone s d n .outcome) ≡ true → marksDone s d n .line .chip .interface .failed ≡ 0
-  marks-unfailed d n = marks-end (s .geometry .blocks) (resetOn s (progress (callLine d n) Passed [] [])) (reset-unfailed d n)
+  pub reads-unfailed : (d : Device) (n : ℕ) → isPassed (readsDone s d n .outcome) ≡ true → readsDone s d n .line .chip .interface .failed ≡ 0
+  reads-unfailed d n =
+      blocks-reads Full s (λ p. isPassed (p .outcome) ≡ true → p .line .chip .interface .failed ≡ 0) (λ row column k p h. read-unfailed row column k p) (s .geometry .blocks) (resetOn s (progress (callLine d n) Passed [] [])) (reset-unfailed d n)

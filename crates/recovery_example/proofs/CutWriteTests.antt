@@ -29,8 +29,10 @@ use Rattle.pages.specs.Layout.{tableKind, label, whole, allOnes, storedCheck, c
 use Rattle.copies.specs.Blocks.{blockIn, isMarked, agrees, completeTo, isComplete, isTable, isData, isCopyOf, anyTo, greatestTo, hasNumber, greatest}
 use Rattle.copies.specs.Pick.{better, pick, someBelow}
 use Rattle.copies.specs.Table as table
+use Rattle.copies.specs.Carried.{carriedBy}
 use Rattle.copies.specs.Current as current
 use Rattle.copies.specs.Current.{currentTable, currentCopy, reading, greatestBelow, sharesNumber, clashesAt, clashes, judgeTable, mountAnswer}
+use Rattle.scan_found.specs.Contents.{entryOf}
 use Rattle.scan_found.specs.Found.{marksTo}
 use Rattle.state_choose.specs.Choose.{permitted, searchAfter, countPermitted}
 use Rattle.state.specs.State.{blank, mounted, copyBits}
@@ -42,13 +44,14 @@ use Rattle.request_refusals.specs.Refusals.{refusal, refusalOf}
 use Rattle.scan_block.specs.Pages.{pagesRead}
 use Rattle.scan_summary.specs.declared.Depth.{Depth}
 use Rattle.scan_summary.specs.declared.Depth.the-variants.{Full, Quick}
+use Rattle.scan_quick.specs.BlockRead.{blockRead}
 use Rattle.scan.specs.Scan.{blocksRead}
 use Rattle.fill.specs.Fill.{mainOf, mainRead, pageFilled, pagesFilled, tableMain, dataSource, isGiven}
 use Rattle.fill_tables.specs.Tables.{Tabled, afterFill, tryBlock, tryTable, tablesFilled, afterStatus}
 use Rattle.write_changes.specs.Changes.{writeUpdate, afterTry, copyTried, copiesFilled, thenTable, changeCall, writeRequest}
-use Rattle.format_marks.specs.Marks.{marksRead}
 use Rattle.format_erase.specs.Round.{afterErase, blockErased, failedAt, joined, numbersAt, erasedTo}
-use Rattle.format.specs.Format.{firstState, tooFew, tablesRun, roundRun, marksRun, formatRequest, statusRun}
+use Rattle.format_scan.specs.Survey.{listBits, unionTo, passedOver}
+use Rattle.format.specs.Format.{firstState, tooFew, afterLate, lateRun, tablesRun, roundRun, readsRun, formatRequest, statusRun}
 use Rattle.format_laws.specs.Formatting.{Acknowledged}
 use Rattle.format_laws.proofs.FormattingLaws.{format-acknowledged}
 use Rattle.damage.specs.Run.{failedIn, scanMost}
@@ -84,8 +87,8 @@ chip =
     device (record { phase = 1; count = 5; address = 196608; first = 0; column = 48; operation = 2; busy = 0; failed = 0; loaded = 0; fate = 0; illegal = 0; protected = 0 })
     (tablePages 0 ++ (tablePages 1 ++ (tablePages 2 ++ (tablePages 3 ++ replicate 576 255)))) (tablePages 3) (4 ∷ 0 ∷ 0 ∷ 0 ∷ [])
 
-format-is : formatOn small (lent 10000) erased (blank 0) ≡ result 0 state chip 356
-unfolding ones begun statusMode readMode plainCommand addressFits latched addressed fateWord nextFate started statusByte fitting readStarted programStarted eraseStarted completed isConfirm confirmed confirmable commanded dataTaken dataGiven dataByte finished statusRead exec programmed weakened raised put mayGo cutAfter send byteOut sendAll sent goesOn waiting polls outcomeOf isPassed endedAs readCycles readOutcome putOut readOutputs startedBy readOn statusOn statusEnd afterStatus statusAnswer statusState isProtected resetOn pagesRead blocksRead sized stopAnswer isSilent isCut bitAt withBit countBits zeroBits numberWidth bytesOf numberOf labelBytes encoded kindOf labelOf allOnes storedCheck countedCheck whole isMarked marksTo marksRead afterErase blockErased failedAt erasedTo eraseOn programOn isFailed mainOf mainRead pageFilled pagesFilled tableMain permitted searchAfter countPermitted afterFill tryBlock tryTable tablesFilled firstState tooFew tablesRun roundRun marksRun statusRun table.tablePage isDataKind isTableKind anyTo greatest joined numbersAt greatestBelow greatestTo hasNumber resultOf formatRequest
+format-is : formatOn small (lent 10000) erased (blank 0) ≡ result 0 state chip 1196
+unfolding ones begun statusMode readMode plainCommand addressFits latched addressed fateWord nextFate started statusByte fitting readStarted programStarted eraseStarted completed isConfirm confirmed confirmable commanded dataTaken dataGiven dataByte finished statusRead exec programmed weakened raised put mayGo cutAfter send byteOut sendAll sent goesOn waiting polls outcomeOf isPassed endedAs readCycles readOutcome putOut readOutputs startedBy readOn statusOn statusEnd afterStatus statusAnswer statusState isProtected resetOn pagesRead blockRead blocksRead sized stopAnswer isSilent isCut bitAt withBit countBits zeroBits numberWidth bytesOf numberOf labelBytes encoded kindOf labelOf allOnes storedCheck countedCheck whole isMarked marksTo afterErase blockErased failedAt erasedTo eraseOn programOn isFailed mainOf mainRead pageFilled pagesFilled tableMain permitted searchAfter countPermitted afterFill tryBlock tryTable tablesFilled firstState tooFew tablesRun roundRun readsRun statusRun table.tablePage isDataKind isTableKind anyTo greatest joined numbersAt greatestBelow greatestTo hasNumber resultOf formatRequest lateRun afterLate copyBits listBits unionTo passedOver carriedBy entryOf currentTable pick better isTable isComplete completeTo agrees
 format-is = refl
 
 -- the write of logical block 0, page 0 that sends 237 cycles, cut before the last, which would read its last program's status
@@ -146,7 +149,7 @@ format-done = ap (λ (r : Result). r .answer) format-is
 unrefused : refusalOf (settingOf small (lent 236)) chip state 0 0 page ≡ 0
 unfolding refusal
 unrefused =
-    let a = subst (Acknowledged (settingOf small (lent 10000))) format-is (format-acknowledged (settingOf small (lent 10000)) erased 10000 (blank 0) (bytes-same 192 255 (omega arith)) format-done) in
+    let a = subst (Acknowledged (settingOf small (lent 10000))) format-is (format-acknowledged (settingOf small (lent 10000)) erased 10000 (blank 0) (bytes-same 192 255 (omega arith)) (bytes-same 768 255 (omega arith)) format-done) in
     rw (a .still-sized, a .counts-mounted)
 
 abbrev marks : ℕ → Bool
@@ -225,12 +228,12 @@ few Quick = omega arith
 
 mount-done : (depth : Depth) → mount depth .answer ≡ 0
 mount-done depth =
-    comes-back small (lent 10000) erased (blank 0) (bytes-same 192 255 (omega arith)) format-done list possible depth (lent 10000) refl (λ slow. omega (arith, slow .within)) (few depth)
+    comes-back small (lent 10000) erased (blank 0) (bytes-same 192 255 (omega arith)) (bytes-same 768 255 (omega arith)) format-done list possible depth (lent 10000) refl (λ slow. omega (arith, slow .within)) (few depth)
 
 pub mount-reads : (depth : Depth) → readingBy small (mount depth) 0 0 ≡ page
 unfolding entered
 mount-reads depth =
     let done = mount-done depth in
-    let r = recovers small (lent 10000) erased (blank 0) (bytes-same 192 255 (omega arith)) format-done list possible depth (lent 10000)
+    let r = recovers small (lent 10000) erased (blank 0) (bytes-same 192 255 (omega arith)) (bytes-same 768 255 (omega arith)) format-done list possible depth (lent 10000)
     (λ e. omega (arith, e, done)) (λ e. omega (arith, e, done)) (λ e. omega (arith, e, done)) in
     r .otherwise (note (write 0 0 page) (cut .progress .started)) noted shows 0 0 (omega arith) (omega arith)

@@ -47,11 +47,11 @@ after-inv g (e ∷ es) t y i = after-inv g es (t .1) (happens g e y) (event-inv 
 
 -- the invariant holds always
 pub always : Always Inv
-always g a d st mask-bytes z es t = after-inv g es t (begun g a d st) (start-inv g a d st mask-bytes z)
+always g a d st mask-bytes array-bytes z es t = after-inv g es t (begun g a d st) (start-inv g a d st mask-bytes array-bytes z)
 
 -- so it is enough for what is said of a store
 pub by-inv : (P : Geometry → Store → Type 0) → ((g : Geometry) (y : Store) → Inv g y → P g y) → Always P
-by-inv P f g a d st mask-bytes z es t = f g (after g es (begun g a d st)) (always g a d st mask-bytes z es t)
+by-inv P f g a d st mask-bytes array-bytes z es t = f g (after g es (begun g a d st)) (always g a d st mask-bytes array-bytes z es t)
 
 pub recovers : Always Recovers
 recovers = by-inv Recovers inv-recovered

@@ -1,11 +1,13 @@
 -- The invariant holds after every acknowledged formatting. Assumes nothing but the law named.
 use Prim.Native.Nat.{ℕ, _<_}
-use mathlib.Core.Bool.{true}
+use mathlib.Core.Bool.{Bool, true, cond}
 use mathlib.Core.Path.{_≡_, refl, sym, ap, subst, _∙_}
 use native.Mathlib.Omega.{arith}
 use borrow.Table.Steps.{cases}
 use Rattle.geometry.specs.declared.Geometry.{Geometry}
+use Rattle.bools.proofs.BoolLaws.{one-true}
 use Rattle.bitmaps.specs.Bitmap.{bitAt}
+use Rattle.copies.specs.Carried.{isCarried}
 use Rattle.cells.specs.Bytes.{Bytes}
 use Rattle.chip_array.specs.Device.{Device, Setting}
 use Rattle.state.specs.declared.State.{State}
@@ -22,7 +24,7 @@ use Rattle.recovery.specs.Calls.{Lent, settingOf, formatOn, begun, chipOf}
 use Rattle.recovery_proof.specs.Invariant.{Inv}
 use Rattle.recovery_proof.proofs.InvariantLaws.{sizes-fit, up-inv}
 
-module _ (g : Geometry) (a : Lent) (d : Device) (st : State) (mask-bytes : Bytes (a .mask)) (z : formatOn g a d st .answer ≡ 0) where
+module _ (g : Geometry) (a : Lent) (d : Device) (st : State) (mask-bytes : Bytes (a .mask)) (array-bytes : Bytes (d .array)) (z : formatOn g a d st .answer ≡ 0) where
   abbrev s : Setting
   s = settingOf g a
 
@@ -33,7 +35,7 @@ module _ (g : Geometry) (a : Lent) (d : Device) (st : State) (mask-bytes : Bytes
   fits = cases (sizedFor s (chipOf a d)) (λ t. t) (λ f. absurd (omega (arith, z, format-refused s (chipOf a d) (a .allowed) st f)))
 
   ends : Formatting s (chipOf a d) (a .allowed) st r
-  ends = format-ends s (chipOf a d) (a .allowed) mask-bytes fits st
+  ends = format-ends s (chipOf a d) (a .allowed) mask-bytes array-bytes fits st
 
   done : Acknowledged s r
   done = ends .acknowledged z
@@ -54,7 +56,10 @@ module _ (g : Geometry) (a : Lent) (d : Device) (st : State) (mask-bytes : Bytes
   trace-is = rw fits
 
   failed-listed : (b : ℕ) → b < g .blocks → failedIn b (startedIn (formatRequest s (chipOf a d) (a .allowed) st)) ≡ true → bitAt (r .state .invalid) b ≡ true
-  failed-listed b h e = sym (f .lists-are b h) ∙ sym (ends .lists-failed z b h) ∙ ap (failedIn b) (sym trace-is) ∙ e
+  failed-listed b h e =
+      sym (f .lists-are b h) ∙ ends .lists-are z b h
+      ∙ ap (λ (x : Bool). cond (isCarried g (d .array) b) true x) (ap (failedIn b) (sym trace-is) ∙ e)
+      ∙ one-true (isCarried g (d .array) b)
 
   pub start-inv : Inv g (begun g a d st)
   unfolding begun

@@ -29,7 +29,8 @@ use Rattle.write_laws.proofs.ChangingLaws.{write-ends, erase-ends}
 use Rattle.recovery_stored.proofs.KnowsLaws.{knows-bits}
 use Rattle.recovery.specs.Calls.{Lent, Call, toMount, toRead, toWrite, toErase, toIdentify, Typed, Event, called, powerLost, Possible, AllPossible, Store, settingOf, formatOn, step, unpowered, happens, after, begun, chipOf}
 use Rattle.recovery_proof.specs.Invariant.{Up, Inv}
-use Rattle.recovery_proof.specs.Told.{AlwaysOfBytes, WritesTold, ErasesTold}
+use Rattle.recovery.specs.Recovery.{Always}
+use Rattle.recovery_proof.specs.Told.{WritesTold, ErasesTold}
 use Rattle.recovery_proof.proofs.IdentifySteps.{identify-array}
 use Rattle.recovery_proof.proofs.InvariantLaws.{is-up}
 use Rattle.recovery_proof.proofs.SizeLaws.{change-leads}
@@ -91,7 +92,7 @@ begun-bytes g a d st mask-bytes h z =
     let s = settingOf g a in
     let e = chipOf a d in
     let t : sizedFor s e ≡ true = cases (sizedFor s e) (λ t. t) (λ f. absurd (omega (arith, z, format-refused s e (a .allowed) st f))) in
-    run-kept s e (a .allowed) st h mask-bytes _ _ (format-ends s e (a .allowed) mask-bytes t st .replayed .leads)
+    run-kept s e (a .allowed) st h mask-bytes _ _ (format-ends s e (a .allowed) mask-bytes h t st .replayed .leads)
 
 -- a mounted store is as the types of the code have it
 ranged : (g : Geometry) (y : Store) → Up g y → Bytes (y .chip .array) → (a : Lent) → Bytes (a .mask) → InRange (settingOf g a) (chipOf a (y .chip)) (y .state)
@@ -105,11 +106,11 @@ ranged g y u h a mask-bytes =
       map-long = ap length (u .agrees .knows .map-is) ∙ map-long g (y .chip .array) (y .state .table);
     }
 
-of-bytes : (P : Geometry → Store → Type 0) → ((g : Geometry) (y : Store) → Inv g y → Bytes (y .chip .array) → P g y) → AlwaysOfBytes P
+pub of-bytes : (P : Geometry → Store → Type 0) → ((g : Geometry) (y : Store) → Inv g y → Bytes (y .chip .array) → P g y) → Always P
 of-bytes P f g a d st mask-bytes h z es t =
-    f g (after g es (begun g a d st)) (always g a d st mask-bytes z es t) (after-bytes g es t (begun g a d st) (begun-bytes g a d st mask-bytes h z))
+    f g (after g es (begun g a d st)) (always g a d st mask-bytes h z es t) (after-bytes g es t (begun g a d st) (begun-bytes g a d st mask-bytes h z))
 
-pub writes-told : AlwaysOfBytes WritesTold
+pub writes-told : Always WritesTold
 writes-told =
     of-bytes WritesTold
     (λ g y i h a logical page bytes m b z.
@@ -117,7 +118,7 @@ writes-told =
     let u = is-up g y i (accepts g (sizedFor s (chipOf a (y .chip))) (y .state) logical page (length bytes) z .is-mounted) in
     write-ends s (chipOf a (y .chip)) (a .allowed) (y .state) (ranged g y u h a m) (u .ready) logical page bytes z b)
 
-pub erases-told : AlwaysOfBytes ErasesTold
+pub erases-told : Always ErasesTold
 erases-told =
     of-bytes ErasesTold
     (λ g y i h a logical m z.

@@ -1,21 +1,13 @@
--- How a further write or erase ends, and when it is answered 8 or 9, after a list on a chip whose array is bytes.
+-- How a further write or erase ends, and when it is answered 8 or 9, after a list.
 use Prim.Native.Nat.{ℕ}
 use mathlib.Core.List.{List}
 use mathlib.Core.Path.{_≡_}
 use Rattle.geometry.specs.declared.Geometry.{Geometry}
 use Rattle.cells.specs.Bytes.{Bytes}
-use Rattle.chip_array.specs.Device.{Device}
-use Rattle.state.specs.declared.State.{State}
 use Rattle.request_refusals.specs.Refusals.{refusalOf}
 use Rattle.write_changes.specs.Changes.{writeUpdate, eraseUpdate, eraseRefusal}
 use Rattle.write_laws.specs.Changing.{Changing}
-use Rattle.recovery.specs.Calls.{Lent, Event, AllPossible, Store, settingOf, chipOf, writeOn, eraseOf, after, formatOn, begun}
-
--- as Always, of a chip that was handed to the formatting as bytes
-abbrev pub AlwaysOfBytes : (Geometry → Store → Type 0) → Type 0
-AlwaysOfBytes P =
-    (g : Geometry) (a : Lent) (d : Device) (st : State) → Bytes (a .mask) → Bytes (d .array) → formatOn g a d st .answer ≡ 0
-    → (es : List Event) → AllPossible g es → P g (after g es (begun g a d st))
+use Rattle.recovery.specs.Calls.{Lent, Store, settingOf, chipOf, writeOn, eraseOf}
 
 -- requests that are not refused
 abbrev pub WritesTold : Geometry → Store → Type 0

@@ -23,7 +23,8 @@ use Rattle.damage.proofs.PlaceLaws.{page-long}
 use Rattle.damage.proofs.CopyLaws.{no-mark, copy-long, page-whole, raised-same, raised-unmarked}
 use Rattle.recovery_stored.specs.Stored.{Left}
 use Rattle.recovery_stored.specs.After.{After, Based}
-use Rattle.recovery_stored.proofs.PageLaws.{page-raised, left-raised, whole-kept}
+use Rattle.format_laws.proofs.RaisedLaws.{page-raised}
+use Rattle.recovery_stored.proofs.PageLaws.{left-raised, whole-kept}
 
 -- a partial erase leaves FFh as it was
 module _ (g : Geometry) (v : Valid g) (row mask : List ℕ) (bytes : Bytes mask) (long : (i : ℕ) → i < g .pages → length (pageIn g row i) ≡ pageSize g) where

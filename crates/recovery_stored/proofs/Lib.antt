@@ -8,3 +8,4 @@ pub mod RenewedLaws
 pub mod ListedLaws
 pub mod KnowsLaws
 pub mod FollowLaws
+pub mod RememberedLaws

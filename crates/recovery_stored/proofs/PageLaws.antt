@@ -1,14 +1,11 @@
 -- Pages that this store can leave: a partial erase keeps them so, and makes none of them whole. Assumes nothing.
-use Prim.Native.Nat.{ℕ, zero, suc, _*_}
+use Prim.Native.Nat.{ℕ}
 use mathlib.Core.Bool.{true}
-use mathlib.Core.List.{List, [], _∷_}
-use mathlib.Core.Path.{_≡_, refl, sym, ap, subst, _∙_}
+use mathlib.Core.List.{List}
+use mathlib.Core.Path.{_≡_, sym, subst}
 use native.Mathlib.Omega.{arith}
-use lib.Bits.{bitOr}
-use lib.ListN.{getD, take, drop}
 use Rattle.geometry.specs.declared.Geometry.{Geometry}
 use Rattle.geometry.specs.Limits.{Valid}
-use Rattle.geometry.specs.Sizes.{pageSize}
 use Rattle.cells.specs.Bytes.{Bytes}
 use Rattle.cells.specs.Cells.{raised}
 use Rattle.pages.specs.Check.{zeroBits}
@@ -16,7 +13,6 @@ use Rattle.pages.specs.Layout.{Sized, whole}
 use Rattle.pages.specs.Over.{Over}
 use Rattle.pages.proofs.OverLaws.{over-refl, over-bytes-to, zeroBits-over, zeroBits-same, raised-over}
 use Rattle.pages.proofs.LayoutLaws.{whole-over-any}
-use Rattle.copies.specs.Blocks.{pageIn}
 use Rattle.recovery_stored.specs.Stored.{Left}
 
 -- two pages, each with bits raised over the other, are the same
@@ -24,31 +20,6 @@ pub over-both : {xs ys : List ℕ} → Over xs ys → Over ys xs → ys ≡ xs
 over-both {xs} {ys} o q =
     let same : zeroBits ys ≡ zeroBits xs = omega (arith, zeroBits-over o, zeroBits-over q) in
     zeroBits-same o same
-
--- a page of a block that was erased in part is its page, erased in part
-pub take-raised : (n : ℕ) (xs ms : List ℕ) → take n (raised xs ms) ≡ raised (take n xs) ms
-unfolding raised
-take-raised zero xs ms = refl
-take-raised (suc n) [] ms = refl
-take-raised (suc n) (x ∷ xs) ms = ap (λ (l : List ℕ). bitOr x (getD ms 0 0) ∷ l) (take-raised n xs (drop 1 ms))
-
-drop-nil : (n : ℕ) → drop n (drop {A = ℕ} 1 []) ≡ []
-drop-nil zero = refl
-drop-nil (suc n) = refl
-
-drop-one : (n : ℕ) (ms : List ℕ) → drop n (drop 1 ms) ≡ drop (suc n) ms
-drop-one n [] = drop-nil n
-drop-one n (m ∷ ms) = refl
-
-pub drop-raised : (n : ℕ) (xs ms : List ℕ) → drop n (raised xs ms) ≡ raised (drop n xs) (drop n ms)
-unfolding raised
-drop-raised zero xs ms = refl
-drop-raised (suc n) [] ms = refl
-drop-raised (suc n) (x ∷ xs) ms = drop-raised n xs (drop 1 ms) ∙ ap (raised (drop n xs)) (drop-one n ms)
-
-pub page-raised : (g : Geometry) (row ms : List ℕ) (i : ℕ) → pageIn g (raised row ms) i ≡ raised (pageIn g row i) (drop (i * pageSize g) ms)
-page-raised g row ms i =
-    ap (take (pageSize g)) (drop-raised (i * pageSize g) row ms) ∙ take-raised (pageSize g) (drop (i * pageSize g) row) (drop (i * pageSize g) ms)
 
 -- it was meant as a page of the chip
 left-sized : (g : Geometry) → Valid g → (x : List ℕ) (l : Left g x) → Sized (g .main) (l .page)

@@ -3,6 +3,7 @@ use Prim.Native.Nat.{ℕ, _<_}
 use mathlib.Core.Bool.{false}
 use mathlib.Core.List.{List}
 use mathlib.Core.Path.{_≡_, sym, ap, subst, _∙_}
+use native.Mathlib.Omega.{arith}
 use borrow.Table.Steps.{cases}
 use borrow.Author.Tests.{eqb-true, eqb-false}
 use lib.Dec.{eqb}
@@ -39,6 +40,11 @@ module _ (g : Geometry) (v : Valid g) (array : List ℕ) (long : length array �
   table-left there i h =
       record { page = pageIn g (row (st .table)) i; long = page-long g v array long (st .table) there i h; is-whole = f .table-whole i h; is-over = over-refl (pageIn g (row (st .table)) i) (f .table-bytes i h) }
 
+  -- and those of the former table
+  former-left : f .former < g .blocks → (i : ℕ) → i < g .pages → Left g (pageIn g (row (f .former)) i)
+  former-left there i h =
+      record { page = pageIn g (row (f .former)) i; long = page-long g v array long (f .former) there i h; is-whole = f .former-whole there i h; is-over = over-refl (pageIn g (row (f .former)) i) (f .former-bytes there i h) }
+
   -- FFh is any of them with all bits raised
   erased-left : st .table < g .blocks → (i : ℕ) → i < g .pages → Left g (replicate (pageSize g) 255)
   erased-left there i hi =
@@ -55,7 +61,12 @@ module _ (g : Geometry) (v : Valid g) (array : List ℕ) (long : length array �
     pages-left b i hb hi m l =
         cases (eqb b (st .table))
         (λ e. subst (λ (k : ℕ). Left g (pageIn g (row k) i)) (sym (eqb-true b (st .table) e)) (table-left below i hi))
-        (λ e. subst (Left g) (sym (f .erased b hb (eqb-false b (st .table) e) m l i hi)) (erased-left below i hi))
+        (λ e.
+        cases (eqb b (f .former))
+        (λ u.
+        let at-former = eqb-true b (f .former) u in
+        subst (λ (k : ℕ). Left g (pageIn g (row k) i)) (sym at-former) (former-left (omega (arith, hb, at-former)) i hi))
+        (λ u. subst (Left g) (sym (f .erased b hb (eqb-false b (st .table) e) (eqb-false b (f .former) u) m l i hi)) (erased-left below i hi)))
 
     pub formatted-stored : Stored g array
     formatted-stored =

@@ -1,3 +1,4 @@
 pub mod Stored
 pub mod After
 pub mod Knows
+pub mod Remembered

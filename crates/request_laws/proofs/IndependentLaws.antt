@@ -27,7 +27,7 @@ use Rattle.scan_summary.specs.declared.Depth.{Depth}
 use Rattle.mount.specs.Mount.{mountEnd, mounting}
 use Rattle.mount.proofs.EndLaws.{mount-stops, mount-started}
 use Rattle.fill_tables.specs.Tables.{endOfRun}
-use Rattle.format.specs.Format.{marksRun, formatting}
+use Rattle.format.specs.Format.{readsRun, formatting}
 use Rattle.format.proofs.WholeLaws.{format-stops, format-started}
 use Rattle.request_laws.specs.Independent.{poweredAt, SameMemory, SameOutcome}
 
@@ -131,7 +131,7 @@ module _ (s : Setting) (d e : Device) (same : SameMemory d e) where
   pub format-independent : (n : ℕ) (state : State) → SameOutcome (formatting s d n state) (formatting s e n state)
   format-independent n state =
       along (sym (format-started s d n state)) (sym (format-started s e n state))
-      (start-same n state (λ p. endOfRun n (marksRun s state p)) (format-stops s n state))
+      (start-same n state (λ p. endOfRun n (readsRun s state p)) (format-stops s n state))
 
 -- so a chip that was switched on again, its write-protect line as it was, mounts and formats as the one that was left
 module _ (s : Setting) (d : Device) (n : ℕ) (state : State) where

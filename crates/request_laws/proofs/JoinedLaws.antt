@@ -91,11 +91,11 @@ unfolding stateBy
 full-state g array = refl
 
 -- after every acknowledged formatting every logical page reads FFh
-pub format-then-read : (s : Setting) (d : Device) (n : ℕ) (state : State) → Bytes (s .mask) → formatting s d n state .answer ≡ 0
+pub format-then-read : (s : Setting) (d : Device) (n : ℕ) (state : State) → Bytes (s .mask) → Bytes (d .array) → formatting s d n state .answer ≡ 0
     → Readable (s .geometry) (formatting s d n state) (λ logical page. replicate (s .geometry .main) 255)
-format-then-read s d n state mask-bytes z mask fates k logical page buffer mask-long l p long =
+format-then-read s d n state mask-bytes array-bytes z mask fates k logical page buffer mask-long l p long =
     let r = formatting s d n state in
-    let a = format-acknowledged s d n state mask-bytes z in
+    let a = format-acknowledged s d n state mask-bytes array-bytes z in
     let f = a .formatted in
     subst (λ (bytes : List ℕ). ReadsAs (setting (s .geometry) mask fates) (r .chip) k (r .state) bytes (readingPage (setting (s .geometry) mask fates) (r .chip) k (r .state) logical page buffer)) (f .reads-blank logical page)
     (reads-after s r (a .counts-mounted) (a .still-sized) (a .still-ready) (map-of-state Full (s .geometry) (r .chip .array) (r .state) (f .state-is ∙ full-state (s .geometry) (r .chip .array))) mask fates k logical page buffer mask-long l p long)

@@ -1,13 +1,12 @@
 -- The scan of a block's pages on its way: where each page leaves it, and what it tells of the block. Assumes nothing.
 use Prim.Native.Nat.{ℕ, zero, suc, _+_, _-_, _*_, _≤_, _<_}
-use mathlib.Core.Bool.{Bool, true, false, cond, false≢true}
+use mathlib.Core.Bool.{true, false, false≢true}
 use mathlib.Core.List.{List}
 use mathlib.Core.Path.{_≡_, refl, sym, ap, ap₂, subst, _∙_}
 use native.Mathlib.Nat.{zero-add}
 use native.Mathlib.Numerals.{add-one}
 use native.Mathlib.Omega.{arith}
 use borrow.Author.Tests.{ne-eqb}
-use lib.Dec.{eqb}
 use lib.ListN.{length}
 use Rattle.geometry.specs.declared.Geometry.{Geometry}
 use Rattle.geometry.specs.Sizes.{pageSize, rowOf}
@@ -26,8 +25,9 @@ use Rattle.operations.specs.Trace.{ArrayOperation}
 use Rattle.copies.specs.Blocks.{blockIn, pageIn, mainIn}
 use Rattle.scan_summary.specs.Summary.{blankSummary, summed, stepped}
 use Rattle.scan_summary.specs.declared.Summary.{Summary}
-use Rattle.copies.specs.Table.{bitmapOf, bitsWith, rightPage, rightTo, rightWith}
+use Rattle.copies.specs.Table.{bitmapOf, bitsWith, layoutTo, rightTo, rightWith}
 use Rattle.copies.proofs.PlaceLaws.{row-is-page}
+use Rattle.copies.proofs.CarriedLaws.{layout-next}
 use Rattle.progress.specs.Progress.{Progress, progress, readOn}
 use Rattle.scan_block.specs.Gathered.{Gathered, gathered, gatheredWith, gatheredFrom, PagesScanned}
 use Rattle.scan_block.specs.Pages.{pagesFrom, pagesRead}
@@ -187,13 +187,6 @@ module _ (s : Setting) (l m : Line) (block first n : ℕ) (from here : Gathered)
           gives = λ t. absurd (false≢true (sym f ∙ t));
         })
 
--- one page more with the flag for a table
-pub right-next : (a b : Bool) → _≡_ {A = ℕ} (cond (eqb (cond a 1 0) 0) 0 (cond b 1 0)) (cond (cond b a false) 1 0)
-right-next true true = refl
-right-next true false = refl
-right-next false true = refl
-right-next false false = refl
-
 -- what the first n pages tell
 module _ (g : Geometry) (block : List ℕ) where
   pub summed-first : (n : ℕ) (x : Gathered) → x .summary ≡ blankSummary → gatheredFrom g block 0 n x .summary ≡ summed g block n
@@ -202,12 +195,12 @@ module _ (g : Geometry) (block : List ℕ) where
   summed-first (suc n) x e =
       ap₂ (λ (i : ℕ) (s : Summary). stepped (g .main) i (pageIn g block i) s) (zero-add n) (summed-first n x e)
 
-  pub right-first : (n : ℕ) (x : Gathered) → x .right ≡ 1 → gatheredFrom g block 0 n x .right ≡ cond (rightTo g block n) 1 0
-  unfolding gatheredFrom rightTo rightWith
+  pub right-first : (n : ℕ) (x : Gathered) → x .right ≡ 1 → gatheredFrom g block 0 n x .right ≡ layoutTo g block n
+  unfolding gatheredFrom rightTo
   right-first zero x e = e
   right-first (suc n) x e =
       ap₂ (λ (i r : ℕ). rightWith g i (pageIn g block i) r) (zero-add n) (right-first n x e)
-      ∙ right-next (rightTo g block n) (rightPage g n (pageIn g block n))
+      ∙ layout-next g block n
 
   -- the bitmap is in the buffer after page 0, and no later page changes it
   pub bits-later : (first n : ℕ) (x : Gathered) → 1 ≤ first → gatheredFrom g block first n x .bits ≡ x .bits
@@ -235,7 +228,7 @@ module _ (s : Setting) (l m : Line) (e : Outcome) (block : ℕ) (x y : Gathered)
   block-summary b t =
       ap (λ (z : Gathered). z .summary) (d .gives t) ∙ summed-first (s .geometry) (blockIn (s .geometry) (l .chip .array) block) (s .geometry .pages) x b
 
-  pub block-right : x .right ≡ 1 → isPassed e ≡ true → y .right ≡ cond (rightTo (s .geometry) (blockIn (s .geometry) (l .chip .array) block) (s .geometry .pages)) 1 0
+  pub block-right : x .right ≡ 1 → isPassed e ≡ true → y .right ≡ layoutTo (s .geometry) (blockIn (s .geometry) (l .chip .array) block) (s .geometry .pages)
   block-right b t =
       ap (λ (z : Gathered). z .right) (d .gives t) ∙ right-first (s .geometry) (blockIn (s .geometry) (l .chip .array) block) (s .geometry .pages) x b
 

@@ -19,7 +19,7 @@ ghost use Rattle.operations.specs.Trace.{ArrayOperation};
 ghost use Rattle.copies.specs.Blocks.{blockIn, mainIn};
 ghost use Rattle.scan_summary.specs.Summary.{summed};
 ghost use Rattle.bitmaps.specs.Bitmap.{bitmapBytes};
-ghost use Rattle.copies.specs.Table.{bitmapOf, rightTo};
+ghost use Rattle.copies.specs.Table.{bitmapOf, layoutTo};
 ghost use Rattle.cells.specs.Part.{put};
 ghost use Rattle.progress.specs.Progress.{progress};
 ghost use Rattle.scan_block.specs.Gathered.{PagesScanned, gathered};
@@ -31,7 +31,7 @@ pub struct Scanned {
     pub bus: Bus,
     pub outcome: Outcome,
     pub summary: Summary,
-    // 1 where every page is as a table's.
+    // 1 where every page is as a table's, 2 where it is as that of a table for another number of logical blocks.
     pub right: usize,
 }
 
@@ -117,7 +117,7 @@ pub fn scan_block(
     ensures { λ r. ⌜ now (history .exit) ≡ now (history .entry) ⌝ }
     ensures { λ r. ⌜ (isPassed (r .outcome) ≡ true → Called (setting g (now (mask .entry)) (now (fates .entry))) (line (r .bus) (now (array .exit)) (now (register .exit)) (now (history .exit)))) ⌝ }
     ensures { λ r. ⌜ (isPassed (r .outcome) ≡ true → r .summary ≡ summed g (blockIn g (now (array .entry)) block) (g .pages)) ⌝ }
-    ensures { λ r. ⌜ (isPassed (r .outcome) ≡ true → r .right ≡ cond (rightTo g (blockIn g (now (array .entry)) block) (g .pages)) 1 0) ⌝ }
+    ensures { λ r. ⌜ (isPassed (r .outcome) ≡ true → r .right ≡ layoutTo g (blockIn g (now (array .entry)) block) (g .pages)) ⌝ }
     ensures { λ r. ⌜ (isPassed (r .outcome) ≡ true → now (bits .exit) ≡ put 0 (bitmapOf (g .blocks) (mainIn g (blockIn g (now (array .entry)) block) 0)) (now (bits .entry))) ⌝ }
 {
     let start = Scanned {

@@ -11,7 +11,7 @@ use Rattle.pages.specs.Layout.{isTableKind}
 use Rattle.copies.specs.Blocks.{blockIn, mainIn, isMarked}
 use Rattle.scan_summary.specs.Depth.{summaryBy}
 use Rattle.scan_summary.specs.Summary.{saysComplete, saysNumber}
-use Rattle.copies.specs.Table.{bitmapOf, rightTo}
+use Rattle.copies.specs.Table.{bitmapOf, layoutTo}
 use Rattle.scan_summary.specs.declared.Depth.{Depth}
 use Rattle.scan_summary.specs.declared.Summary.{Summary}
 use Rattle.scan_found.specs.declared.Found.{Found}
@@ -52,12 +52,12 @@ tableNoted b s right bits f =
 unfoldable pub noted : ℕ → Summary → ℕ → List ℕ → Found → Found
 noted b s right bits f = tableNoted b s right bits (greatestNoted b s (markNoted b s f))
 
--- the summary by the depth of the scan, the test for a table, and the bitmap of a block of the array
+-- the summary by the depth of the scan, the layout as a table, and the bitmap of a block of the array
 abbrev pub summaryAt : Depth → Geometry → List ℕ → ℕ → Summary
 summaryAt k g array b = summaryBy k g (blockIn g array b)
 
 abbrev pub rightAt : Geometry → List ℕ → ℕ → ℕ
-rightAt g array b = cond (rightTo g (blockIn g array b) (g .pages)) 1 0
+rightAt g array b = layoutTo g (blockIn g array b) (g .pages)
 
 abbrev pub bitsAt : Geometry → List ℕ → ℕ → List ℕ
 bitsAt g array b = put 0 (bitmapOf (g .blocks) (mainIn g (blockIn g array b) 0)) (replicate 512 0)

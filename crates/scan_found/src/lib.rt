@@ -12,7 +12,7 @@ pub struct Found {
     pub any: usize,
     pub greatest: u64,
     pub last: usize,
-    // 1 if a complete table was found; the block and number of the current one, whether its pages are right, its bitmap.
+    // 1 if a complete table was found; the block and number of the current one, how its pages are laid out, its bitmap.
     pub tables: usize,
     pub table: usize,
     pub number: u64,

@@ -19,7 +19,7 @@ use Rattle.operations.specs.Trace.{ArrayOperation}
 use Rattle.pages.specs.Layout.{whole}
 use Rattle.copies.specs.Blocks.{blockIn, pageIn, mainIn, markByte, wholeIn, isComplete}
 use Rattle.copies.specs.Quick.{lastPage, endsWhole}
-use Rattle.copies.specs.Table.{bitmapOf, rightPage, rightTo, rightWith}
+use Rattle.copies.specs.Table.{bitmapOf, layoutTo, ownCount, rightPage, rightTo, rightWith}
 use Rattle.copies.proofs.QuickLaws.{complete-ends}
 use Rattle.scan_summary.specs.Depth.{summaryBy}
 use Rattle.scan_summary.specs.Quick.{marking, endsSummed, middleSummed, quickSummed}
@@ -33,7 +33,8 @@ use Rattle.progress.proofs.ReadOnLaws.{read-stopped}
 use Rattle.scan_block.specs.Gathered.{Gathered, gathered, gatheredFrom, Ran, PagesScanned}
 use Rattle.scan_block.specs.Mark.{MarkRead}
 use Rattle.scan_block.specs.Pages.{pagesFrom, pagesRead}
-use Rattle.scan_block.proofs.ScanLaws.{none-read, right-next, bits-first, bits-later}
+use Rattle.scan_block.proofs.ScanLaws.{none-read, bits-first, bits-later}
+use Rattle.copies.proofs.CarriedLaws.{layout-one, layout-next}
 use Rattle.scan_quick.specs.BlockRead.{pageRead, markRead, endsRead, quickRead, blockRead, MarkScanned, BlockScanned}
 use Rattle.scan_quick.proofs.RanLaws.{ran-then, ran-same, passed-before, one-page}
 
@@ -63,26 +64,34 @@ module _ (g : Geometry) (block : List ℕ) where
   abbrev test : ℕ → Bool
   test i = rightPage g i (pageIn g block i)
 
-  right-one : (i : ℕ) (b : Bool) → rightWith g i (pageIn g block i) (cond b 1 0) ≡ cond (cond (test i) b false) 1 0
-  unfolding rightWith
-  right-one i b = right-next b (test i)
+  -- and for the number of logical blocks named in page 0
+  abbrev own : ℕ → Bool
+  own i = rightPage (ownCount g block) i (pageIn g block i)
+
+  abbrev layoutBy : ℕ → ℕ → ℕ
+  layoutBy last n = cond (visited test last n) 1 (cond (visited own last n) 2 0)
 
   right-all : (n : ℕ) → rightTo g block n ≡ allTo test n
   unfolding rightTo allTo
   right-all zero = refl
   right-all (suc n) = ap (λ (b : Bool). cond (test n) b false) (right-all n)
 
-  middle-right : (last n : ℕ) (x : Gathered) → x .right ≡ cond (visited test last 0) 1 0 → gatheredFrom g block 1 n x .right ≡ cond (visited test last n) 1 0
+  own-all : (n : ℕ) → rightTo (ownCount g block) block n ≡ allTo own n
+  unfolding rightTo allTo
+  own-all zero = refl
+  own-all (suc n) = ap (λ (b : Bool). cond (own n) b false) (own-all n)
+
+  middle-right : (last n : ℕ) (x : Gathered) → x .right ≡ layoutBy last 0 → gatheredFrom g block 1 n x .right ≡ layoutBy last n
   unfolding gatheredFrom visited
   middle-right last zero x e = e
   middle-right last (suc n) x e =
       let k : 1 + n ≡ suc n = omega arith in
-      ap₂ (λ (i r : ℕ). rightWith g i (pageIn g block i) r) k (middle-right last n x e) ∙ right-one (suc n) (visited test last n)
+      ap₂ (λ (i r : ℕ). rightWith g i (pageIn g block i) r) k (middle-right last n x e) ∙ layout-one g block (suc n) (λ z. omega (arith, z)) (visited test last n) (visited own last n)
 
-  all-right : 3 ≤ g .pages → (x : Gathered) → x .right ≡ cond (visited test (lastPage g) 0) 1 0 → gatheredFrom g block 1 (g .pages - 2) x .right ≡ cond (rightTo g block (g .pages)) 1 0
+  all-right : 3 ≤ g .pages → (x : Gathered) → x .right ≡ layoutBy (lastPage g) 0 → gatheredFrom g block 1 (g .pages - 2) x .right ≡ layoutTo g block (g .pages)
   all-right three x e =
       middle-right (lastPage g) (g .pages - 2) x e
-      ∙ ap (λ (b : Bool). cond b 1 0) (any-order test (g .pages) three ∙ sym (right-all (g .pages)))
+      ∙ ap₂ (λ (b c : Bool). cond b 1 (cond c 2 0)) (any-order test (g .pages) three ∙ sym (right-all (g .pages))) (any-order own (g .pages) three ∙ sym (own-all (g .pages)))
 
 -- a scan that has not passed reads no mark byte
 mark-stopped : (s : Setting) (block : ℕ) (p : Progress) → isPassed (p .outcome) ≡ false → markRead s block p ≡ p
@@ -159,17 +168,17 @@ module _ (s : Setting) (block : ℕ) (three : 3 ≤ s .geometry .pages) (l m₁ 
       c .summary-is t
       ∙ ap₂ (λ (y : List ℕ) (z : Summary). marking (markByte g (blockIn g y block) 1) z) (b .ran .same-array ∙ a .ran .same-array) (two ∙ ap (stepped (g .main) (lastPage g) (pageIn g row (lastPage g))) one)
 
-  ends-right : isPassed o₃ ≡ true → r₃ ≡ cond (visited (test g row) (lastPage g) 0) 1 0
-  unfolding visited
+  ends-right : isPassed o₃ ≡ true → r₃ ≡ layoutBy g row (lastPage g) 0
+  unfolding visited rightTo
   ends-right t =
       let u = two-passed t in
-      let one : r₁ ≡ cond (cond (test g row 0) true false) 1 0 =
-      ap (λ (y : Gathered). y .right) (first-gives (one-passed u)) ∙ one-right g row 0 (gathered x₀ 1 before buffer) ∙ right-one g row 0 true in
+      let one : r₁ ≡ cond (cond (test g row 0) true false) 1 (cond (cond (own g row 0) true false) 2 0) =
+      ap (λ (y : Gathered). y .right) (first-gives (one-passed u)) ∙ one-right g row 0 (gathered x₀ 1 before buffer) ∙ layout-next g row 0 in
       c .same-right
       ∙ ap (λ (y : Gathered). y .right) (last-gives u)
       ∙ one-right g row (lastPage g) (gathered x₁ r₁ b₁ first)
       ∙ ap (rightWith g (lastPage g) (pageIn g row (lastPage g))) one
-      ∙ right-one g row (lastPage g) (cond (test g row 0) true false)
+      ∙ layout-one g row (lastPage g) (λ z. omega (arith, z, three)) (cond (test g row 0) true false) (cond (own g row 0) true false)
 
   ends-bits : isPassed o₃ ≡ true → b₂ ≡ put 0 (bitmapOf (g .blocks) (mainIn g row 0)) before
   ends-bits t =
@@ -274,7 +283,7 @@ pub full-scan : (s : Setting) (l m : Line) (e : Outcome) (block : ℕ) (summary 
     → ((cs : List Cycle) (os : List ArrayOperation) → e ≡ pagesRead s block (s .geometry .pages) (progress l Passed cs os) .outcome)
     → m .chip .array ≡ l .chip .array → m .chip .history ≡ l .chip .history → (isPassed e ≡ true → Called s m)
     → (isPassed e ≡ true → summary ≡ summed (s .geometry) (blockIn (s .geometry) (l .chip .array) block) (s .geometry .pages))
-    → (isPassed e ≡ true → right ≡ cond (rightTo (s .geometry) (blockIn (s .geometry) (l .chip .array) block) (s .geometry .pages)) 1 0)
+    → (isPassed e ≡ true → right ≡ layoutTo (s .geometry) (blockIn (s .geometry) (l .chip .array) block) (s .geometry .pages))
     → (isPassed e ≡ true → bits ≡ put 0 (bitmapOf (s .geometry .blocks) (mainIn (s .geometry) (blockIn (s .geometry) (l .chip .array) block) 0)) before)
     → BlockScanned Full s l m e block summary right before bits
 unfolding blockRead summaryBy

@@ -18,7 +18,7 @@ use Rattle.pages.proofs.LayoutLaws.{length-bytesOf, numberOf-bytesOf, allOnes-r
 use Rattle.cells.specs.Cells.{over}
 use Rattle.cells.specs.Part.{put}
 use Rattle.cells.proofs.PartLaws.{put-lent, length-part, part-take}
-use Rattle.copies.specs.Table.{Roomy, fieldOf, bitmapOf, rightFirst, rightPage, bitsWith, tablePage}
+use Rattle.copies.specs.Table.{Roomy, fieldOf, bitmapOf, rightFirst, rightPage, rightWith, bitsWith, tablePage, withLogical}
 
 module _ (blocks logical : ℕ) (main : List ℕ) where
   pub wrong-blocks : (fieldOf main 0 ≡ blocks → ⊥) → false ≡ rightFirst blocks logical main
@@ -64,6 +64,12 @@ module _ (g : Geometry) (p : ℕ) (page : List ℕ) where
   pub first-page : p ≡ 0 → labelOf (g .main) page .logical ≡ 0 → rightFirst (g .blocks) (g .logical) (take (g .main) page) ≡ rightPage g p page
   unfolding rightPage
   first-page z l = rw (eq-eqb p 0 z, eq-eqb _ 0 l)
+
+-- the layout where this page is not right for the geometry, by what it is for the number n that it names
+pub layout-named : (g : Geometry) (p : ℕ) (page : List ℕ) (right n : ℕ) (b : Bool) → (right ≡ 0 → ⊥) → rightPage g p page ≡ false → n ≡ fieldOf (take (g .main) page) 2 → b ≡ rightPage (withLogical n g) p page → cond b 2 0 ≡ rightWith g p page right
+unfolding rightWith
+layout-named g p page right n b z f e q =
+    rw (ne-eqb right 0 z, f) (ap (λ (x : Bool). cond x 2 0) (q ∙ ap (λ (k : ℕ). rightPage (withLogical k g) p page) e))
 
 -- a valid geometry has room for header and bitmap
 pub valid-roomy : (g : Geometry) → Valid g → Roomy (g .blocks) (g .main)

@@ -5,7 +5,7 @@ ghost use mathlib.Core.Path.{_≡_};
 ghost use Prim.Native.Nat.{_*_, _≤_};
 ghost use lib.ListN.{length};
 ghost use Rattle.bitmaps.specs.Bitmap.{bitmapBytes};
-ghost use Rattle.copies.specs.Table.{bitsWith, rightFirst, rightPage, rightWith, tablePage, Roomy};
+ghost use Rattle.copies.specs.Table.{bitsWith, rightWith, rightFirst, rightPage, tablePage, withLogical, Roomy};
 ghost use Rattle.geometry.specs.Limits.{Valid};
 ghost use Rattle.geometry.specs.Sizes.{pageSize};
 
@@ -43,11 +43,11 @@ pub fn is_right_first(main: &[u8], blocks: usize, logical: usize) -> bool
     false
 }
 
-// Whether a page of a table is right: page 0 under logical block 0, the others FFh.
-pub fn is_right_page(page: &[u8], g: Geometry, place: usize) -> bool
+// Whether a page of a table for so many logical blocks is right: page 0 under logical block 0, the others FFh.
+fn is_right_page(page: &[u8], g: Geometry, logical: usize, place: usize) -> bool
     requires { ⌜ Valid g ⌝ }
     requires { ⌜ length (now page) ≡ pageSize g ⌝ }
-    ensures { λ r. ⌜ r ≡ rightPage g place (now (page .entry)) ⌝ }
+    ensures { λ r. ⌜ r ≡ rightPage (withLogical logical g) place (now (page .entry)) ⌝ }
 {
     let main = g.main;
     if place != 0 {
@@ -56,10 +56,11 @@ pub fn is_right_page(page: &[u8], g: Geometry, place: usize) -> bool
     if pages::logical_of(page, main) != 0 {
         return false;
     }
-    is_right_first(&page[0..main], g.blocks, g.logical)
+    is_right_first(&page[0..main], g.blocks, logical)
 }
 
-// 1 where the pages so far were right for a table and this one is, 0 otherwise.
+// The layout of a table's pages so far, and of this one: 1 right for the geometry, 2 right for the number of logical blocks
+// named in page 0 only, 0 neither.
 pub fn right_with(right: usize, page: &[u8], g: Geometry, place: usize) -> usize
     requires { ⌜ Valid g ⌝ }
     requires { ⌜ length (now page) ≡ pageSize g ⌝ }
@@ -68,8 +69,13 @@ pub fn right_with(right: usize, page: &[u8], g: Geometry, place: usize) -> usize
     if right == 0 {
         return 0;
     }
-    if is_right_page(page, g, place) {
-        return 1;
+    if is_right_page(page, g, g.logical, place) {
+        return right;
+    }
+    let main = g.main;
+    let named = pages::pair_at(&page[0..main], 2);
+    if is_right_page(page, g, named, place) {
+        return 2;
     }
     0
 }

@@ -1,35 +1,26 @@
 -- `format::erase_and_fill` meets its contract. Assumes nothing.
-use mathlib.Core.Path.{_∙_}
+use mathlib.Core.Path.{_≡_, _∙_}
 use native.Mathlib.Omega.{arith}
 use denote.Ref.{now}
-use Rattle.geometry.proofs.SizeLaws.{page-size-most}
+use lib.ListN.{length}
 use Rattle.chip_array.specs.Device.{setting}
 use Rattle.bus.specs.Line.{line}
 use Rattle.bus_polling.proofs.OutcomeLaws.{passed-by-tag, other-by-tag}
-use Rattle.request.proofs.CallLaws.{lent-page}
 use Rattle.format.proofs.WholeLaws.{round-left, round-stop, round-goes-on}
 use borrow.Author.Needs.{needs}
 use Rattle.format.proofs.erase_and_fill.Statement.{statement}
 use Rattle.format.proofs.erase_and_fill.Tie as tie
 
-page-size-requires : tie.Need-page-size-requires
-page-size-requires c κs = search needs
+carried-long : (s : tie.Start) → length (s .args .survey .carried) ≡ 512
+carried-long s = search needs
 
-sub-erase-all : tie.Need-sub-erase-all
-sub-erase-all c = search needs
-
-part-page-start : tie.Need-part-page-start
-part-page-start c = search needs
-
-part-page-end : tie.Need-part-page-end
-part-page-end c = search needs
+passed-over-requires : tie.Need-passed-over-requires
+passed-over-requires c κs = search needs
 
 erase-all-requires : tie.Need-erase-all-requires
 erase-all-requires c κs =
-    let at-page-size = c .before .before .before .before .before in
-    let s = at-page-size .before .before .before .before .before .before in
-    let size = at-page-size .page-size .ensures in
-    (s .pre .0, lent-page _ _ (omega (arith, size, page-size-most (s .args .g) (s .pre .0 .is-valid))) size)
+    let s = c .before .before .before .before .before .before .before .before .before .before .before .before in
+    (s .pre .0, s .pre .1 .0)
 
 enum-told : tie.Need-enum-told
 enum-told c = search needs
@@ -42,93 +33,77 @@ blank-requires c κs = search needs
 
 end-requires : tie.Need-end-requires
 end-requires c κs =
-    let way = c .before .before .before .before .before .before .before .before .before in
-    let at-erase-all = way .before .before in
-    let way-2 = at-erase-all .before .before .before .before .before .before .before .before .before in
-    let s = way-2 .before .before .before in
-    omega (arith, s .pre .1, round-left (setting (s .args .g) (now (s .args .mask)) (now (s .args .fates))) (s .args .t8) (line (s .args .from) (now (s .args .array)) (now (s .args .register)) (now (s .args .history))) _ _ _ _ (at-erase-all .erase-all .ensures))
+    let at-erase = c .before .before .before .before .before .before .before .before .before .before .before .before in
+    let s = at-erase .before .before .before .before .before .before .before .before .before .before .before .before .before in
+    let set = setting (s .args .g) (now (s .args .mask)) (now (s .args .fates)) in
+    let l = line (s .args .from) (now (s .args .array)) (now (s .args .register)) (now (s .args .history)) in
+    omega (arith, s .pre .1 .1, round-left set _ l _ _ _ _ (at-erase .erase-all .ensures))
 
 same-length : tie.Need-same-length
-same-length c =
-    let way = c .before .before .before .before .before .before .before .before .before in
-    let at-array = way .before .before in
-    at-array .array .given
+same-length c = search needs
 
 same-length-2 : tie.Need-same-length-2
-same-length-2 c = c .before .before .before .before .before .before .before .before .before .register .given
+same-length-2 c = search needs
 
 same-length-3 : tie.Need-same-length-3
-same-length-3 c = c .before .before .before .before .before .before .before .history .given
+same-length-3 c = search needs
+
+same-length-4 : tie.Need-same-length-4
+same-length-4 c = search needs
 
 returns : tie.Need-returns
 returns c =
-    let way = c .before .before .before .before .before .before .before .before .before in
-    let at-erase-all = way .before .before .before in
-    let way-2 = at-erase-all .before .before .before .before .before .before .before .before .before in
-    let s = way-2 .before .before .before in
-    λ cs os. c .end .ensures _ _ _ ∙ round-stop (setting (s .args .g) (now (s .args .mask)) (now (s .args .fates))) (s .args .allowed) (s .args .t8) (line (s .args .from) (now (s .args .array)) (now (s .args .register)) (now (s .args .history))) _ (at-erase-all .erase-all .result .outcome) _ _ (at-erase-all .erase-all .ensures) (other-by-tag _ (c .before .before .before .match .keys2)) _ _ (c .before .before .stop-answer .ensures) (c .before .blank .ensures) cs os
+    let at-erase = c .before .before .before .before .before .before .before .before .before .before .before .before .before in
+    let at-over = at-erase .before .before .before .before .before .before in
+    let s = at-over .before .before .before .before .before .before .before in
+    let set = setting (s .args .g) (now (s .args .mask)) (now (s .args .fates)) in
+    let l = line (s .args .from) (now (s .args .array)) (now (s .args .register)) (now (s .args .history)) in
+    λ cs os. c .end .ensures _ _ _ ∙ round-stop set (s .args .allowed) (s .args .survey) _ (at-over .passed-over .ensures) l _ (at-erase .erase-all .result .outcome) _ _ (at-erase .erase-all .ensures) (other-by-tag _ (c .before .before .before .match .keys2)) _ _ (c .before .before .stop-answer .ensures) (c .before .blank .ensures) cs os
 
-sub-fill-first : tie.Need-sub-fill-first
-sub-fill-first c = search needs
+add-bits-requires : tie.Need-add-bits-requires
+add-bits-requires c κs =
+    let s = c .before .before .before .before .before .before .before .before .before .before .before .before .before .before .before .before .before .before .before .before .before .before .before .before .before .before .before .before .before in
+    (omega (arith, s .pre .0 .is-valid .blocks-most), carried-long s)
 
-part-first-start : tie.Need-part-first-start
-part-first-start c = search needs
-
-part-first-end : tie.Need-part-first-end
-part-first-end c =
-    let way = c .before .before .before .before .before .before .before .before .before in
-    let way-2 = way .before .before .before .before .before .before .before .before .before in
-    let at-page-size = way-2 .before .before .before in
-    let s = at-page-size .before .before .before .before .before .before in
-    search (needs, at-page-size .page-size .ensures, page-size-most (s .args .g) (s .pre .0 .is-valid))
+greater-requires : tie.Need-greater-requires
+greater-requires c κs = search needs
 
 fill-first-requires : tie.Need-fill-first-requires
 fill-first-requires c κs =
-    let at-match = c .before .before .before .before .before .before .before in
-    let at-erase-all = at-match .before .before .before .before .before .before .before .before .before in
-    let at-page-size = at-erase-all .before .before .before .before .before .before in
-    let s = at-page-size .before .before .before .before .before .before in
-    let size = at-page-size .page-size .ensures in
-    (at-erase-all .erase-all .ensures .next (passed-by-tag _ (at-match .match .keys1)), (lent-page _ _ (omega (arith, size, page-size-most (s .args .g) (s .pre .0 .is-valid))) size, omega (arith, s .pre .1, round-left (setting (s .args .g) (now (s .args .mask)) (now (s .args .fates))) (s .args .t8) (line (s .args .from) (now (s .args .array)) (now (s .args .register)) (now (s .args .history))) _ _ _ _ (at-erase-all .erase-all .ensures))))
-
-same-length-4 : tie.Need-same-length-4
-same-length-4 c =
-    let at-array2 = c .before .before .before .before .before .before in
-    let way = at-array2 .before .before .before .before .before .before .before .before .before in
-    let at-array = way .before .before .before .before .before .before .before .before in
-    at-array2 .array2 .given ∙ at-array .array .given
+    let at-page = c .before .before .before .before .before .before .before .before .before .before .before .before .before .before .before .before in
+    let at-erase = at-page .before .before .before .before .before .before .before in
+    let s = at-erase .before .before .before .before .before .before .before .before .before .before .before .before .before in
+    let set = setting (s .args .g) (now (s .args .mask)) (now (s .args .fates)) in
+    let l = line (s .args .from) (now (s .args .array)) (now (s .args .register)) (now (s .args .history)) in
+    (at-erase .erase-all .ensures .next (passed-by-tag _ (c .before .before .before .before .before .before .before .before .before .before .before .before .before .match .keys1)), (at-page .page .given ∙ s .pre .1 .0, omega (arith, s .pre .1 .1, round-left set _ l _ _ _ _ (at-erase .erase-all .ensures))))
 
 same-length-5 : tie.Need-same-length-5
-same-length-5 c =
-    let at-register2 = c .before .before .before .before in
-    let way = at-register2 .before .before .before .before .before .before .before .before .before in
-    let at-register = way .before .before .before .before .before .before .before .before in
-    at-register2 .register2 .given ∙ at-register .register .given
+same-length-5 c = c .before .before .before .before .before .before .before .array2 .given ∙ c .before .before .before .before .before .before .before .before .before .before .before .before .before .before .before .before .before .before .before .before .before .before .before .before .before .before .before .before .before .before .before .array .given
 
 same-length-6 : tie.Need-same-length-6
-same-length-6 c =
-    let way = c .before .before .before .before .before .before .before .before .before in
-    let way-2 = way .before .before .before .before .before .before .before .before .before in
-    let at-history = way-2 .before in
-    c .before .before .history2 .given ∙ at-history .history .given
+same-length-6 c = c .before .before .before .before .before .register2 .given ∙ c .before .before .before .before .before .before .before .before .before .before .before .before .before .before .before .before .before .before .before .before .before .before .before .before .before .before .before .before .before .register .given
+
+same-length-7 : tie.Need-same-length-7
+same-length-7 c = c .before .before .before .history2 .given ∙ c .before .before .before .before .before .before .before .before .before .before .before .before .before .before .before .before .before .before .before .before .before .before .before .before .before .before .before .history .given
+
+same-length-8 : tie.Need-same-length-8
+same-length-8 c = c .before .page2 .given ∙ c .before .before .before .before .before .before .before .before .before .before .before .before .before .before .before .before .before .before .before .before .before .before .before .before .before .page .given
 
 returns-2 : tie.Need-returns-2
 returns-2 c =
-    let at-fill-first = c .before .before .before .before .before .before .before in
-    let at-match = at-fill-first .before .before .before .before .before .before .before .before in
-    let at-erase-all = at-match .before .before .before .before .before .before .before .before .before in
-    let way = at-erase-all .before .before .before .before .before .before .before .before .before in
-    let s = way .before .before .before in
-    λ cs os. round-goes-on (setting (s .args .g) (now (s .args .mask)) (now (s .args .fates))) (s .args .allowed) (s .args .t8) (line (s .args .from) (now (s .args .array)) (now (s .args .register)) (now (s .args .history))) _ (at-erase-all .erase-all .result .outcome) _ _ (at-erase-all .erase-all .ensures) (passed-by-tag _ (at-match .match .keys1)) _ (at-fill-first .fill-first .ensures) cs os
+    let at-fill = c .before .before .before .before .before .before .before .before in
+    let at-erase = at-fill .before .before .before .before .before .before .before .before .before .before .before .before .before .before .before .before .before .before .before .before .before .before .before .before in
+    let at-over = at-erase .before .before .before .before .before .before in
+    let s = at-over .before .before .before .before .before .before .before in
+    let set = setting (s .args .g) (now (s .args .mask)) (now (s .args .fates)) in
+    let l = line (s .args .from) (now (s .args .array)) (now (s .args .register)) (now (s .args .history)) in
+    λ cs os. round-goes-on set (s .args .allowed) (s .args .survey) _ (at-over .passed-over .ensures) l _ (at-erase .erase-all .result .outcome) _ _ (at-erase .erase-all .ensures) (passed-by-tag _ (c .before .before .before .before .before .before .before .before .before .before .before .before .before .before .before .before .before .before .before .before .before .before .match .keys1)) _ (c .before .before .before .before .before .before .before .before .before .before .before .before .before .before .before .add-bits .ensures) _ (c .before .before .before .before .before .before .before .before .before .before .before .before .before .greater .ensures) _ (at-fill .fill-first .ensures) cs os
 
 pub erase-and-fill-spec : {M : Type 1} → statement M
 erase-and-fill-spec =
     tie.close
     (tie.spec
-    page-size-requires
-    sub-erase-all
-    part-page-start
-    part-page-end
+    passed-over-requires
     erase-all-requires
     enum-told
     stop-answer-requires
@@ -137,12 +112,13 @@ erase-and-fill-spec =
     same-length
     same-length-2
     same-length-3
-    returns
-    sub-fill-first
-    part-first-start
-    part-first-end
-    fill-first-requires
     same-length-4
+    returns
+    add-bits-requires
+    greater-requires
+    fill-first-requires
     same-length-5
     same-length-6
+    same-length-7
+    same-length-8
     returns-2)

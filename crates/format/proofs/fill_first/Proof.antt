@@ -1,25 +1,15 @@
 -- `format::fill_first` meets its contract. Assumes nothing.
-use lib.ListN.{length}
 use Prim.Native.Nat.{_<_}
-use mathlib.Core.Path.{_≡_, sym, subst, _∙_}
-use native.Mathlib.Nat.{zero-mul}
+use mathlib.Core.Path.{sym, subst, _∙_}
 use native.Mathlib.Omega.{arith}
 use denote.Ref.{now}
 use Rattle.chip_array.specs.Device.{setting}
 use Rattle.bus.specs.Line.{line}
-use Rattle.operations.proofs.UnreadyLaws.{called-lent}
-use Rattle.state.specs.State.{none}
 use Rattle.state.specs.declared.State.{State}
-use Rattle.fill_cursor.specs.Cursor.{running}
-use Rattle.fill_driver.proofs.RunLaws.{first-due}
-use Rattle.fill_laws.proofs.KeepLaws.{run-left}
-use Rattle.format.proofs.EndLaws.{few-end, tables-end, last-small}
+use Rattle.format.proofs.EndLaws.{last-small, tables-left, few-end, unpassed-end, alone-end, late-end}
 use borrow.Author.Needs.{needs}
 use Rattle.format.proofs.fill_first.Statement.{statement}
 use Rattle.format.proofs.fill_first.Tie as tie
-
-invalid-long : (s : tie.Start) → length (s .args .t9) ≡ 512
-invalid-long s = search needs
 
 count-permitted-requires : tie.Need-count-permitted-requires
 count-permitted-requires c κs = search needs
@@ -35,39 +25,29 @@ end-requires c κs = search needs
 
 returns : tie.Need-returns
 returns c =
-    let at-count-permitted = c .before .before .before .before in
-    let s = at-count-permitted .before .before .before .before .before .before .before .before .before .before in
+    let at-count = c .before .before .before .before in
+    let s = c .before .before .before .before .before .before .before .before .before .before .before .before .before .before in
     let set = setting (s .args .g) (now (s .args .mask)) (now (s .args .fates)) in
     let l = line (s .args .from) (now (s .args .array)) (now (s .args .register)) (now (s .args .history)) in
-    λ cs os. c .end .ensures _ _ _ ∙ few-end set (s .args .allowed) (s .args .t8) (s .args .t9) (s .args .greatest) (at-count-permitted .count-permitted .result) (at-count-permitted .count-permitted .ensures) (c .before .before .if1 .taken) l _ (c .before .blank .ensures) cs os
+    λ cs os. c .end .ensures _ _ _ ∙ few-end set (s .args .allowed) (s .args .t8) (s .args .t9) (s .args .greatest) (s .args .old) (at-count .count-permitted .result) (at-count .count-permitted .ensures) (c .before .before .if1 .taken) l _ (c .before .blank .ensures) cs os
 
 first-state-requires : tie.Need-first-state-requires
 first-state-requires c κs = search needs
 
-begin-requires : tie.Need-begin-requires
-begin-requires c κs = search needs
-
-slice-aggregate-run : tie.Need-slice-aggregate-run
-slice-aggregate-run c = search needs
-
-run-requires : tie.Need-run-requires
-run-requires c κs =
-    let at-begin = c .before .before .before .before .before in
-    let at-first-state = at-begin .before in
-    let s = at-first-state .before .before .before .before .before .before .before .before .before .before .before .before .before in
-    let set = setting (s .args .g) (now (s .args .mask)) (now (s .args .fates)) in
-    let v = s .pre .0 .is-valid in
-    let last = subst (λ (x : State). x .last < s .args .g .blocks) (sym (at-first-state .first-state .ensures)) (last-small (s .args .g) (s .args .t8) (s .args .t9) (s .args .greatest) v) in
-    (called-lent (s .pre .0), (λ h. first-due set v _ 1 0 0 0 none _ (at-begin .begin .ensures) (omega (arith, v .logical-least)) _ (sym (zero-mul (s .args .g .main))), (λ h. last, s .pre .1 .0)))
+fill-tables-requires : tie.Need-fill-tables-requires
+fill-tables-requires c κs =
+    let at-first = c .before .before .before .before in
+    let s = c .before .before .before .before .before .before .before .before .before .before .before .before .before .before .before .before .before in
+    let last = subst (λ (x : State). x .last < s .args .g .blocks) (sym (at-first .first-state .ensures)) (last-small (s .args .g) (s .args .t8) (s .args .t9) (s .args .greatest) (s .args .old) (s .pre .0 .is-valid)) in
+    (s .pre .0, (last, s .pre .1 .0))
 
 end-requires-2 : tie.Need-end-requires-2
 end-requires-2 c κs =
-    let at-run = c .before .before .before .before .before .before .before .before .before .before .before in
-    let s = at-run .before .before .before .before .before .before .before .before .before .before .before .before .before .before .before .before .before .before .before .before in
+    let at-fill = c .before .before .before .before .before .before .before .before .before .before .before .before in
+    let s = c .before .before .before .before .before .before .before .before .before .before .before .before .before .before .before .before .before .before .before .before .before .before .before .before .before .before .before .before .before .before in
     let set = setting (s .args .g) (now (s .args .mask)) (now (s .args .fates)) in
     let l = line (s .args .from) (now (s .args .array)) (now (s .args .register)) (now (s .args .history)) in
-    let r = at-run .run .result in
-    omega (arith, s .pre .1 .1, run-left set _ _ _ l _ (running (r .cursor) (r .state)) (at-run .run .ensures))
+    omega (arith, s .pre .1 .1, tables-left set (s .args .allowed) _ l _ _ _ (at-fill .fill-tables .ensures))
 
 same-length : tie.Need-same-length
 same-length c = search needs
@@ -83,16 +63,75 @@ same-length-4 c = search needs
 
 returns-2 : tie.Need-returns-2
 returns-2 c =
-    let at-run = c .before .before .before .before .before .before .before .before .before .before .before .before in
-    let at-begin = at-run .before .before .before .before .before .before in
-    let at-first-state = at-begin .before in
-    let at-if1 = at-first-state .before in
-    let at-count-permitted = at-if1 .before .before in
-    let s = at-count-permitted .before .before .before .before .before .before .before .before .before .before in
+    let at-count = c .before .before .before .before .before .before .before .before .before .before .before .before .before .before .before .before .before .before .before .before .before in
+    let at-first = c .before .before .before .before .before .before .before .before .before .before .before .before .before .before .before .before .before .before in
+    let at-fill = c .before .before .before .before .before .before .before .before .before .before .before .before .before in
+    let s = c .before .before .before .before .before .before .before .before .before .before .before .before .before .before .before .before .before .before .before .before .before .before .before .before .before .before .before .before .before .before .before in
     let set = setting (s .args .g) (now (s .args .mask)) (now (s .args .fates)) in
     let l = line (s .args .from) (now (s .args .array)) (now (s .args .register)) (now (s .args .history)) in
-    let r = at-run .run .result in
-    λ cs os. c .end2 .ensures _ _ _ ∙ tables-end set (s .args .allowed) (s .args .t8) (s .args .t9) (s .args .greatest) (at-count-permitted .count-permitted .result) (at-count-permitted .count-permitted .ensures) (s .pre .0 .is-valid) _ (at-first-state .first-state .ensures) _ (at-begin .begin .ensures) l _ (running (r .cursor) (r .state)) _ (at-run .run .ensures) (invalid-long s) (omega arith) (at-if1 .if1 .left) cs os
+    λ cs os. c .end2 .ensures _ _ _ ∙ unpassed-end set (s .args .allowed) (s .args .t8) (s .args .t9) (s .args .greatest) (s .args .old) (at-count .count-permitted .result) (at-count .count-permitted .ensures) (at-first .before .if1 .left) _ (at-first .first-state .ensures) l _ _ _ (at-fill .fill-tables .ensures) (c .before .if2 .taken) cs os
+
+end-requires-3 : tie.Need-end-requires-3
+end-requires-3 c κs =
+    let at-fill = c .before .before .before .before .before .before .before .before .before .before .before .before .before .before in
+    let s = c .before .before .before .before .before .before .before .before .before .before .before .before .before .before .before .before .before .before .before .before .before .before .before .before .before .before .before .before .before .before .before .before in
+    let set = setting (s .args .g) (now (s .args .mask)) (now (s .args .fates)) in
+    let l = line (s .args .from) (now (s .args .array)) (now (s .args .register)) (now (s .args .history)) in
+    omega (arith, s .pre .1 .1, tables-left set (s .args .allowed) _ l _ _ _ (at-fill .fill-tables .ensures))
+
+same-length-5 : tie.Need-same-length-5
+same-length-5 c = search needs
+
+same-length-6 : tie.Need-same-length-6
+same-length-6 c = search needs
+
+same-length-7 : tie.Need-same-length-7
+same-length-7 c = search needs
+
+same-length-8 : tie.Need-same-length-8
+same-length-8 c = search needs
+
+returns-3 : tie.Need-returns-3
+returns-3 c =
+    let at-count = c .before .before .before .before .before .before .before .before .before .before .before .before .before .before .before .before .before .before .before .before .before .before .before in
+    let at-first = c .before .before .before .before .before .before .before .before .before .before .before .before .before .before .before .before .before .before .before .before in
+    let at-fill = c .before .before .before .before .before .before .before .before .before .before .before .before .before .before .before in
+    let s = c .before .before .before .before .before .before .before .before .before .before .before .before .before .before .before .before .before .before .before .before .before .before .before .before .before .before .before .before .before .before .before .before .before in
+    let set = setting (s .args .g) (now (s .args .mask)) (now (s .args .fates)) in
+    let l = line (s .args .from) (now (s .args .array)) (now (s .args .register)) (now (s .args .history)) in
+    λ cs os. c .end3 .ensures _ _ _ ∙ alone-end set (s .args .allowed) (s .args .t8) (s .args .t9) (s .args .greatest) (s .args .old) (at-count .count-permitted .result) (at-count .count-permitted .ensures) (at-first .before .if1 .left) _ (at-first .first-state .ensures) l _ _ _ (at-fill .fill-tables .ensures) (c .before .before .before .if2 .left) (c .before .if3 .taken) cs os
+
+erase-old-requires : tie.Need-erase-old-requires
+erase-old-requires c κs =
+    let at-fill = c .before .before .before .before .before .before .before .before .before .before .before .before .before .before .before .before .before .before in
+    let s = c .before .before .before .before .before .before .before .before .before .before .before .before .before .before .before .before .before .before .before .before .before .before .before .before .before .before .before .before .before .before .before .before .before .before .before .before in
+    let set = setting (s .args .g) (now (s .args .mask)) (now (s .args .fates)) in
+    let l = line (s .args .from) (now (s .args .array)) (now (s .args .register)) (now (s .args .history)) in
+    let next = at-fill .fill-tables .ensures .next-called (c .before .before .before .before .before .before .if2 .left) in
+    let length-kept = c .before .before .before .before .before .before .before .before .before .before .before .page .given in
+    (next .0, (next .1, (c .before .before .before .before .if3 .left, (length-kept ∙ s .pre .1 .0, omega (arith, s .pre .1 .1, tables-left set (s .args .allowed) _ l _ _ _ (at-fill .fill-tables .ensures))))))
+
+same-length-9 : tie.Need-same-length-9
+same-length-9 c = c .before .before .before .before .before .before .before .array2 .given ∙ c .before .before .before .before .before .before .before .before .before .before .before .before .before .before .before .before .before .before .before .before .before .before .before .before .before .before .array .given
+
+same-length-10 : tie.Need-same-length-10
+same-length-10 c = c .before .before .before .before .before .register2 .given ∙ c .before .before .before .before .before .before .before .before .before .before .before .before .before .before .before .before .before .before .before .before .before .before .before .before .register .given
+
+same-length-11 : tie.Need-same-length-11
+same-length-11 c = c .before .before .before .history2 .given ∙ c .before .before .before .before .before .before .before .before .before .before .before .before .before .before .before .before .before .before .before .before .before .before .history .given
+
+same-length-12 : tie.Need-same-length-12
+same-length-12 c = search needs
+
+returns-4 : tie.Need-returns-4
+returns-4 c =
+    let at-count = c .before .before .before .before .before .before .before .before .before .before .before .before .before .before .before .before .before .before .before .before .before .before .before .before .before .before .before .before .before .before .before .before .before .before .before in
+    let at-first = c .before .before .before .before .before .before .before .before .before .before .before .before .before .before .before .before .before .before .before .before .before .before .before .before .before .before .before .before .before .before .before .before in
+    let at-fill = c .before .before .before .before .before .before .before .before .before .before .before .before .before .before .before .before .before .before .before .before .before .before .before .before .before .before .before in
+    let s = c .before .before .before .before .before .before .before .before .before .before .before .before .before .before .before .before .before .before .before .before .before .before .before .before .before .before .before .before .before .before .before .before .before .before .before .before .before .before .before .before .before .before .before .before .before in
+    let set = setting (s .args .g) (now (s .args .mask)) (now (s .args .fates)) in
+    let l = line (s .args .from) (now (s .args .array)) (now (s .args .register)) (now (s .args .history)) in
+    λ cs os. late-end set (s .args .allowed) (s .args .t8) (s .args .t9) (s .args .greatest) (s .args .old) (at-count .count-permitted .result) (at-count .count-permitted .ensures) (at-first .before .if1 .left) _ (at-first .first-state .ensures) l _ _ _ (at-fill .fill-tables .ensures) (c .before .before .before .before .before .before .before .before .before .before .before .before .before .before .before .if2 .left) (c .before .before .before .before .before .before .before .before .before .before .before .before .before .if3 .left) _ (c .before .before .before .before .before .before .before .before .erase-old .ensures) cs os
 
 pub fill-first-spec : {M : Type 1} → statement M
 fill-first-spec =
@@ -104,12 +143,22 @@ fill-first-spec =
     end-requires
     returns
     first-state-requires
-    begin-requires
-    slice-aggregate-run
-    run-requires
+    fill-tables-requires
     end-requires-2
     same-length
     same-length-2
     same-length-3
     same-length-4
-    returns-2)
+    returns-2
+    end-requires-3
+    same-length-5
+    same-length-6
+    same-length-7
+    same-length-8
+    returns-3
+    erase-old-requires
+    same-length-9
+    same-length-10
+    same-length-11
+    same-length-12
+    returns-4)

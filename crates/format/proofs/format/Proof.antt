@@ -5,7 +5,7 @@ use denote.Ref.{now}
 use Rattle.chip_array.specs.Device.{device, setting}
 use Rattle.request.proofs.StartLaws.{start-called, start-left, refused-is, stopped-is, goes-on}
 use Rattle.fill_tables.specs.Tables.{endOfRun}
-use Rattle.format.specs.Format.{marksRun}
+use Rattle.format.specs.Format.{readsRun}
 use Rattle.format.proofs.WholeLaws.{format-stops, format-started}
 use Rattle.format.proofs.format.Statement.{statement}
 use Rattle.format.proofs.format.Tie as tie
@@ -28,7 +28,7 @@ returns c =
     let entry = begun .before .before .before .before .before .before .before .before .before in
     let set = setting (entry .args .g) (now (entry .args .mask)) (now (entry .args .fates)) in
     let d = device (entry .args .interface) (now (entry .args .array)) (now (entry .args .register)) (now (entry .args .history)) in
-    refused-is set d (entry .args .allowed) _ _ (begun .start .ensures) (entry .args .state) (λ p. endOfRun (entry .args .allowed) (marksRun set (entry .args .state) p)) (c .if1 .taken)
+    refused-is set d (entry .args .allowed) _ _ (begun .start .ensures) (entry .args .state) (λ p. endOfRun (entry .args .allowed) (readsRun set (entry .args .state) p)) (c .if1 .taken)
     ∙ format-started set d (entry .args .allowed) (entry .args .state)
 
 blank-requires : tie.Need-blank-requires
@@ -60,11 +60,11 @@ returns-2 c =
     let set = setting (entry .args .g) (now (entry .args .mask)) (now (entry .args .fates)) in
     let d = device (entry .args .interface) (now (entry .args .array)) (now (entry .args .register)) (now (entry .args .history)) in
     c .end .ensures _ _ _
-    ∙ stopped-is set d (entry .args .allowed) _ _ (begun .start .ensures) (entry .args .state) (λ p. endOfRun (entry .args .allowed) (marksRun set (entry .args .state) p)) (format-stops set (entry .args .allowed) (entry .args .state)) (c .before .before .before .if1 .left) (c .before .before .if2 .taken) _ (c .before .blank .ensures)
+    ∙ stopped-is set d (entry .args .allowed) _ _ (begun .start .ensures) (entry .args .state) (λ p. endOfRun (entry .args .allowed) (readsRun set (entry .args .state) p)) (format-stops set (entry .args .allowed) (entry .args .state)) (c .before .before .before .if1 .left) (c .before .before .if2 .taken) _ (c .before .blank .ensures)
     ∙ format-started set d (entry .args .allowed) (entry .args .state)
 
-mark-and-erase-requires : tie.Need-mark-and-erase-requires
-mark-and-erase-requires c κs =
+read-and-erase-requires : tie.Need-read-and-erase-requires
+read-and-erase-requires c κs =
     let at-if1 = c .before .before .before .before in
     let begun = at-if1 .before .before .before .before .before .before .before .before in
     let entry = begun .before .before .before .before .before .before .before .before .before in
@@ -83,13 +83,13 @@ same-length-9 c = search needs
 
 returns-3 : tie.Need-returns-3
 returns-3 c =
-    let at-mark-and-erase = c .before .before .before .before .before .before in
-    let tested = at-mark-and-erase .before .before .before .before in
+    let at-read-and-erase = c .before .before .before .before .before .before in
+    let tested = at-read-and-erase .before .before .before .before in
     let begun = tested .before .before .before .before .before .before .before .before .before in
     let entry = begun .before .before .before .before .before .before .before .before .before in
     let set = setting (entry .args .g) (now (entry .args .mask)) (now (entry .args .fates)) in
     let d = device (entry .args .interface) (now (entry .args .array)) (now (entry .args .register)) (now (entry .args .history)) in
-    goes-on set d (entry .args .allowed) _ _ (begun .start .ensures) (entry .args .state) (λ p. endOfRun (entry .args .allowed) (marksRun set (entry .args .state) p)) (tested .if2 .left) _ (at-mark-and-erase .mark-and-erase .ensures)
+    goes-on set d (entry .args .allowed) _ _ (begun .start .ensures) (entry .args .state) (λ p. endOfRun (entry .args .allowed) (readsRun set (entry .args .state) p)) (tested .if2 .left) _ (at-read-and-erase .read-and-erase .ensures)
     ∙ format-started set d (entry .args .allowed) (entry .args .state)
 
 pub format-spec : {M : Type 1} → statement M
@@ -107,7 +107,7 @@ format-spec =
     same-length-5
     same-length-6
     returns-2
-    mark-and-erase-requires
+    read-and-erase-requires
     same-length-7
     same-length-8
     same-length-9

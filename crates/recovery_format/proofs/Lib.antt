@@ -1,0 +1,13 @@
+pub mod RunLaws
+pub mod EraseTouches
+pub mod TableFill
+pub mod RoundKeeps
+pub mod TablesKeep
+pub mod FormatKeeps
+pub mod LeftLaws
+pub mod CarryTables
+pub mod CarryLaws
+pub mod ForgetLaws
+pub mod SparesLaws
+pub mod CarryCycles
+pub mod CutTests
