@@ -93,7 +93,7 @@ impl Both {
         let register = vec![0; geometry.page_bytes()];
         let chip = Chip { interface: vec![0; INTERFACE_WORDS], array, register, history: vec![0; geometry.blocks] };
         let buffer = vec![0x5A; MAIN];
-        let side = Side { state: vec![0; STATE_BYTES], chip, buffer, sent: vec![0], sizes: Vec::new() };
+        let side = Side { state: vec![0; STATE_BYTES], chip, buffer, sent: vec![0], sizes: Vec::new(), finished: Vec::new() };
         let call = Call { mask: vec![0; geometry.block_bytes()], fates: Vec::new(), allowed: u32::MAX, protected: 0 };
         Both { geometry, call, library: side.clone(), second: side, differs: false }
     }

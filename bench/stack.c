@@ -44,6 +44,9 @@ static void mount(void) { answer = flash_store_do_mount(&store, &call); }
 static void quick_mount(void) { answer = flash_store_do_quick_mount(&store, &call); }
 static void read_page(void) { answer = flash_store_do_read(&store, &call, 0, 0, page, MAIN); }
 static void write_page(void) { answer = flash_store_do_write(&store, &call, 0, 0, page, MAIN); }
+static size_t finished;
+static void open_write(void) { answer = flash_store_do_open_write(&store, &call, 0, 0, page, MAIN); }
+static void advance(void) { answer = flash_store_do_advance(&store, &call, 99, &finished); }
 static void erase(void) { answer = flash_store_do_erase(&store, &call, 0); }
 static void identify(void) { answer = flash_store_do_identify(&store, &call, parameters, sizeof parameters, &sizes); }
 static void dearest(void) { answer = flash_store_do_dearest_write(&store, 1, words, 21, &call.sent); }
@@ -101,6 +104,9 @@ int main(void) {
     differs |= measure("quick mount", quick_mount, 627);
     differs |= measure("write of a page without a copy", write_page, 237);
     differs |= measure("read of a page with a copy", read_page, MAIN + 10);
+    differs |= measure("opening of a write", open_write, 2);
+    differs |= measure("read beside it", read_page, MAIN + 10);
+    differs |= measure("advance to its end", advance, 361);
     call.fates = erase_fails;
     call.fates_len = 1;
     differs |= measure("write over a copy, an erase fails", write_page, 605);

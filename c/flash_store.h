@@ -35,28 +35,31 @@ _Static_assert(sizeof(size_t) == 8, "the library is built for a size_t of 8 byte
 #endif
 
 /* The version of this header and its archive: docs/CHANGES.md. */
-#define FLASH_STORE_VERSION "4.10"
+#define FLASH_STORE_VERSION "4.11"
 
 /* The answers, in the order in which they are tested; SILENT and CUT come as they happen, CUT first. */
 enum flash_store_answer {
     FLASH_STORE_DONE = 0,
-    FLASH_STORE_BAD_BUFFER = 100, /* state, interface, sent, sizes or cycles has the wrong length: no cycle, nothing changed */
+    FLASH_STORE_BAD_BUFFER = 100, /* state, interface, sent, finished, sizes or cycles has the wrong length: no cycle, nothing changed */
     FLASH_STORE_GEOMETRY = 1,     /* a limit broken, or the chip or the mask has the wrong length: no cycle, nothing changed;
                                      of identify see there */
-    FLASH_STORE_MOUNT_FIRST = 7,  /* state not mounted, or stopped by 8 to 11 or 255: no cycle, nothing changed */
+    FLASH_STORE_MOUNT_FIRST = 7,  /* state not mounted, or stopped by 8 to 11 or 255, or its open write names a block or page that is not
+                                     on the chip: no cycle, nothing changed */
+    FLASH_STORE_WRITE_OPEN = 15,  /* write, erase, open_write, format of a mounted state: a write is open; advance: none is. No cycle,
+                                     nothing changed */
     FLASH_STORE_ADDRESS = 2,      /* no such logical block or page: no cycle, nothing changed; of the dearest write see there */
     FLASH_STORE_LENGTH = 3,       /* page buffer not main bytes long: no cycle, nothing changed; of the dearest write see there */
     FLASH_STORE_NO_TABLE = 4,     /* no complete table: not mounted, chip unchanged */
     FLASH_STORE_WRONG_TABLE = 5,  /* the current table is wrong: not mounted, chip unchanged */
     FLASH_STORE_CLASH = 6,        /* two blocks with one number, or a copy of a logical block >= N: not mounted, chip unchanged */
-    FLASH_STORE_PROTECTED = 13,   /* format, write, erase: the write-protect line is low. The state is the one handed in, array and
+    FLASH_STORE_PROTECTED = 13,   /* format, write, erase, open_write: the write-protect line is low. The state is the one handed in, array and
                                      history are unchanged; only the interface moves on, and the page register of a formatting */
     FLASH_STORE_SPENT = 9,        /* a block is to be filled, and sequence number 18,446,744,073,709,551,615 is taken: stopped */
     FLASH_STORE_WORN = 8,         /* no block left: stopped */
     FLASH_STORE_NO_SIZES = 12,    /* identify: no copy of the parameter page is good: state and chip unchanged */
     FLASH_STORE_SILENT = 10,      /* 256 status reads of one operation all busy: stopped */
     FLASH_STORE_CUT = 11,         /* the allowed cycles are used and another is due: stopped */
-    FLASH_STORE_ILLEGAL = 255     /* a read, write or erase was handed the interface of a chip that is not ready: stopped
+    FLASH_STORE_ILLEGAL = 255     /* a read, write, erase, open_write or advance was handed the interface of a chip that is not ready: stopped
                                      (docs/DECISIONS.md) */
 };
 
@@ -65,6 +68,7 @@ enum flash_store_answer {
  * formatting was answered 0, and that nothing but this store changed since, never gives a mount with the same geometry 4 to 6.
  *   1, 2, 3, 100       put the numbers and lengths of the call right
  *   7 MOUNT_FIRST      mount
+ *   15 WRITE_OPEN      advance until the write is finished, or mount, which gives it up
  *   4 NO_TABLE         the chip was not formatted with this geometry and answer 0: take the right one, or format
  *   5 WRONG_TABLE      the same, or another number of logical blocks
  *   6 CLASH            the chip holds what this store does not leave: format, which gives up all pages
@@ -83,7 +87,7 @@ enum flash_store_answer {
  */
 
 enum {
-    FLASH_STORE_STATE_BYTES = 9248,   /* the mounted state, laid out as docs/FORMAT.md says. Bytes 24 to 31, low byte first, are one
+    FLASH_STORE_STATE_BYTES = 13424,  /* the mounted state with its open write, laid out as docs/FORMAT.md says. Bytes 24 to 31, low byte first, are one
                                          less than the next sequence number: the greatest found or taken, 0 for none */
     FLASH_STORE_INTERFACE_WORDS = 12, /* the chip's command interface, laid out as docs/FORMAT.md says; all 0 at power on */
     FLASH_STORE_PROTECTED_WORD = 11,  /* which of them is the write-protect line: not 0 where it is low */
@@ -187,6 +191,34 @@ size_t flash_store_write(size_t main, size_t spare, size_t pages, size_t blocks,
                          const uint8_t *mask, size_t mask_len, const uint32_t *fates, size_t fates_len,
                          uint32_t allowed, size_t *sent, size_t sent_len, size_t block, size_t page,
                          const uint8_t *bytes, size_t bytes_len);
+
+/*
+ * Opens a write of bytes, main bytes long, to page `page` of logical block `block`, so that reads can come while it goes on. It sends the two
+ * cycles of the status read and no more; the bytes are kept in the state. With answer 0 the write is open, and nothing is stored yet.
+ *   reads               are answered while it is open: the page shows its old bytes until the new copy of its block is filled, then the new
+ *   given up            by a mount or quick mount not answered 1, and by an answer 8 to 11 or 255 to any call: as a write answered so, it shows after
+ *                       the next mount answered 0 either whole or not at all
+ *   the line            is not to change while a write is open: an advance does not look at it, and answers 255 where it is low
+ */
+size_t flash_store_open_write(size_t main, size_t spare, size_t pages, size_t blocks, size_t logical, uint8_t *state,
+                              size_t state_len, size_t *interface, size_t interface_len, uint8_t *array,
+                              size_t array_len, uint8_t *page_register, size_t page_register_len, uint8_t *history,
+                              size_t history_len, const uint8_t *mask, size_t mask_len, const uint32_t *fates,
+                              size_t fates_len, uint32_t allowed, size_t *sent, size_t sent_len, size_t block,
+                              size_t page, const uint8_t *bytes, size_t bytes_len);
+
+/*
+ * Goes on with the write that is open: sends `most` page programs, passed or failed, those of a table included, fewer only where the write
+ * finishes or stops; the erase and the kept read that are due come just before each. finished is set to 1 where the write is stored, which
+ * acknowledges it, else to 0; with BAD_BUFFER it stays. Answer 0 and finished 0: the write is still open. Finished in any portions it
+ * leaves what a plain write leaves, and sends as many cycles in all.
+ */
+size_t flash_store_advance(size_t main, size_t spare, size_t pages, size_t blocks, size_t logical, uint8_t *state,
+                           size_t state_len, size_t *interface, size_t interface_len, uint8_t *array, size_t array_len,
+                           uint8_t *page_register, size_t page_register_len, uint8_t *history, size_t history_len,
+                           const uint8_t *mask, size_t mask_len, const uint32_t *fates, size_t fates_len,
+                           uint32_t allowed, size_t *sent, size_t sent_len, uint64_t most, size_t *finished,
+                           size_t finished_len);
 
 /* Erases logical block `block`: all its pages read FFh. Stored with answer 0; answered 8 to 11, as a write. */
 size_t flash_store_erase(size_t main, size_t spare, size_t pages, size_t blocks, size_t logical, uint8_t *state,
@@ -346,6 +378,20 @@ static inline enum flash_store_answer flash_store_do_write(struct flash_store *s
                                                            size_t block, size_t page, const uint8_t *bytes,
                                                            size_t bytes_len) {
     return (enum flash_store_answer)flash_store_write(FLASH_STORE_LENT(store, call), block, page, bytes, bytes_len);
+}
+
+/* Opens a write of bytes, main bytes long, to a logical page; PROTECTED where the call has the write-protect line low. */
+static inline enum flash_store_answer flash_store_do_open_write(struct flash_store *store, struct flash_store_call *call,
+                                                                size_t block, size_t page, const uint8_t *bytes,
+                                                                size_t bytes_len) {
+    return (enum flash_store_answer)flash_store_open_write(FLASH_STORE_LENT(store, call), block, page, bytes,
+                                                           bytes_len);
+}
+
+/* Goes on with the write that is open by at most so many page programs; *finished is set to 1 where it is stored. */
+static inline enum flash_store_answer flash_store_do_advance(struct flash_store *store, struct flash_store_call *call,
+                                                             uint64_t most, size_t *finished) {
+    return (enum flash_store_answer)flash_store_advance(FLASH_STORE_LENT(store, call), most, finished, 1);
 }
 
 /* Erases a logical block; PROTECTED where the call has the write-protect line low. */

@@ -9,16 +9,17 @@ struct Noted {
     confirmed: Vec<Confirmed>,
 }
 
-// The bytes of all logical pages, and the request under way.
+// The bytes of all logical pages, the request under way, and the write that is open with what all its calls sent.
 #[derive(Clone)]
 pub struct Book {
     pages: Vec<Vec<u8>>,
     noted: Option<Noted>,
+    open: Option<Noted>,
 }
 
 impl Book {
     pub fn new(geometry: &Geometry) -> Book {
-        Book { pages: vec![vec![0xFF; geometry.main]; geometry.logical * geometry.pages], noted: None }
+        Book { pages: vec![vec![0xFF; geometry.main]; geometry.logical * geometry.pages], noted: None, open: None }
     }
 
     fn enter(&mut self, geometry: &Geometry, request: &Request, bytes: &[u8]) {
@@ -39,16 +40,58 @@ impl Book {
         if answer == ILLEGAL {
             run.fail("a cycle was answered illegal within a list");
         }
+        self.step_open(run, world, request, answer, bytes);
         match request {
             Request::Write { .. } | Request::Erase { .. } => self.step_change(run, world, request, answer, bytes),
             Request::Read { block, page } if answer == DONE => {
-                if self.noted.is_some() || world.own.buffer != self.pages[block * world.geometry.pages + page] {
+                if self.noted.is_some() || world.own.buffer != self.shown(&world.geometry, *block, *page) {
                     run.fail("a read differs from the book");
                 }
             }
             Request::Mount | Request::QuickMount => self.step_mount(run, world, answer),
             _ => {}
         }
+    }
+
+    // A write that is opened, goes on, is finished or is given up.
+    fn step_open(&mut self, run: &mut Run, world: &World, request: &Request, answer: usize, bytes: &[u8]) {
+        if let Some(open) = &mut self.open {
+            open.confirmed.extend(world.watch.confirmed.iter().cloned());
+        }
+        match request {
+            Request::Open { block, page } if answer == DONE => {
+                let request = Request::Write { block: *block, page: *page };
+                self.open = Some(Noted { request, bytes: bytes.to_vec(), confirmed: Vec::new() });
+            }
+            Request::Advance { .. } if answer == DONE && world.finished() => {
+                let Some(open) = self.open.take() else { run.fail("a write is finished that was not open") };
+                run.finished += 1;
+                self.enter(&world.geometry, &open.request, &open.bytes);
+            }
+            _ if stops(answer) || request.mounts() && ![GEOMETRY, BAD_BUFFER].contains(&answer) => self.give_up(run),
+            _ => {}
+        }
+        if self.open.is_some() != world.open_write().is_open() {
+            run.fail("a write is open, or none is, against the book");
+        }
+    }
+
+    // The open write counts as cut here: also where power is lost.
+    pub fn give_up(&mut self, run: &mut Run) {
+        if let Some(open) = self.open.take() {
+            run.given_up += 1;
+            self.noted = Some(open);
+        }
+    }
+
+    // What a read shows: the book, and of the page being rewritten the new bytes once every page of its new copy has passed.
+    fn shown(&self, geometry: &Geometry, block: usize, page: usize) -> Vec<u8> {
+        if let Some(Noted { request: Request::Write { block: rewritten, page: new }, bytes, confirmed }) = &self.open {
+            if (block, page) == (*rewritten, *new) && filled(geometry, confirmed) {
+                return bytes.clone();
+            }
+        }
+        self.pages[block * geometry.pages + page].clone()
     }
 
     fn step_change(&mut self, run: &mut Run, world: &World, request: &Request, answer: usize, bytes: &[u8]) {
@@ -86,7 +129,7 @@ impl Book {
                 if world.read(run, block, page) != DONE {
                     run.fail("a read after a mount is refused");
                 }
-                if world.own.buffer != self.pages[block * world.geometry.pages + page] {
+                if world.own.buffer != self.shown(&world.geometry, block, page) {
                     run.fail(&format!("logical block {block} page {page} differs from the book"));
                 }
             }
@@ -107,6 +150,11 @@ fn has_complete_copy(world: &World, confirmed: &[Confirmed]) -> bool {
         let all = (0..geometry.pages).all(|page| confirmed.iter().any(|sent| data_page(geometry, sent, block, page)));
         all && summary_of(geometry, &world.own.chip.array, block).complete.is_some()
     })
+}
+
+fn filled(geometry: &Geometry, confirmed: &[Confirmed]) -> bool {
+    let passed = |block, page| confirmed.iter().any(|sent| sent.passed && data_page(geometry, sent, block, page));
+    (0..geometry.blocks).any(|block| (0..geometry.pages).all(|page| passed(block, page)))
 }
 
 fn data_page(geometry: &Geometry, sent: &Confirmed, block: usize, page: usize) -> bool {

@@ -300,6 +300,8 @@ fn usual_cycles(geometry: &Geometry, request: &Request) -> usize {
         Request::QuickMount => 3 + geometry.blocks * (geometry.pages * page + 11),
         Request::Read { .. } => 10 + geometry.main,
         Request::Identify => ASKED as usize,
+        Request::Open { .. } => 2,
+        Request::Advance { most } => 7 + (*most).min(2 * geometry.pages as u64) as usize * 2 * page,
         _ => 9 + geometry.pages * 2 * page,
     }
 }
@@ -355,7 +357,7 @@ pub fn other_length(random: &mut Random, right: usize) -> usize {
 }
 
 pub fn random_wrong(random: &mut Random, geometry: &Geometry) -> Wrong {
-    match random.below(8) {
+    match random.below(9) {
         0 => Wrong::State(other_length(random, STATE_BYTES)),
         1 => Wrong::Interface(other_length(random, INTERFACE_WORDS)),
         2 => Wrong::Sent(other_length(random, 1)),
@@ -363,6 +365,7 @@ pub fn random_wrong(random: &mut Random, geometry: &Geometry) -> Wrong {
         4 => Wrong::Register(other_length(random, geometry.page_bytes())),
         5 => Wrong::History(other_length(random, geometry.blocks)),
         6 => Wrong::Sizes(other_length(random, SIZE_WORDS)),
+        7 => Wrong::Finished(other_length(random, 1)),
         _ => Wrong::Mask(other_length(random, geometry.block_bytes())),
     }
 }
@@ -485,5 +488,54 @@ pub fn random_state(random: &mut Random, geometry: &Geometry, present: &[u8]) ->
             change_state(random, geometry, &mut state);
             state.to_bytes()
         }
+    }
+}
+
+// ---- open writes ----
+
+// Mostly one that this geometry allows; each word also at its limits and beyond.
+pub fn random_open(random: &mut Random, geometry: &Geometry) -> OpenWrite {
+    let Geometry { pages, blocks, logical, .. } = *geometry;
+    let (old, page) = (random_place(random, blocks), random_place(random, pages));
+    OpenWrite {
+        opened: random.pick(&[1, 1, 1, 1, 0, 2, u64::MAX]),
+        table: random.pick(&[0, 0, 0, 1, 2, u64::MAX]),
+        filling: random.pick(&[0, 0, 1, 2, 2, 3, u64::MAX]),
+        logical: random_place(random, logical),
+        first: random_place(random, pages),
+        old: random.pick(&[0xFFFF, blocks as u64, old, old]),
+        block: random_place(random, blocks),
+        number: random_number(random),
+        page: random.pick(&[0, page, page]),
+        failed: random.pick(&[0, 0, 1, 2, u64::MAX]),
+    }
+}
+
+// Below the limit, now and then not.
+fn random_place(random: &mut Random, limit: usize) -> u64 {
+    if random.one_in(30) {
+        let word = random_word(random);
+        return random.pick(&[limit as u64, limit as u64 + 1, u64::MAX, word]);
+    }
+    random.below(limit) as u64
+}
+
+// The state with these words and any page.
+pub fn with_open(random: &mut Random, state: &[u8], write: &OpenWrite) -> Vec<u8> {
+    let mut state = state.to_vec();
+    write.put(&mut state);
+    let page = if random.one_in(4) { vec![random.byte(); MOST_MAIN] } else { random.bytes(MOST_MAIN) };
+    state[PAGE_AT..].copy_from_slice(&page);
+    state
+}
+
+// How many page programs an advance is given.
+pub fn random_portion(random: &mut Random, geometry: &Geometry) -> u64 {
+    match random.below(8) {
+        0 => 0,
+        1 => random.next() >> random.below(64),
+        2 => u64::MAX,
+        3 => random.below(3 * geometry.pages) as u64,
+        _ => 1 + random.below(3) as u64,
     }
 }

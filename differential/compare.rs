@@ -13,6 +13,7 @@ mod formattings;
 mod identify;
 mod library;
 mod lists;
+mod open_writes;
 mod price_tables;
 mod prices;
 mod sale_lists;
@@ -28,6 +29,7 @@ use formattings::*;
 use identify::*;
 use library::*;
 use lists::*;
+use open_writes::*;
 use price_tables::*;
 use sale_lists::*;
 use std::process::exit;
@@ -47,8 +49,8 @@ impl Side {
         let interface = self.chip.interface.clone();
         let (register, history) = (self.chip.register.clone(), self.chip.history.clone());
         let chip = Chip { interface, array, register, history };
-        let (sent, sizes) = (self.sent.clone(), self.sizes.clone());
-        Side { state: self.state.clone(), chip, buffer: self.buffer.clone(), sent, sizes }
+        let (sent, sizes, finished) = (self.sent.clone(), self.sizes.clone(), self.finished.clone());
+        Side { state: self.state.clone(), chip, buffer: self.buffer.clone(), sent, sizes, finished }
     }
 
     // Whether state, array and history are as before. A chip that was handed in busy may have ended what it was at.
@@ -62,6 +64,7 @@ impl Side {
         restore(&mut self.state, &kept.state);
         restore(&mut self.sent, &kept.sent);
         restore(&mut self.sizes, &kept.sizes);
+        restore(&mut self.finished, &kept.finished);
         restore(&mut self.chip.interface, &kept.chip.interface);
         restore(&mut self.chip.array, &kept.chip.array);
         restore(&mut self.chip.register, &kept.chip.register);
@@ -115,9 +118,11 @@ impl Random {
 
 // ---- counting and reporting ----
 
-const KINDS: [&str; 11] =
-    ["format", "mount", "read", "write", "erase", "identify", "check", "price", "reconcile", "dearest", "quick mount"];
-const ANSWERS: [usize; 18] = [0, 1, 2, 3, 4, 5, 6, 7, 8, 9, 10, 11, 12, 13, 17, 18, 100, 255];
+const KINDS: [&str; 13] = [
+    "format", "mount", "read", "write", "erase", "identify", "check", "price", "reconcile", "dearest", "quick mount", "open",
+    "advance",
+];
+const ANSWERS: [usize; 19] = [0, 1, 2, 3, 4, 5, 6, 7, 8, 9, 10, 11, 12, 13, 15, 17, 18, 100, 255];
 
 // Calls that are no requests to the store: the check of price rules, a price, sales held against each other, the dearest write.
 const CHECK: usize = 6;
@@ -134,6 +139,8 @@ fn kind_of(request: &Request) -> usize {
         Request::Erase { .. } => 4,
         Request::Identify => 5,
         Request::QuickMount => 10,
+        Request::Open { .. } => 11,
+        Request::Advance { .. } => 12,
     }
 }
 
@@ -146,6 +153,8 @@ struct Run {
     updated: usize,
     formatted: usize,
     entered: usize,
+    finished: usize,
+    given_up: usize,
     progress: usize,
 }
 
@@ -177,7 +186,8 @@ impl Run {
         }
         line += &format!("; {} lists with a book, {} boxes updated", self.books, self.updated);
         line += &format!(", {} formatted within a list", self.formatted);
-        line + &format!(", {} requests entered by a mount", self.entered)
+        line += &format!(", {} requests entered by a mount", self.entered);
+        line + &format!("; of opened writes {} finished in portions, {} given up", self.finished, self.given_up)
     }
 
     fn every_answer(&self) -> bool {
@@ -222,6 +232,7 @@ fn first_word(name: &str, own: &[u64], library: &[u64]) -> Option<String> {
 fn difference(own: &Side, library: &Side) -> Option<String> {
     first_word("sent", &own.sent, &library.sent)
         .or_else(|| first_word("sizes", &own.sizes, &library.sizes))
+        .or_else(|| first_word("finished", &own.finished, &library.finished))
         .or_else(|| first_word("interface", &own.chip.interface, &library.chip.interface))
         .or_else(|| first_difference("state", &own.state, &library.state))
         .or_else(|| first_difference("history", &own.chip.history, &library.chip.history))
@@ -233,6 +244,9 @@ fn difference(own: &Side, library: &Side) -> Option<String> {
 fn print_arguments(geometry: &Geometry, request: &Request, call: &Call, before: &Side) {
     println!("{geometry:?} {request:?} allowed {} line {} fates {:X?}", call.allowed, call.protected, call.fates);
     println!("interface {:?} sent {:?} sizes {:?}", before.chip.interface, before.sent, before.sizes);
+    if before.state.len() == STATE_BYTES {
+        println!("{:?}", OpenWrite::from_bytes(&before.state));
+    }
     for (name, bytes) in [
         ("mask", &call.mask),
         ("buffer", &before.buffer),
@@ -267,6 +281,7 @@ enum Wrong {
     Interface(usize),
     Sent(usize),
     Sizes(usize),
+    Finished(usize),
     Array(usize),
     Register(usize),
     History(usize),
@@ -282,7 +297,7 @@ impl World {
             history: vec![0; geometry.blocks],
         };
         let (state, sizes) = (vec![0; STATE_BYTES], vec![0; SIZE_WORDS]);
-        let own = Side { state, chip, buffer: Vec::new(), sent: vec![0], sizes };
+        let own = Side { state, chip, buffer: Vec::new(), sent: vec![0], sizes, finished: vec![0] };
         World { geometry, layout: Layout::Wide, left: false, library: own.clone(), own, watch: Watch::default() }
     }
 
@@ -298,6 +313,15 @@ impl World {
 
     fn state(&self) -> State {
         State::from_bytes(&self.own.state)
+    }
+
+    fn open_write(&self) -> OpenWrite {
+        OpenWrite::from_bytes(&self.own.state)
+    }
+
+    // Of the last advance, which was answered 0.
+    fn finished(&self) -> bool {
+        self.own.finished == [1]
     }
 
     fn mask(&self, byte: u8) -> Vec<u8> {
@@ -327,6 +351,7 @@ impl World {
         self.both(|side| side.buffer = buffer.to_vec());
         self.both(|side| side.sent.fill(0xABCD));
         self.both(|side| side.sizes.fill(0xABCD));
+        self.both(|side| side.finished.fill(0xABCD));
         let before = self.own.shown_part();
         let (mask, fates) = (call.mask.clone(), call.fates.clone());
         let answer = self.own_call(&geometry, request, call);
@@ -393,6 +418,15 @@ impl World {
         self.simple(run, &Request::Write { block, page }, &bytes)
     }
 
+    fn open(&mut self, run: &mut Run, block: usize, page: usize, byte: u8) -> usize {
+        let bytes = vec![byte; self.geometry.main];
+        self.simple(run, &Request::Open { block, page }, &bytes)
+    }
+
+    fn advance(&mut self, run: &mut Run, most: u64) -> usize {
+        self.simple(run, &Request::Advance { most }, &[])
+    }
+
     fn read(&mut self, run: &mut Run, block: usize, page: usize) -> usize {
         let buffer = vec![0x5C; self.geometry.main];
         self.simple(run, &Request::Read { block, page }, &buffer)
@@ -411,6 +445,7 @@ impl World {
             Wrong::Interface(length) => self.both(|side| side.chip.interface.resize(length, 1)),
             Wrong::Sent(length) => self.both(|side| side.sent.resize(length, 7)),
             Wrong::Sizes(length) => self.both(|side| side.sizes.resize(length, 7)),
+            Wrong::Finished(length) => self.both(|side| side.finished.resize(length, 7)),
             Wrong::Array(length) => self.both(|side| side.chip.array.resize(length, 0xFF)),
             Wrong::Register(length) => self.both(|side| side.chip.register.resize(length, 0x22)),
             Wrong::History(length) => self.both(|side| side.chip.history.resize(length, 0)),

@@ -1,5 +1,5 @@
 // The fixed selection: the paper's bench figures, then every cut, failure and silence of requests on small chips, with the
-// write-protect line high and low, forged states and interfaces, wrong lengths, formattings of chips that hold a table, chips in both
+// write-protect line high and low, writes that are opened and advanced, forged states and interfaces, wrong lengths, formattings of chips that hold a table, chips in both
 // layouts and updated boxes, parameter pages, a chip with rows past sixteen bits, random lists and the dearest writes; and beside the
 // store the draws of the test load, price rules and lists of sales.
 
@@ -16,6 +16,7 @@ pub fn fixed_selection(run: &mut Run) {
     interface_in_any_phase(run);
     unready_chips(run);
     busy_chips(run);
+    open_writes(run);
     changed_states(run);
     wrong_lengths(run);
     limits(run);
@@ -80,6 +81,7 @@ pub fn bench_figures(run: &mut Run) {
     bench_numbers(run);
     bench_column(run);
     bench_line(run);
+    bench_open(run);
 }
 
 fn bench_program(run: &mut Run) {
@@ -137,16 +139,21 @@ pub fn written() -> (World, Book) {
 
 // The same by a store that writes this layout.
 pub fn written_in(layout: Layout) -> (World, Book) {
+    written_on(SMALL, layout)
+}
+
+// The same on a chip that is like the small one.
+pub fn written_on(geometry: Geometry, layout: Layout) -> (World, Book) {
     let mut run = Run::of_setting();
-    let mut world = World::fresh(SMALL);
+    let mut world = World::fresh(geometry);
     world.layout = layout;
     world.watch.on = true;
-    let mut book = Book::new(&SMALL);
+    let mut book = Book::new(&geometry);
     let call = world.plain();
-    world.format_for(&mut run, SMALL.logical, &call);
+    world.format_for(&mut run, geometry.logical, &call);
     for (block, page, byte) in [(0, 0, 0x11), (1, 2, 0x3C)] {
         let answer = world.write(&mut run, block, page, byte);
-        book.step(&mut run, &world, &Request::Write { block, page }, answer, &vec![byte; SMALL.main]);
+        book.step(&mut run, &world, &Request::Write { block, page }, answer, &vec![byte; geometry.main]);
     }
     (world, book)
 }
@@ -306,7 +313,7 @@ fn bench_line_first(run: &mut Run, base: &World) {
 
 // ---- every place of a request ----
 
-pub fn requests() -> [Request; 9] {
+pub fn requests() -> [Request; 10] {
     [
         Request::Format,
         Request::Mount,
@@ -317,6 +324,7 @@ pub fn requests() -> [Request; 9] {
         Request::Erase { block: 0 },
         Request::Erase { block: 1 },
         Request::Identify,
+        Request::Open { block: 0, page: 1 },
     ]
 }
 
@@ -324,7 +332,8 @@ pub fn requests() -> [Request; 9] {
 pub fn masks(world: &World, request: &Request) -> Vec<Vec<u8>> {
     let random = Random::new(77).bytes(world.geometry.block_bytes());
     match request {
-        Request::Mount | Request::QuickMount | Request::Read { .. } | Request::Identify => vec![random],
+        Request::Mount | Request::QuickMount | Request::Read { .. } => vec![random],
+        Request::Identify | Request::Open { .. } => vec![random],
         _ => vec![random, world.mask(0xFF), world.mask(0)],
     }
 }
@@ -332,7 +341,7 @@ pub fn masks(world: &World, request: &Request) -> Vec<Vec<u8>> {
 pub fn buffer_for(world: &World, request: &Request) -> Vec<u8> {
     match request {
         Request::Read { .. } => vec![0x5C; world.geometry.main],
-        Request::Write { .. } => (0..world.geometry.main).map(|place| place as u8 ^ 0x69).collect(),
+        Request::Write { .. } | Request::Open { .. } => (0..world.geometry.main).map(|place| place as u8 ^ 0x69).collect(),
         Request::Identify => parameter_page(&world.geometry),
         _ => Vec::new(),
     }
@@ -508,7 +517,7 @@ fn calls_in_phase(run: &mut Run, base: &World, protected: u64) {
 }
 
 // The small chip in a phase, with busy reads left of an operation on a row.
-fn in_phase(base: &World, phase: u64, operation: u64, busy: u64, failed: u64, row: u64) -> World {
+pub fn in_phase(base: &World, phase: u64, operation: u64, busy: u64, failed: u64, row: u64) -> World {
     let mut interface = vec![0; INTERFACE_WORDS];
     interface[PHASE] = phase;
     interface[COUNT] = 5;
@@ -602,7 +611,7 @@ fn wrong_lengths(run: &mut Run) {
     let (mut world, _) = written();
     run.origin = "wrong lengths".to_string();
     for request in requests() {
-        for kind in 0..8 {
+        for kind in 0..9 {
             for place in 0..5 {
                 let call = world.plain();
                 let buffer = buffer_for(&world, &request);
@@ -625,6 +634,7 @@ fn wrong_length(geometry: &Geometry, kind: usize, place: usize) -> Wrong {
         4 => Wrong::Register(length(geometry.page_bytes())),
         5 => Wrong::History(length(geometry.blocks)),
         6 => Wrong::Sizes(length(SIZE_WORDS)),
+        7 => Wrong::Finished(length(1)),
         _ => Wrong::Mask(length(geometry.block_bytes())),
     }
 }

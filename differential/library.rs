@@ -1,4 +1,4 @@
-// The library's seven calls from Rust.
+// The library's nine calls from Rust.
 
 use crate::store::*;
 
@@ -31,6 +31,8 @@ extern "C" {
     request_call!(flash_store_read, block: usize, page: usize, buffer: Lent<u8>, buffer_len: usize);
     request_call!(flash_store_write, block: usize, page: usize, bytes: *const u8, bytes_len: usize);
     request_call!(flash_store_erase, block: usize);
+    request_call!(flash_store_open_write, block: usize, page: usize, bytes: *const u8, bytes_len: usize);
+    request_call!(flash_store_advance, most: u64, finished: Lent<u64>, finished_len: usize);
     library_call!(
         flash_store_identify(logical),
         parameters: *const u8, parameters_len: usize, sizes: Lent<u64>, sizes_len: usize
@@ -59,6 +61,7 @@ pub fn library(geometry: &Geometry, request: &Request, side: &mut Side, call: &C
     let buffer = side.buffer.as_mut_ptr();
     let length = side.buffer.len();
     let (sizes, words) = (side.sizes.as_mut_ptr(), side.sizes.len());
+    let (finished, told) = (side.finished.as_mut_ptr(), side.finished.len());
     // The buffers are as long as said and none overlaps another.
     unsafe {
         match request {
@@ -72,6 +75,10 @@ pub fn library(geometry: &Geometry, request: &Request, side: &mut Side, call: &C
                 lend!(flash_store_write, geometry, side, call, *block, *page, buffer as *const u8, length)
             }
             Request::Erase { block } => lend!(flash_store_erase, geometry, side, call, *block),
+            Request::Open { block, page } => {
+                lend!(flash_store_open_write, geometry, side, call, *block, *page, buffer as *const u8, length)
+            }
+            Request::Advance { most } => lend!(flash_store_advance, geometry, side, call, *most, finished, told),
             Request::Identify => {
                 let logical = geometry.logical;
                 lend!(flash_store_identify(logical), side, call, buffer as *const u8, length, sizes, words)

@@ -2,7 +2,12 @@
 
 use super::*;
 
-fn random_request(random: &mut Random, geometry: &Geometry) -> Request {
+// While a write is open every other request advances it.
+fn random_request(random: &mut Random, world: &World) -> Request {
+    let geometry = &world.geometry;
+    if world.open_write().is_open() && random.one_in(2) {
+        return Request::Advance { most: random_portion(random, geometry) };
+    }
     let odd = random.one_in(30);
     let mut block = random.below(geometry.logical);
     let mut page = random.below(geometry.pages);
@@ -11,13 +16,15 @@ fn random_request(random: &mut Random, geometry: &Geometry) -> Request {
         block = random.pick(&[block, geometry.logical, geometry.blocks, far, usize::MAX]);
         page = random.pick(&[page, geometry.pages, far, usize::MAX]);
     }
-    match random.below(11) {
+    match random.below(14) {
         0 => Request::Mount,
         1 => Request::QuickMount,
         2 | 3 | 4 => Request::Read { block, page },
         5 | 6 | 7 => Request::Write { block, page },
         8 => Request::Erase { block },
         9 => Request::Identify,
+        10 | 11 => Request::Open { block, page },
+        12 => Request::Advance { most: random_portion(random, geometry) },
         _ => Request::Format,
     }
 }
@@ -37,8 +44,8 @@ fn random_buffer(random: &mut Random, geometry: &Geometry, request: &Request) ->
     }
     match request {
         Request::Read { .. } => vec![0x5C; length],
-        Request::Write { .. } if random.one_in(2) => vec![random.byte(); length],
-        Request::Write { .. } => random.bytes(length),
+        Request::Write { .. } | Request::Open { .. } if random.one_in(2) => vec![random.byte(); length],
+        Request::Write { .. } | Request::Open { .. } => random.bytes(length),
         Request::Identify => random_parameters(random, geometry),
         _ => Vec::new(),
     }
@@ -68,13 +75,18 @@ pub fn forge(random: &mut Random, world: &mut World) {
         world.both(|side| side.state = state.clone());
     }
     if random.one_in(4) {
+        let write = random_open(random, &world.geometry);
+        let state = with_open(random, &world.own.state, &write);
+        world.both(|side| side.state = state.clone());
+    }
+    if random.one_in(4) {
         let interface = random_interface(random);
         world.both(|side| side.chip.interface = interface.clone());
     }
 }
 
 fn wild_call(run: &mut Run, random: &mut Random, world: &mut World) {
-    let request = random_request(random, &world.geometry);
+    let request = random_request(random, world);
     let call = random_call(random, &world.geometry, &request);
     let buffer = random_buffer(random, &world.geometry, &request);
     if matches!(request, Request::Format) && random.one_in(2) {
@@ -167,7 +179,7 @@ fn random_formatting(run: &mut Run, random: &mut Random, world: &mut World) -> u
     if left {
         check_spared(run, world);
     }
-    if answer == PROTECTED {
+    if [PROTECTED, WRITE_OPEN].contains(&answer) {
         world.watch.failed = failed;
     }
     answer
@@ -189,7 +201,7 @@ fn acknowledged_formatting(run: &mut Run, random: &mut Random, world: &mut World
 // Whether it stands.
 fn book_formatting(run: &mut Run, random: &mut Random, world: &mut World, book: &mut Book) -> bool {
     let answer = random_formatting(run, random, world);
-    if answer == PROTECTED {
+    if [PROTECTED, WRITE_OPEN].contains(&answer) {
         return true;
     }
     if answer != DONE && !acknowledged_formatting(run, random, world) {
@@ -204,11 +216,19 @@ fn book_formatting(run: &mut Run, random: &mut Random, world: &mut World, book: 
 fn book_call(run: &mut Run, random: &mut Random, world: &mut World, book: &mut Book) {
     let geometry = world.geometry;
     let mounted = world.state().status == 1;
-    let mut request = random_request(random, &geometry);
+    let mut request = random_request(random, world);
     if matches!(request, Request::Format) || !mounted && random.one_in(2) {
         request = either_mount(random);
     }
-    let call = random_call(random, &geometry, &request);
+    let opens = matches!(request, Request::Open { .. } | Request::Advance { .. });
+    if opens && world.layout == Layout::Narrow {
+        request = Request::Erase { block: random.below(geometry.logical) };
+    }
+    let mut call = random_call(random, &geometry, &request);
+    if matches!(request, Request::Advance { .. }) {
+        // The line does not change while a write is open.
+        call.protected = 0;
+    }
     let buffer = random_buffer(random, &geometry, &request);
     let answer = match random.below(25) {
         0 => {
@@ -231,6 +251,16 @@ fn book_call(run: &mut Run, random: &mut Random, world: &mut World, book: &mut B
             book.compare_all(run, world);
         }
     }
+    if random.one_in(30) {
+        lose_power(run, random, world, book);
+    }
+}
+
+// Between two calls.
+fn lose_power(run: &mut Run, random: &mut Random, world: &mut World, book: &mut Book) {
+    world.both(|side| side.state.fill(0));
+    power_on(random, world);
+    book.give_up(run);
 }
 
 // The interface as it is after power came on, and any bytes in the page register.

@@ -1,15 +1,21 @@
-// A second implementation of the flash store: chip model, page layout, mounted state and the seven requests.
+// A second implementation of the flash store: chip model, page layout, mounted state, the write that is open on it and the nine
+// requests.
 
 #[path = "parameters.rs"]
 pub mod parameters;
 
 use parameters::PARAMETER_BYTES;
 
-pub const STATE_BYTES: usize = 9248;
+// The base state, then the words of the open write, then its page.
+pub const WORDS_AT: usize = 9248;
+pub const PAGE_AT: usize = WORDS_AT + 8 * OPEN_WORDS;
+pub const STATE_BYTES: usize = PAGE_AT + MOST_MAIN;
+pub const OPEN_WORDS: usize = 10;
 pub const INTERFACE_WORDS: usize = 12;
 pub const SIZE_WORDS: usize = 4;
 
 const MOST_BLOCKS: usize = 4096;
+pub const MOST_MAIN: usize = 4096;
 const EMPTY: u16 = 0xFFFF;
 
 pub const DONE: usize = 0;
@@ -26,6 +32,7 @@ pub const SILENT: usize = 10;
 pub const CUT: usize = 11;
 pub const NO_SIZES: usize = 12;
 pub const PROTECTED: usize = 13;
+pub const WRITE_OPEN: usize = 15;
 pub const BAD_BUFFER: usize = 100;
 pub const ILLEGAL: usize = 255;
 
@@ -54,7 +61,7 @@ impl Geometry {
     }
 
     pub fn within_limits(&self) -> bool {
-        (32..=4096).contains(&self.main)
+        (32..=MOST_MAIN).contains(&self.main)
             && (16..=256).contains(&self.spare)
             && [4, 8, 16, 32, 64].contains(&self.pages)
             && (4..=MOST_BLOCKS).contains(&self.blocks)
@@ -134,10 +141,11 @@ pub struct Side {
     pub buffer: Vec<u8>,
     pub sent: Vec<u64>,
     pub sizes: Vec<u64>,
+    pub finished: Vec<u64>,
 }
 
-// A program or erase whose confirm cycle was taken; `forbidden` says that its block was marked, listed or had failed, or that
-// the write-protect line was low.
+// A program or erase whose confirm cycle was taken, and whether it passed; `forbidden` says that its block was marked, listed or had
+// failed, or that the write-protect line was low.
 #[derive(Clone)]
 pub struct Confirmed {
     pub program: bool,
@@ -145,6 +153,7 @@ pub struct Confirmed {
     pub page: usize,
     pub bytes: Vec<u8>,
     pub forbidden: bool,
+    pub passed: bool,
 }
 
 // What is kept while a list is watched: blocks that failed since the mount, confirm cycles of the last call.
@@ -442,7 +451,7 @@ impl<'a> Bus<'a> {
         let forbidden = forbidden_block(&self.geometry, &self.chip.array, block)
             || self.watch.failed.contains(&block)
             || self.line_low();
-        self.watch.confirmed.push(Confirmed { program, block, page, bytes, forbidden });
+        self.watch.confirmed.push(Confirmed { program, block, page, bytes, forbidden, passed: false });
     }
 
     fn data_in(&mut self, byte: u8) -> Result<(), Stop> {
@@ -604,8 +613,14 @@ impl<'a> Bus<'a> {
     }
 
     fn note_result(&mut self, block: usize, passed: bool) {
-        if self.watch.on && !passed {
+        if !self.watch.on {
+            return;
+        }
+        if !passed {
             self.watch.failed.push(block);
+        }
+        if let Some(last) = self.watch.confirmed.last_mut() {
+            last.passed = passed;
         }
     }
 
@@ -922,6 +937,7 @@ impl State {
         }
     }
 
+    // With no write open.
     pub fn to_bytes(&self) -> Vec<u8> {
         let mut bytes = vec![0; STATE_BYTES];
         for (place, number) in [self.status, self.table, self.last, self.number].into_iter().enumerate() {
@@ -993,11 +1009,82 @@ impl State {
     }
 }
 
+// ---- the open write ----
+
+// The words kept of it, in the order of the buffer. Not 0: `opened` a write is open, `table` its copy is filled and the table due,
+// `filling` a page is due in `block` under `number`, `failed` a block failed on the way. `old` is the block of the copy that it replaces,
+// which it has none of where no such block is on the chip.
+#[derive(Clone, Copy, PartialEq, Eq, Debug, Default)]
+pub struct OpenWrite {
+    pub opened: u64,
+    pub table: u64,
+    pub filling: u64,
+    pub logical: u64,
+    pub first: u64,
+    pub old: u64,
+    pub block: u64,
+    pub number: u64,
+    pub page: u64,
+    pub failed: u64,
+}
+
+const PAGE_DUE: u64 = 2;
+
+impl OpenWrite {
+    fn begun(logical: usize, first: usize, old: u16) -> OpenWrite {
+        OpenWrite { opened: 1, logical: logical as u64, first: first as u64, old: old as u64, ..OpenWrite::default() }
+    }
+
+    pub fn from_words(words: [u64; OPEN_WORDS]) -> OpenWrite {
+        let [opened, table, filling, logical, first, old, block, number, page, failed] = words;
+        OpenWrite { opened, table, filling, logical, first, old, block, number, page, failed }
+    }
+
+    pub fn words(&self) -> [u64; OPEN_WORDS] {
+        let OpenWrite { opened, table, filling, logical, first, old, block, number, page, failed } = *self;
+        [opened, table, filling, logical, first, old, block, number, page, failed]
+    }
+
+    // Of the bytes of a whole state.
+    pub fn from_bytes(state: &[u8]) -> OpenWrite {
+        OpenWrite::from_words(std::array::from_fn(|place| u64_at(state, WORDS_AT + 8 * place)))
+    }
+
+    pub fn put(&self, state: &mut [u8]) {
+        for (word, bytes) in self.words().iter().zip(state[WORDS_AT..].chunks_exact_mut(8)) {
+            bytes.copy_from_slice(&word.to_le_bytes());
+        }
+    }
+
+    pub fn is_open(&self) -> bool {
+        self.opened != 0
+    }
+
+    fn inside(&self, geometry: &Geometry) -> bool {
+        let pages = geometry.pages as u64;
+        self.logical < geometry.logical as u64
+            && self.first < pages
+            && self.block < geometry.blocks as u64
+            && self.page < pages
+    }
+
+    // The same write in the values that an advance leaves.
+    fn settled(self) -> OpenWrite {
+        let (table, filling) = ((self.table != 0) as u64, if self.filling != 0 { PAGE_DUE } else { 0 });
+        OpenWrite { opened: 1, table, filling, ..self }
+    }
+
+    // A number and a block are due.
+    fn unfilled(self) -> OpenWrite {
+        OpenWrite { filling: 0, block: 0, number: 0, page: 0, ..self }
+    }
+}
+
 // ---- fills ----
 
 enum Filling<'a> {
     Table,
-    Copy { logical: usize, page: Option<(usize, &'a [u8])> },
+    Copy { logical: usize, old: Option<usize>, page: Option<(usize, &'a [u8])> },
 }
 
 struct Store<'a> {
@@ -1056,22 +1143,20 @@ impl<'a> Store<'a> {
         let (main, label) = match what {
             Filling::Table if page == 0 => (table_main(&geometry, &self.state.invalid), table_label(layout, 0, number)),
             Filling::Table => (blank, table_label(layout, page, number)),
-            Filling::Copy { logical, page: new } => {
-                (self.copy_main(*logical, page, *new)?, data_label(layout, *logical, page, number))
+            Filling::Copy { logical, old, page: new } => {
+                (self.copy_main(*old, page, *new)?, data_label(layout, *logical, page, number))
             }
         };
         Ok(encode_page(&geometry, &main, &label))
     }
 
     // Main bytes of one page of a new copy; without a new page the whole copy is FFh.
-    fn copy_main(&mut self, logical: usize, page: usize, new: Option<(usize, &[u8])>) -> Result<Vec<u8>, Stop> {
+    fn copy_main(&mut self, old: Option<usize>, page: usize, new: Option<(usize, &[u8])>) -> Result<Vec<u8>, Stop> {
         let blank = vec![0xFF; self.geometry().main];
-        let old = self.state.map[logical];
-        match new {
-            None => Ok(blank),
-            Some((place, bytes)) if place == page => Ok(bytes.to_vec()),
-            Some(_) if old == EMPTY => Ok(blank),
-            Some(_) => self.bus.read(old as usize, page, 0, blank.len()),
+        match (new, old) {
+            (Some((place, bytes)), _) if place == page => Ok(bytes.to_vec()),
+            (Some(_), Some(old)) => self.bus.read(old, page, 0, blank.len()),
+            _ => Ok(blank),
         }
     }
 
@@ -1092,6 +1177,71 @@ impl<'a> Store<'a> {
             self.fill(&Filling::Table)?;
         }
         Ok(())
+    }
+
+    // The copy that a plain write or erase fills.
+    fn copy_of<'b>(&self, logical: usize, page: Option<(usize, &'b [u8])>) -> Filling<'b> {
+        let entry = self.state.map[logical];
+        Filling::Copy { logical, old: (entry != EMPTY).then_some(entry as usize), page }
+    }
+
+    // ---- the open write ----
+
+    // So many page programs of the open write, fewer where it is finished; whether it is.
+    fn advance(&mut self, write: &mut OpenWrite, bytes: &[u8], most: u64) -> Result<bool, Stop> {
+        *write = write.settled();
+        self.held = self.state.current(&self.geometry());
+        for _ in 0..most {
+            while write.filling == 0 {
+                self.begin_block(write)?;
+            }
+            if self.next_page(write, bytes)? {
+                return Ok(true);
+            }
+        }
+        Ok(false)
+    }
+
+    // A number, a block and its erase.
+    fn begin_block(&mut self, write: &mut OpenWrite) -> Result<(), Stop> {
+        let number = self.state.take_number(self.layout)?;
+        let block = self.choose_block()?;
+        if self.bus.erase(block)? {
+            *write = OpenWrite { filling: PAGE_DUE, block: block as u64, number, page: 0, ..*write };
+        } else {
+            self.fail_block(write, block);
+        }
+        Ok(())
+    }
+
+    fn fail_block(&mut self, write: &mut OpenWrite, block: usize) {
+        set_bit(&mut self.state.invalid, block);
+        *write = OpenWrite { failed: 1, ..write.unfilled() };
+    }
+
+    // The page that is due; whether it was the last one of the write.
+    fn next_page(&mut self, write: &mut OpenWrite, bytes: &[u8]) -> Result<bool, Stop> {
+        let geometry = self.geometry();
+        let (logical, first, old) = (write.logical as usize, write.first as usize, write.old);
+        let old = (old < geometry.blocks as u64).then_some(old as usize);
+        let copy = Filling::Copy { logical, old, page: Some((first, bytes)) };
+        let what = if write.table == 0 { copy } else { Filling::Table };
+        let (block, page) = (write.block as usize, write.page as usize);
+        let bytes = self.page_to_fill(&what, page, write.number)?;
+        if !self.bus.program(block, page, &bytes)? {
+            self.fail_block(write, block);
+            return Ok(false);
+        }
+        if page + 1 < geometry.pages {
+            write.page += 1;
+            return Ok(false);
+        }
+        self.record(&what, block);
+        if write.table != 0 || write.failed == 0 {
+            return Ok(true);
+        }
+        *write = OpenWrite { table: 1, ..write.unfilled() };
+        Ok(false)
     }
 
     // ---- formatting ----
@@ -1281,6 +1431,8 @@ pub enum Request {
     Write { block: usize, page: usize },
     Erase { block: usize },
     Identify,
+    Open { block: usize, page: usize },
+    Advance { most: u64 },
 }
 
 impl Request {
@@ -1294,7 +1446,7 @@ impl Request {
 
     fn address_right(&self, geometry: &Geometry) -> bool {
         match self {
-            Request::Read { block, page } | Request::Write { block, page } => {
+            Request::Read { block, page } | Request::Write { block, page } | Request::Open { block, page } => {
                 *block < geometry.logical && *page < geometry.pages
             }
             Request::Erase { block } => *block < geometry.logical,
@@ -1303,7 +1455,27 @@ impl Request {
     }
 
     fn length_right(&self, geometry: &Geometry, buffer: &[u8]) -> bool {
-        !matches!(self, Request::Read { .. } | Request::Write { .. }) || buffer.len() == geometry.main
+        let carries = matches!(self, Request::Read { .. } | Request::Write { .. } | Request::Open { .. });
+        !carries || buffer.len() == geometry.main
+    }
+
+    // Whether it may not come while a write is open, or only then.
+    fn barred(&self, write: &OpenWrite) -> bool {
+        match self {
+            Request::Write { .. } | Request::Erase { .. } | Request::Open { .. } | Request::Format => write.is_open(),
+            Request::Advance { .. } => !write.is_open(),
+            _ => false,
+        }
+    }
+
+    // Whether no write is open after an answer other than a refusal: a mount, a formatting that was not protected, and whatever stops
+    // the state.
+    fn gives_up(&self, answer: usize) -> bool {
+        match self {
+            _ if self.mounts() => true,
+            Request::Format => answer != PROTECTED,
+            _ => stops(answer),
+        }
     }
 }
 
@@ -1314,14 +1486,57 @@ fn lengths_right(geometry: &Geometry, chip: &Chip, call: &Call) -> bool {
         && call.mask.len() == geometry.block_bytes()
 }
 
-fn refusal(geometry: &Geometry, request: &Request, chip: &Chip, call: &Call, state: &State, buffer: &[u8]) -> usize {
+pub fn stops(answer: usize) -> bool {
+    (WORN..=CUT).contains(&answer) || answer == ILLEGAL
+}
+
+// The state that a call is handed, with the write that is open on it.
+struct Handed {
+    state: State,
+    write: OpenWrite,
+    page: Vec<u8>,
+}
+
+impl Handed {
+    fn from_bytes(bytes: &[u8]) -> Handed {
+        let (state, write) = (State::from_bytes(bytes), OpenWrite::from_bytes(bytes));
+        Handed { state, write, page: bytes[PAGE_AT..].to_vec() }
+    }
+
+    fn to_bytes(&self) -> Vec<u8> {
+        let mut bytes = self.state.to_bytes();
+        self.write.put(&mut bytes);
+        bytes[PAGE_AT..].copy_from_slice(&self.page);
+        bytes
+    }
+
+    // An open write outside the geometry counts as not mounted.
+    fn mounted(&self, geometry: &Geometry) -> bool {
+        self.state.mounted(geometry) && (!self.write.is_open() || self.write.inside(geometry))
+    }
+
+    fn open(&mut self, block: usize, page: usize, bytes: &[u8]) {
+        self.write = OpenWrite::begun(block, page, self.state.map[block]);
+        self.page = bytes.to_vec();
+        self.page.resize(MOST_MAIN, 0);
+    }
+
+    fn close(&mut self) {
+        self.write = OpenWrite::default();
+        self.page.fill(0);
+    }
+}
+
+fn refusal(geometry: &Geometry, request: &Request, chip: &Chip, call: &Call, handed: &Handed, buffer: &[u8]) -> usize {
     if matches!(request, Request::Identify) {
         return if buffer.len() == PARAMETER_BYTES { DONE } else { GEOMETRY };
     }
     if !geometry.within_limits() || !lengths_right(geometry, chip, call) {
         GEOMETRY
-    } else if request.needs_mount() && !state.mounted(geometry) {
+    } else if request.needs_mount() && !handed.mounted(geometry) {
         MOUNT_FIRST
+    } else if request.barred(&handed.write) && handed.mounted(geometry) {
+        WRITE_OPEN
     } else if !request.address_right(geometry) {
         ADDRESS
     } else if !request.length_right(geometry, buffer) {
@@ -1331,12 +1546,13 @@ fn refusal(geometry: &Geometry, request: &Request, chip: &Chip, call: &Call, sta
     }
 }
 
-// State, interface, the cycles sent and, where the chip is to tell its size, the sizes.
+// State, interface, the cycles sent and, where the chip is to tell its size, the sizes; of an advance also whether it is finished.
 fn lent_rightly(request: &Request, side: &Side) -> bool {
     side.state.len() == STATE_BYTES
         && side.chip.interface.len() == INTERFACE_WORDS
         && side.sent.len() == 1
         && (side.sizes.len() == SIZE_WORDS || !matches!(request, Request::Identify))
+        && (side.finished.len() == 1 || !matches!(request, Request::Advance { .. }))
 }
 
 // One call of a store that writes this layout; the answer.
@@ -1352,37 +1568,54 @@ pub fn call(
     if !lent_rightly(request, side) {
         return BAD_BUFFER;
     }
-    let Side { state, chip, buffer, sent, sizes } = side;
+    let Side { state, chip, buffer, sent, sizes, finished } = side;
     sent[0] = 0;
     let mut parameters = Vec::new();
-    if matches!(request, Request::Identify) {
-        sizes.fill(0);
-        parameters = buffer.clone();
+    match request {
+        Request::Identify => {
+            sizes.fill(0);
+            parameters = buffer.clone();
+        }
+        Request::Advance { .. } => finished.fill(0),
+        _ => {}
     }
-    let before = State::from_bytes(state);
-    let refused = refusal(geometry, request, chip, call, &before, buffer);
+    let mut handed = Handed::from_bytes(state);
+    let refused = refusal(geometry, request, chip, call, &handed, buffer);
     if refused != DONE {
         return refused;
     }
-    if !reads_blank(request, &before) {
+    if !reads_blank(request, &handed.state) {
         chip.interface[FATES_USED] = 0;
         chip.interface[ILLEGAL_SEEN] = 0;
     }
     let bus = Bus { geometry: *geometry, chip, parameters, call, watch, sent: 0 };
-    let mut store = Store { layout, bus, state: before, held: Vec::new(), failed: false };
-    let answer = match carry_out(&mut store, request, buffer, sizes) {
+    let mut store = Store { layout, bus, state: handed.state.clone(), held: Vec::new(), failed: false };
+    let answer = match carry_out(&mut store, request, &mut handed, buffer, sizes, finished) {
         Ok(answer) => answer,
         Err(stop) => {
             store.state = State::blank(STOPPED);
-            stop.answer()
+            stop_answer(request, stop)
         }
     };
     sent[0] = store.bus.sent;
     // A protected request hands the state back as it came.
-    if answer != PROTECTED {
-        *state = store.state.to_bytes();
+    if answer == PROTECTED {
+        return answer;
     }
+    handed.state = store.state;
+    if request.gives_up(answer) {
+        handed.close();
+    }
+    *state = handed.to_bytes();
     answer
+}
+
+// The line is taken not to change while a write is open: an advance that finds it low ends as one on a chip that is not ready.
+fn stop_answer(request: &Request, stop: Stop) -> usize {
+    match (request, stop) {
+        (Request::Advance { .. }, Stop::Protected) => ILLEGAL,
+        _ => stop.answer(),
+    }
 }
 
 // A read of a logical block without a copy: it sends no cycle and leaves the interface as it is.
@@ -1390,18 +1623,39 @@ fn reads_blank(request: &Request, state: &State) -> bool {
     matches!(request, Request::Read { block, .. } if state.map[*block] == EMPTY)
 }
 
-fn carry_out(store: &mut Store, request: &Request, buffer: &mut Vec<u8>, sizes: &mut [u64]) -> Result<usize, Stop> {
+fn carry_out(
+    store: &mut Store,
+    request: &Request,
+    handed: &mut Handed,
+    buffer: &mut Vec<u8>,
+    sizes: &mut [u64],
+    finished: &mut [u64],
+) -> Result<usize, Stop> {
     match request {
         Request::Format => store.format()?,
         Request::Mount => return mount(store, false),
         Request::QuickMount => return mount(store, true),
         Request::Read { block, page } => *buffer = read(store, *block, *page)?,
         Request::Write { block, page } => {
-            let bytes = buffer.clone();
-            store.replace(&Filling::Copy { logical: *block, page: Some((*page, &bytes)) })?
+            let copy = store.copy_of(*block, Some((*page, buffer)));
+            store.replace(&copy)?
         }
-        Request::Erase { block } => store.replace(&Filling::Copy { logical: *block, page: None })?,
+        Request::Erase { block } => {
+            let copy = store.copy_of(*block, None);
+            store.replace(&copy)?
+        }
         Request::Identify => return identify(store, sizes),
+        Request::Open { block, page } => {
+            store.bus.ask_writable()?;
+            handed.open(*block, *page, buffer);
+        }
+        Request::Advance { most } => {
+            let bytes = handed.page[..store.geometry().main].to_vec();
+            if store.advance(&mut handed.write, &bytes, *most)? {
+                finished[0] = 1;
+                handed.close();
+            }
+        }
     }
     Ok(DONE)
 }

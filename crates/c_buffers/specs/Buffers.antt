@@ -9,8 +9,9 @@ use Rattle.geometry.specs.declared.Geometry.{Geometry}
 use Rattle.chip_interface.specs.declared.Interface.{Interface}
 use Rattle.chip_array.specs.Device.{Device, device}
 use Rattle.parameters.specs.declared.Sizes.{Sizes}
-use Rattle.c_state.specs.StateBytes.{stateLength, stateBytes, bytesState}
-use Rattle.request.specs.Call.{Result}
+use Rattle.open_write.specs.Open.{OpenState}
+use Rattle.open_write.specs.Requests.{OpenResult}
+use Rattle.c_open.specs.OpenBytes.{openLength, openBytes, bytesOpen}
 
 abbrev pub geometryOf : ℕ → ℕ → ℕ → ℕ → ℕ → Geometry
 geometryOf main spare pages blocks logical = record { main = main; spare = spare; pages = pages; blocks = blocks; logical = logical }
@@ -54,12 +55,16 @@ abbrev pub lent : List ℕ → List ℕ → List ℕ → List ℕ → List ℕ �
 lent state interface array register history sent =
     record { state = state; interface = interface; array = array; register = register; history = history; sent = sent }
 
+-- the state that is lent, and the chip
+abbrev pub stateOf : Lent → OpenState
+stateOf l = bytesOpen (l .state)
+
 abbrev pub chipOf : Lent → Device
 chipOf l = device (interfaceOf (l .interface)) (l .array) (l .register) (l .history)
 
--- the bytes of a state, 12 words of interface, one word for the cycles sent
+-- the bytes of a state with its open write, 12 words of interface, one word for the cycles sent
 unfoldable pub lengthsRight : ℕ → ℕ → ℕ → Bool
-lengthsRight state interface sent = cond (eqb state stateLength) (cond (eqb interface 12) (eqb sent 1) false) false
+lengthsRight state interface sent = cond (eqb state openLength) (cond (eqb interface 12) (eqb sent 1) false) false
 
 abbrev pub rightly : Lent → Bool
 rightly l = lengthsRight (length (l .state)) (length (l .interface)) (length (l .sent))
@@ -72,15 +77,15 @@ pub record Handed : Type 0 where
 abbrev pub handed : ℕ → Lent → Handed
 handed answer left = record { answer = answer; left = left }
 
-abbrev pub putBack : Result → Handed
+abbrev pub putBack : OpenResult → Handed
 putBack r =
     handed (r .answer)
-    (lent (stateBytes (r .state)) (interfaceWords (r .chip .interface)) (r .chip .array) (r .chip .register) (r .chip .history) (r .sent ∷ []))
+    (lent (openBytes (r .state)) (interfaceWords (r .chip .interface)) (r .chip .array) (r .chip .register) (r .chip .history) (r .sent ∷ []))
 
 -- 100: one of these lengths is wrong, and nothing is changed
-unfoldable pub answered : Lent → Result → Handed
+unfoldable pub answered : Lent → OpenResult → Handed
 answered l r = cond (rightly l) (putBack r) (handed 100 l)
 
 -- the next call, handed these bytes, gets the state of this one's result
-abbrev pub PassedOn : Lent → Result → List ℕ → Type 0
-PassedOn l r bytes = rightly l ≡ true → bytesState bytes ≡ r .state
+abbrev pub PassedOn : Lent → OpenResult → List ℕ → Type 0
+PassedOn l r bytes = rightly l ≡ true → bytesOpen bytes ≡ r .state

@@ -1,21 +1,26 @@
 // What C programs lend: whether the lengths are right, the interface, what a request hands back.
 use chip_interface::Interface;
+use geometry::Geometry;
+use open_write::OpenWrite;
 use parameters::Sizes;
 use request::Returned;
+use state::State;
 ghost use mathlib.Core.Path.{_≡_};
 ghost use mathlib.Core.List.{List};
 ghost use Prim.Native.Nat.{ℕ};
 ghost use lib.ListN.{length};
 ghost use Rattle.chip_array.specs.Device.{device};
-ghost use Rattle.c_state.specs.StateBytes.{stateLength, bytesState};
-ghost use Rattle.request.specs.Call.{result};
+ghost use Rattle.open_write.specs.Open.{openState};
+ghost use Rattle.request.specs.Call.{sized};
+ghost use Rattle.open_write.specs.Requests.{openResult, openRefusal};
+ghost use Rattle.c_open.specs.OpenBytes.{openLength, bytesPage, bytesOpen, leftOpen};
 ghost use Rattle.c_buffers.specs.Buffers.{interfaceWords, interfaceOf, sizeWords, lent, lengthsRight, handed, putBack};
 
 // Whether the state, the interface and the cycles sent have their lengths.
 pub fn is_lent_rightly(state: usize, interface: usize, sent: usize) -> bool
     ensures { λ r. ⌜ r ≡ lengthsRight state interface sent ⌝ }
 {
-    if state != c_state::LENGTH {
+    if state != c_open::LENGTH {
         return false;
     }
     if interface != 12 {
@@ -75,23 +80,73 @@ pub fn write_sizes(told: Sizes, sizes: &mut [usize])
     sizes[3] = told.blocks;
 }
 
-// Writes what a request hands back, and gives the answer.
+// Writes what a request hands back beside a write that stays or is given up, and gives the answer.
 pub fn hand_back(
     returned: Returned,
+    write: OpenWrite,
+    gone: bool,
     state: &mut [u8],
     interface: &mut [usize],
     sent: &mut [usize],
 ) -> usize
-    requires { ⌜ length (now state) ≡ stateLength ⌝ }
+    requires { ⌜ length (now state) ≡ openLength ⌝ }
     requires { ⌜ length (now interface) ≡ 12 ⌝ }
     requires { ⌜ length (now sent) ≡ 1 ⌝ }
-    ensures { λ r. ⌜ ((a p h : List ℕ) → handed r (lent (now (state .exit)) (now (interface .exit)) a p h (now (sent .exit))) ≡ putBack (result (returned .answer) (returned .state) (device (returned .interface) a p h) (returned .sent))) ⌝ }
-    ensures { λ _. ⌜ bytesState (now (state .exit)) ≡ returned .state ⌝ }
+    ensures { λ r. ⌜ ((a p h : List ℕ) → handed r (lent (now (state .exit)) (now (interface .exit)) a p h (now (sent .exit))) ≡ putBack (openResult (returned .answer) (leftOpen gone (returned .state) write (bytesPage (now (state .entry)))) (device (returned .interface) a p h) (returned .sent))) ⌝ }
+    ensures { λ _. ⌜ bytesOpen (now (state .exit)) ≡ leftOpen gone (returned .state) write (bytesPage (now (state .entry))) ⌝ }
 {
     let next = returned.state;
     let from = returned.interface;
-    c_state::store(next, state);
+    c_open::leave(next, write, gone, state);
     write_interface(from, interface);
     sent[0] = returned.sent;
     returned.answer
+}
+
+// Hands back what was handed in, with a refusal.
+pub fn refuse(
+    answer: usize,
+    before: State,
+    write: OpenWrite,
+    start: Interface,
+    state: &mut [u8],
+    interface: &mut [usize],
+    sent: &mut [usize],
+) -> usize
+    requires { ⌜ length (now state) ≡ openLength ⌝ }
+    requires { ⌜ length (now interface) ≡ 12 ⌝ }
+    requires { ⌜ length (now sent) ≡ 1 ⌝ }
+    ensures { λ r. ⌜ ((a p h : List ℕ) → handed r (lent (now (state .exit)) (now (interface .exit)) a p h (now (sent .exit))) ≡ putBack (openResult answer (openState before write (bytesPage (now (state .entry)))) (device start a p h) 0)) ⌝ }
+    ensures { λ _. ⌜ bytesOpen (now (state .exit)) ≡ openState before write (bytesPage (now (state .entry))) ⌝ }
+{
+    let returned = request_refusals::unchanged(answer, before, start);
+    hand_back(returned, write, false, state, interface, sent)
+}
+
+// The refusal of a request by what is open: 1, 7 or 15, 0 where it goes on. Array, register, history and mask are told by their lengths.
+pub fn held(
+    before: State,
+    write: OpenWrite,
+    state: &[u8],
+    g: Geometry,
+    array: usize,
+    register: usize,
+    history: usize,
+    mask: usize,
+    barred: bool,
+) -> usize
+    requires { ⌜ length (now state) ≡ openLength ⌝ }
+    ensures { λ r. ⌜ r ≡ openRefusal g (sized g array register history mask) (openState before write (bytesPage (now (state .entry)))) barred ⌝ }
+{
+    open_requests::refusal(
+        before,
+        write,
+        &state[c_open::PAGE..c_open::LENGTH],
+        g,
+        array,
+        register,
+        history,
+        mask,
+        barred,
+    )
 }

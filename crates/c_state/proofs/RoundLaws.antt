@@ -17,7 +17,7 @@ use Rattle.c_state.specs.StateBytes.{stateLength, pairs, entries, stateB
 use Rattle.c_state.proofs.PieceLaws.{loaded, length-pairs, length-entries}
 
 -- a piece, and what follows it
-piece : (k n : ℕ) (ys zs xs : List ℕ) → length ys ≡ n → drop k xs ≡ ys ++ zs → (part k n xs ≡ ys) × (drop (k + n) xs ≡ zs)
+pub piece : (k n : ℕ) (ys zs xs : List ℕ) → length ys ≡ n → drop k xs ≡ ys ++ zs → (part k n xs ≡ ys) × (drop (k + n) xs ≡ zs)
 piece k n ys zs xs l e = (
   ap (take n) e ∙ take-at ys zs n l,
   sym (drop-drop n k xs) ∙ ap (drop n) e ∙ drop-at ys zs n l,

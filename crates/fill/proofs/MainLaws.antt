@@ -1,41 +1,40 @@
 -- The main bytes of a page: given, kept from the old copy, or FFh. Assumes nothing.
 use Prim.Native.Nat.{ℕ, suc, _+_, _-_, _*_, _≤_, _<_}
-use mathlib.Core.Bool.{true, false, false≢true}
+use mathlib.Core.Bool.{true, false, false≢true, true≢false}
 use mathlib.Core.List.{List, _++_}
 use mathlib.Core.Path.{_≡_, refl, sym, ap, ap₂, subst, fun-ext, _∙_}
 use native.Mathlib.Nat.{sub-zero, suc-mul, zero-mul, mul-le-mul, mul-le-mul-right}
 use native.Mathlib.Omega.{arith}
 use borrow.Table.Steps.{cases}
-use borrow.Author.Tests.{lt-ltb, le-ltb}
-use lib.Dec.{eqb, ltb}
-use lib.ListN.{length, take, drop, replicate, length-append}
-use lib.Seq.{take-at, take-take, length-take-le}
-use borrow.Author.Tests.{lt-ltb, le-ltb, lt-leb, le-leb, ltb-true, ltb-false, leb-true, eqb-true, eqb-false}
+use borrow.Author.Tests.{lt-ltb, le-ltb, lt-leb, le-leb, ltb-true, ltb-false, leb-true, leb-false, eqb-true, eqb-false}
 use lib.Dec.{eqb, leb, ltb}
 use lib.ListN.{length, take, drop, replicate, length-append}
 use lib.Seq.{take-at, take-take, take-all, length-take-le}
 use Rattle.geometry.specs.declared.Geometry.{Geometry}
 use Rattle.geometry.specs.Sizes.{pageSize, rowOf}
-use Rattle.bools.proofs.BoolLaws.{both}
+use Rattle.bools.proofs.BoolLaws.{both, clash}
 use Rattle.geometry.proofs.SizeLaws.{row-below}
 use Rattle.cells.specs.Part.{part}
 use Rattle.cells.specs.Cells.{over}
-use Rattle.chip_interface.specs.Interface.{busyOf}
-use Rattle.chip_array.specs.Device.{Setting}
+use Rattle.chip_interface.specs.Interface.{busyOf, outputPhase, readCode, plainCommand, readMode}
+use Rattle.chip_array.specs.Device.{Device, Setting, illegalCycle}
+use Rattle.chip.specs.Chip.{exec, commanded, isConfirm}
+use Rattle.chip.specs.Chip.Cycle.{command}
 use Rattle.bus.specs.Line.{Line, sendAll}
 use Rattle.bus_polling.specs.Outcomes.{isPassed, answered}
 use Rattle.bus_polling.specs.declared.Outcome.{Outcome}
 use Rattle.bus_polling.specs.declared.Outcome.the-variants.{Passed}
-use Rattle.bus_sequences.specs.Cycles.{readCycles, readOutcome, readOutputs}
-use Rattle.operations.specs.Ends.{Called, CanRead, End, endOfRead, readEnd, readTotal, wordFor}
+use Rattle.bus_polling.specs.Polling.{outcomeOf}
+use Rattle.bus_polling.proofs.OutcomeLaws.{passed-answered}
+use Rattle.bus_sequences.specs.Cycles.{pageLine, readCycles, readOutcome, readOutputs}
+use Rattle.operations.specs.Ends.{Lent, CanRead, End, unreadyLine, endOfRead, readEnd, readTotal, wordFor}
 use Rattle.operations.proofs.ReadLaws.{read-ends, read-next}
+use Rattle.operations.proofs.UnreadyLaws.{called-lent, lent-called, all-stops, unready-unanswered}
 use Rattle.copies.specs.Table.{tablePage}
 use Rattle.progress.specs.Progress.{Progress, progress}
-use Rattle.progress.proofs.ReadOnLaws.{Read, read-leaves, read-line, read-outcome, read-stopped}
+use Rattle.progress.proofs.ReadOnLaws.{read-leaves, read-line, read-outcome, read-stopped}
 use Rattle.copies.proofs.PlaceLaws.{row-is-page}
-use Rattle.fill.specs.Fill.{Source, given, kept, mainOf, mainRead, dataSource, tableMain, tableSource, isGiven, givenMain}
-use Rattle.progress.specs.Steps.{ComesTo}
-use Rattle.progress.proofs.ComesLaws.{comes-still, comes-as}
+use Rattle.fill.specs.Fill.{Source, given, kept, Reaches, mainOf, mainRead, dataSource, tableMain, tableSource, isGiven, givenMain}
 use Rattle.cells.proofs.CellLaws.{over-all}
 
 -- which of the three a page of a data copy is
@@ -117,9 +116,15 @@ module _ (n : ℕ) (page : List ℕ) (fits : n ≤ length page) (ys rest : List 
 
 -- a page that is given
 module _ (s : Setting) (n : ℕ) (source : Source) (main : List ℕ) (e : source ≡ given main) where
-  pub given-comes : (l : Line) → Called s l → ComesTo s (mainRead s n source) l l Passed
-  unfolding mainRead
-  given-comes l called = comes-as (λ p. sym (ap (λ (x : Source). mainRead s n x p) e)) (comes-still called)
+  pub given-comes : (l : Line) → Lent s l → Reaches s (mainRead s n source) l l Passed
+  unfolding mainRead isPassed
+  given-comes l lent =
+      record {
+        line-is = λ cs os. sym (ap (λ (x : Source). mainRead s n x (progress l Passed cs os) .line) e);
+        outcome-is = λ cs os. sym (ap (λ (x : Source). mainRead s n x (progress l Passed cs os) .outcome) e);
+        next-lent = λ t. lent;
+        unanswered = λ f. absurd (true≢false f);
+      }
 
   pub given-main : (array bytes : List ℕ) → bytes ≡ main → bytes ≡ mainOf (s .geometry) array n source
   unfolding mainOf
@@ -134,57 +139,66 @@ read-answered s l n h =
     (λ t.
     cases (ltb (busyOf (wordFor s (l .chip))) 256) (λ u. rw (t, u)) (λ u. absurd (false≢true (sym (rw (t, u)) ∙ h))))
 
+-- 00h on a chip that is not ready: the read is not answered
+read-refused : (s : Setting) (d : Device) → outputPhase < d .interface .phase → exec s d (command readCode) ≡ illegalCycle d
+unfolding exec commanded isConfirm plainCommand readMode
+read-refused s d h = rw (lt-leb (d .interface .phase) 2 h)
+
+read-unready : (s : Setting) (l : Line) → Lent s l → outputPhase < l .chip .interface .phase → (row column n : ℕ) → answered (readOutcome s l row column n) ≡ false
+unfolding readOutcome
+read-unready s l lent h row column n =
+    let stops : pageLine s l row column ≡ unreadyLine l = all-stops s l lent (command readCode) (read-refused s (l .chip) h) _ in
+    let unanswered = ap (λ (x : Line). answered (outcomeOf x)) stops ∙ unready-unanswered l in
+    let unpassed : isPassed (outcomeOf (pageLine s l row column)) ≡ false = cases (isPassed (outcomeOf (pageLine s l row column))) (λ t. clash (passed-answered _ t) unanswered) (λ f. f) in
+    rw unpassed unanswered
+
 -- a page that is kept: its read leaves line m and outcome o
-module _ (s : Setting) (l : Line) (called : Called s l) (old n : ℕ) (old-below : old < s .geometry .blocks) (page-below : n < s .geometry .pages) (source : Source) (from : source ≡ kept old)
+module _ (s : Setting) (l : Line) (lent : Lent s l) (old n : ℕ) (old-below : old < s .geometry .blocks) (page-below : n < s .geometry .pages) (source : Source) (from : source ≡ kept old)
     (row : ℕ) (row-is : row ≡ rowOf (s .geometry) old n) (buffer : List ℕ) (long : length buffer ≡ s .geometry .main) (m : Line) (o : Outcome)
     (e : m ≡ sendAll s l (readCycles s l row 0 (length buffer))) (q : o ≡ readOutcome s l row 0 (length buffer)) where
-  can-read : CanRead s l (rowOf (s .geometry) old n) 0 (s .geometry .main)
-  can-read =
-      record {
-        called = called;
-        row-below = row-below (s .geometry) (called .is-valid) old n old-below page-below;
-        column-below = omega (arith, called .is-valid .main-least);
-        within = omega arith;
-      }
-
   line-at : m ≡ sendAll s l (readCycles s l (rowOf (s .geometry) old n) 0 (s .geometry .main))
   line-at = e ∙ ap₂ (λ (x y : ℕ). sendAll s l (readCycles s l x 0 y)) row-is long
 
   outcome-at : o ≡ readOutcome s l (rowOf (s .geometry) old n) 0 (s .geometry .main)
   outcome-at = q ∙ ap₂ (λ (x y : ℕ). readOutcome s l x 0 y) row-is long
 
-  read-called : answered o ≡ true → Called s m
+  -- one that was answered was sent to a chip that is ready
+  can-read : answered o ≡ true → CanRead s l (rowOf (s .geometry) old n) 0 (s .geometry .main)
+  can-read t =
+      let ready : l .chip .interface .phase ≤ outputPhase = cases (leb (l .chip .interface .phase) outputPhase) (leb-true (l .chip .interface .phase) outputPhase) (λ f. clash t (ap answered outcome-at ∙ read-unready s l lent (leb-false (l .chip .interface .phase) outputPhase f) _ 0 (s .geometry .main))) in
+      record {
+        called = lent-called lent ready;
+        row-below = row-below (s .geometry) (lent .is-valid) old n old-below page-below;
+        column-below = omega (arith, lent .is-valid .main-least);
+        within = omega arith;
+      }
+
+  passes : answered o ≡ true → isPassed o ≡ true
   unfolding endOfRead
-  read-called t =
-      let ends : o ≡ readEnd s l (s .geometry .main) .outcome = outcome-at ∙ ap (λ (x : End). x .outcome) (read-ends s l _ 0 (s .geometry .main) can-read) in
-      subst (Called s) (sym line-at) (read-next s l _ 0 (s .geometry .main) can-read (read-answered s l (s .geometry .main) (sym (ap answered ends) ∙ t)))
+  passes t =
+      let ends : o ≡ readEnd s l (s .geometry .main) .outcome = outcome-at ∙ ap (λ (x : End). x .outcome) (read-ends s l _ 0 (s .geometry .main) (can-read t)) in
+      ap isPassed ends ∙ read-answered s l (s .geometry .main) (sym (ap answered ends) ∙ t)
 
-  pub kept-comes : ComesTo s (mainRead s n source) l m o
-  unfolding mainRead isPassed
+  pub kept-comes : Reaches s (mainRead s n source) l m o
+  unfolding mainRead isPassed endOfRead
   kept-comes =
-      comes-as (λ p. sym (ap (λ (x : Source). mainRead s n x p) from))
-      (record {
-        line-is = λ cs os. line-at ∙ sym (read-line s (rowOf (s .geometry) old n) 0 (s .geometry .main) (progress l Passed cs os) l refl refl);
-        outcome-is = λ cs os. outcome-at ∙ sym (read-outcome s (rowOf (s .geometry) old n) 0 (s .geometry .main) (progress l Passed cs os) l refl refl);
-        next-called = read-called;
-      })
+      record {
+        line-is = λ cs os. line-at ∙ sym (read-line s (rowOf (s .geometry) old n) 0 (s .geometry .main) (progress l Passed cs os) l refl refl) ∙ sym (ap (λ (x : Source). mainRead s n x (progress l Passed cs os) .line) from);
+        outcome-is = λ cs os. outcome-at ∙ sym (read-outcome s (rowOf (s .geometry) old n) 0 (s .geometry .main) (progress l Passed cs os) l refl refl) ∙ sym (ap (λ (x : Source). mainRead s n x (progress l Passed cs os) .outcome) from);
+        next-lent = λ t.
+            let can = can-read (passed-answered o t) in
+            let ends : o ≡ readEnd s l (s .geometry .main) .outcome = outcome-at ∙ ap (λ (x : End). x .outcome) (read-ends s l _ 0 (s .geometry .main) can) in
+            subst (Lent s) (sym line-at) (called-lent (read-next s l _ 0 (s .geometry .main) can (sym (ap isPassed ends) ∙ t)));
+        unanswered = λ f. cases (answered o) (λ t. clash (passes t) f) (λ u. u);
+      }
 
-  module _ (bytes : List ℕ) (f : bytes ≡ over (readOutputs s l row 0 (length buffer)) buffer) where
-    read : Read s l m o (rowOf (s .geometry) old n) 0 (s .geometry .main) bytes
-    read =
-        read-leaves s l (rowOf (s .geometry) old n) 0 (s .geometry .main) can-read m o buffer bytes long line-at outcome-at
-        (f ∙ ap₂ (λ (x y : ℕ). over (readOutputs s l x 0 y) buffer) row-is long)
-
-    pub kept-history : m .chip .history ≡ l .chip .history
-    kept-history = read .same-history
-
-    pub kept-main : isPassed o ≡ true → bytes ≡ mainOf (s .geometry) (l .chip .array) n source
-    unfolding mainOf
-    kept-main t =
-        read .bytes-are t
-        ∙ sym (take-take (s .geometry .main) (pageSize (s .geometry)) (drop (rowOf (s .geometry) old n * pageSize (s .geometry) + 0) (l .chip .array)) (omega arith))
-        ∙ ap (take (s .geometry .main)) (row-is-page (s .geometry) (called .is-valid) (l .chip .array) old n page-below)
-        ∙ sym (ap (mainOf (s .geometry) (l .chip .array) n) from)
+  pub kept-main : (bytes : List ℕ) → bytes ≡ over (readOutputs s l row 0 (length buffer)) buffer → isPassed o ≡ true → bytes ≡ mainOf (s .geometry) (l .chip .array) n source
+  unfolding mainOf
+  kept-main bytes f t =
+      read-leaves s l (rowOf (s .geometry) old n) 0 (s .geometry .main) (can-read (passed-answered o t)) m o buffer bytes long line-at outcome-at (f ∙ ap₂ (λ (x y : ℕ). over (readOutputs s l x 0 y) buffer) row-is long) .bytes-are t
+      ∙ sym (take-take (s .geometry .main) (pageSize (s .geometry)) (drop (rowOf (s .geometry) old n * pageSize (s .geometry) + 0) (l .chip .array)) (omega arith))
+      ∙ ap (take (s .geometry .main)) (row-is-page (s .geometry) (lent .is-valid) (l .chip .array) old n page-below)
+      ∙ sym (ap (mainOf (s .geometry) (l .chip .array) n) from)
 
 -- once an operation has not passed nothing is read
 pub main-stopped : (s : Setting) (n : ℕ) (source : Source) (p : Progress) → isPassed (p .outcome) ≡ false → mainRead s n source p ≡ p

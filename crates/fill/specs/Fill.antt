@@ -1,6 +1,6 @@
 -- A fill: a block is erased and its pages are programmed in order, each with its label and check.
 use Prim.Native.Nat.{ℕ, zero, suc, _+_, _-_, _*_, _<_}
-use mathlib.Core.Bool.{Bool, false, cond}
+use mathlib.Core.Bool.{Bool, true, false, cond}
 use mathlib.Core.List.{List}
 use mathlib.Core.Path.{_≡_}
 use lib.Dec.{eqb, leb, ltb}
@@ -10,10 +10,17 @@ use Rattle.geometry.specs.Limits.{Valid}
 use Rattle.geometry.specs.Sizes.{pageSize, rowOf}
 use Rattle.cells.specs.Part.{part}
 use Rattle.chip_array.specs.Device.{Setting}
+use Rattle.chip.specs.Chip.{Cycle}
+use Rattle.bus.specs.Line.{Line}
+use Rattle.bus_polling.specs.Outcomes.{isPassed, answered}
+use Rattle.bus_polling.specs.declared.Outcome.{Outcome}
+use Rattle.bus_polling.specs.declared.Outcome.the-variants.{Passed}
+use Rattle.operations.specs.Ends.{Lent}
+use Rattle.operations.specs.Trace.{ArrayOperation}
 use Rattle.pages.specs.Layout.{label, encoded, numberWidth, tableKind}
 use Rattle.copies.specs.Blocks.{blockIn, mainIn}
 use Rattle.copies.specs.Table.{tablePage}
-use Rattle.progress.specs.Progress.{Progress, readOn}
+use Rattle.progress.specs.Progress.{Progress, progress, readOn}
 use Rattle.progress.specs.Steps.{eraseOn, programOn}
 
 -- what the labels of a copy's pages share
@@ -51,6 +58,14 @@ mainOf g array n (kept old) = mainIn g (blockIn g array old) n
 unfoldable pub mainRead : Setting → ℕ → Source → Progress → Progress
 mainRead s n (given main) p = p
 mainRead s n (kept old) p = readOn s (rowOf (s .geometry) old n) 0 (s .geometry .main) p
+
+-- a part of a request that comes from line l to line m with outcome o on a chip that may not be ready: once it passed the chip is
+-- lent on, and what did not pass was not answered
+pub record Reaches (s : Setting) (steps : Progress → Progress) (l m : Line) (o : Outcome) : Type 0 where
+  pub line-is : (cs : List Cycle) (os : List ArrayOperation) → m ≡ steps (progress l Passed cs os) .line
+  pub outcome-is : (cs : List Cycle) (os : List ArrayOperation) → o ≡ steps (progress l Passed cs os) .outcome
+  pub next-lent : isPassed o ≡ true → Lent s m
+  pub unanswered : isPassed o ≡ false → answered o ≡ false
 
 -- page n is filled; one that is kept is read just before its program
 unfoldable pub pageFilled : Setting → ℕ → Copy → ℕ → Source → Progress → Progress

@@ -14,9 +14,8 @@ ghost use Rattle.bus.specs.Line.{line, sendAll};
 ghost use Rattle.bus_polling.specs.Outcomes.{isPassed};
 ghost use Rattle.bus_polling.specs.Polling.{answerOf};
 ghost use Rattle.bus_sequences.specs.Cycles.{programCycles};
-ghost use Rattle.operations.specs.Ends.{Called};
-ghost use Rattle.progress.specs.Steps.{ComesTo};
-ghost use Rattle.fill.specs.Fill.{copy, copyPage, Fillable, mainOf, mainRead, dataSource, isGiven, givenMain};
+ghost use Rattle.operations.specs.Ends.{Lent};
+ghost use Rattle.fill.specs.Fill.{copy, copyPage, Fillable, Reaches, mainOf, mainRead, dataSource, isGiven, givenMain};
 
 // What a copy holds beside the bytes that are given: its label, the block of the old copy (none where it is not on the chip),
 // and which pages are given, so many from the first on.
@@ -100,13 +99,12 @@ pub fn put_main(
     bytes: &[u8],
     page: &mut [u8],
 ) -> Done
-    requires { ⌜ Called (setting g (now mask) (now fates)) (line from (now array) (now register) (now history)) ⌝ }
+    requires { ⌜ Lent (setting g (now mask) (now fates)) (line from (now array) (now register) (now history)) ⌝ }
     requires { ⌜ place < g .pages ⌝ }
     requires { ⌜ length (now page) ≡ pageSize g ⌝ }
     requires { ⌜ length (now bytes) ≡ content .count * g .main ⌝ }
-    ensures { λ r. ⌜ ComesTo (setting g (now (mask .entry)) (now (fates .entry))) (mainRead (setting g (now (mask .entry)) (now (fates .entry))) place (dataSource g (content .old) (content .first) (content .count) (now (bytes .entry)) place)) (line from (now (array .entry)) (now (register .entry)) (now (history .entry))) (line (r .bus) (now (array .exit)) (now (register .exit)) (now (history .exit))) (r .outcome) ⌝ }
+    ensures { λ r. ⌜ Reaches (setting g (now (mask .entry)) (now (fates .entry))) (mainRead (setting g (now (mask .entry)) (now (fates .entry))) place (dataSource g (content .old) (content .first) (content .count) (now (bytes .entry)) place)) (line from (now (array .entry)) (now (register .entry)) (now (history .entry))) (line (r .bus) (now (array .exit)) (now (register .exit)) (now (history .exit))) (r .outcome) ⌝ }
     ensures { λ r. ⌜ (isPassed (r .outcome) ≡ true → take (g .main) (now (page .exit)) ≡ mainOf g (now (array .entry)) place (dataSource g (content .old) (content .first) (content .count) (now (bytes .entry)) place)) ⌝ }
-    ensures { λ _. ⌜ now (history .exit) ≡ now (history .entry) ⌝ }
 {
     if is_given(content, place) {
         put_given(g, content, place, bytes, page);

@@ -1,5 +1,5 @@
 -- What is due, by the tests that the code makes, and that its page can be labelled. Assumes nothing.
-use Prim.Native.Nat.{ℕ, _+_, _*_, _<_}
+use Prim.Native.Nat.{ℕ, _*_, _<_}
 use mathlib.Core.List.{List}
 use mathlib.Core.Path.{_≡_, sym, subst}
 use native.Mathlib.Omega.{arith}
@@ -17,7 +17,6 @@ use Rattle.progress.specs.Steps.{eraseOn, ComesTo}
 use Rattle.progress.proofs.ComesLaws.{comes-as}
 use Rattle.fill.specs.Fill.{copy, Fillable, pageFilled, dataSource, tableCopy, tableSource}
 use Rattle.fill.specs.declared.Content.{Content}
-use Rattle.fill_cursor.specs.Cursor.{pageAfter}
 use Rattle.fill_cursor.specs.declared.Cursor.{Cursor}
 use Rattle.fill_driver.specs.Driver.{copyOf, sourceOf, contentOf, performed}
 
@@ -47,11 +46,6 @@ module _ (c : Cursor) (k : Content) (is : k ≡ contentOf c) where
 
   pub content-count : (n main : ℕ) → n ≡ c .count * main → n ≡ k .count * main
   content-count n main e = subst (λ (x : Content). n ≡ x .count * main) (sym is) e
-
--- the page after a page
-pub after-place : (c : Cursor) → (c .step ≡ 1 → ⊥) → pageAfter c ≡ c .page + 1
-unfolding pageAfter
-after-place c n = rw (ne-eqb (c .step) 1 n)
 
 -- a page of a copy and one of a table can be labelled so
 module _ (g : Geometry) (v : Valid g) (block place size : ℕ) (b : block < g .blocks) (p : place < g .pages) (e : size ≡ pageSize g) where

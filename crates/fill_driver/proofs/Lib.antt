@@ -1,3 +1,4 @@
+pub mod AnsweredLaws
 pub mod DueLaws
 pub mod PageLaws
 pub mod RunLaws

@@ -7,12 +7,13 @@ use native.Mathlib.Omega.{arith}
 use borrow.Table.Steps.{cases}
 use borrow.Author.Tests.{eq-eqb, ne-eqb, ltb-true}
 use lib.Dec.{eqb}
-use lib.ListN.{length, getD}
+use lib.ListN.{length}
+use Rattle.geometry.specs.declared.Geometry.{Geometry}
 use Rattle.geometry.specs.Limits.{Valid}
 use Rattle.chip_array.specs.Device.{Setting}
 use Rattle.chip.specs.Chip.{Cycle}
 use Rattle.bus.specs.Line.{Line}
-use Rattle.bus_polling.specs.Outcomes.{isPassed, isFailed, answered, isProtected}
+use Rattle.bus_polling.specs.Outcomes.{isFailed, answered, isProtected}
 use Rattle.bus_polling.specs.declared.Outcome.{Outcome}
 use Rattle.bus_polling.specs.declared.Outcome.the-variants.{Passed, Failed, Silent, Cut, Illegal, Protected}
 use Rattle.operations.specs.Ends.{Called, Lent}
@@ -21,12 +22,12 @@ use Rattle.operations.proofs.UnreadyLaws.{called-lent}
 use Rattle.progress.specs.Progress.{Progress, progress}
 use Rattle.progress.specs.Steps.{ComesTo}
 use Rattle.state.specs.declared.State.{State}
-use Rattle.fill_cursor.specs.Cursor.{running, firstCursor, prepared, pageAfter, afterAction, settled, afterDue, programs, isOpen, actionsMost}
+use Rattle.fill_cursor.specs.Cursor.{Fits, running, firstCursor, prepared, afterAction, settled, afterDue, programs, isOpen, actionsMost}
 use Rattle.fill_cursor.specs.declared.Cursor.{Cursor}
 use Rattle.fill_cursor.specs.declared.Running.{Running}
 use Rattle.fill_cursor.proofs.FitLaws.{prepared-goes, after-goes, prepared-less, after-less}
 use Rattle.fill_cursor.proofs.EndLaws.{prepared-unfinished, after-finished}
-use Rattle.fill_driver.specs.Driver.{performed, Due, Ran, ranTo, gone, goneOn, acted, ran, runFor, RanAs}
+use Rattle.fill_driver.specs.Driver.{performed, Ran, ranTo, gone, goneOn, acted, ran, runFor, RanAs}
 
 pub gone-on : (o : Outcome) → answered o ≡ true → isProtected o ≡ false → gone o ≡ Passed
 unfolding gone answered isFailed isProtected
@@ -92,20 +93,16 @@ module _ (pages : ℕ) (c : Cursor) (st : State) (o : Outcome) (next : Cursor) (
       ap (λ (x : Cursor). running x st) e ∙ sym (rw t)
 
 -- a request that starts: a number and a block are due
-pub first-due : (s : Setting) → Valid (s .geometry) → (l : Line) (phase logical first count old : ℕ) (c : Cursor) → c ≡ firstCursor phase logical first count old → logical < s .geometry .logical → (long : ℕ) → long ≡ count * s .geometry .main → Due s long c l
-first-due s v l phase logical first count old c e h long k =
-    subst (λ (x : Cursor). Due s long x l) (sym e)
-    (record {
-      fits = record { step-most = omega arith; logical-below = h; bytes-long = k; page-below = omega (arith, v .pages-least); block-below = λ z. absurd (omega (arith, z)) };
-      ready = λ z. absurd (omega (arith, z));
-      in-order = λ z. absurd (omega (arith, z));
-    })
+pub first-fits : (g : Geometry) → Valid g → (phase logical first count old : ℕ) (c : Cursor) → c ≡ firstCursor phase logical first count old → logical < g .logical → (long : ℕ) → long ≡ count * g .main → Fits g long c
+first-fits g v phase logical first count old c e h long k =
+    subst (Fits g long) (sym e)
+    (record { step-most = omega arith; logical-below = h; bytes-long = k; page-below = omega (arith, v .pages-least); block-below = λ z. absurd (omega (arith, z)) })
 
 -- a request that goes on
 pub record Open (s : Setting) (long : ℕ) (r : Running) (m : Line) (o : Outcome) : Type 0 where
   pub lent : Lent s m
   pub passed : o ≡ Passed
-  pub due : Due s long (r .cursor) m
+  pub fits : Fits (s .geometry) long (r .cursor)
   pub last-below : r .state .last < s .geometry .blocks
 
 -- on the way: with left page programs the request from r at line m ends as that from the start
@@ -119,9 +116,9 @@ pub record Going (s : Setting) (bytes : List ℕ) (most : ℕ) (start : Running)
   pub opened : r .cursor .phase < 2 → Open s (length bytes) r m outcome
   pub next-called : start .cursor .phase < 2 → (r .cursor .phase < 2 → ⊥) → r .cursor .answer ≡ 0 → Called s m × (r .state .last < s .geometry .blocks)
 
-pub run-begins : (s : Setting) (bytes : List ℕ) (most : ℕ) (start : Running) (l : Line) → Lent s l → (start .cursor .phase < 2 → Due s (length bytes) (start .cursor) l) → (start .cursor .phase < 2 → start .state .last < s .geometry .blocks)
+pub run-begins : (s : Setting) (bytes : List ℕ) (most : ℕ) (start : Running) (l : Line) → Lent s l → (start .cursor .phase < 2 → Fits (s .geometry) (length bytes) (start .cursor)) → (start .cursor .phase < 2 → start .state .last < s .geometry .blocks)
     → Going s bytes most start l most start l
-run-begins s bytes most start l lent due last =
+run-begins s bytes most start l lent fits last =
     record {
       fuel = actionsMost most start;
       enough = omega arith;
@@ -129,7 +126,7 @@ run-begins s bytes most start l lent due last =
       cycles = λ cs os. cs;
       started = λ cs os. os;
       going = λ cs os. refl;
-      opened = λ h. record { lent = lent; passed = refl; due = due h; last-below = last h };
+      opened = λ h. record { lent = lent; passed = refl; fits = fits h; last-below = last h };
       next-called = λ h n. absurd (n h);
     }
 
@@ -179,22 +176,21 @@ module _ (s : Setting) (bytes : List ℕ) (most : ℕ) (start : Running) (l : Li
                 ap (λ (x : ℕ). ran s bytes (w .fuel - 1) x (prepared g (r .cursor) (r .state)) (here cs os)) (sym same)
                 ∙ one-more (w .fuel - 1) next cs os (ranTo (here cs os) (prepared g (r .cursor) (r .state))) (sym (acted-prepared s bytes r (here cs os) z));
             opened = λ h.
-                let x = prepared-goes g (length bytes) (r .cursor) (r .state) (omega (arith, a .lent .is-valid .pages-least)) (a .due .fits) (a .last-below) h in
+                let x = prepared-goes g (length bytes) (r .cursor) (r .state) (omega (arith, a .lent .is-valid .pages-least)) (a .fits) (a .last-below) h in
                 record {
                   lent = a .lent;
                   passed = a .passed;
-                  due = record { fits = x .0 .fits; ready = λ e. absurd (omega (arith, e, x .1)); in-order = λ e. absurd (omega (arith, e, x .1)) };
+                  fits = x .0 .fits;
                   last-below = x .0 .last-below;
                 };
             next-called = λ h n z. absurd (prepared-unfinished g (r .cursor) (r .state) (open-phase (r .cursor) left t) n z);
           }
 
     -- the erase or the page that was due comes to line m' with outcome o
-    module _ (some : r .cursor .step ≡ 0 → ⊥) (m' : Line) (o : Outcome) (q : ComesTo s (performed s (r .cursor) (r .state .invalid) bytes) m m' o)
-        (order : isPassed o ≡ true → getD (m' .chip .history) (r .cursor .block) 0 ≤ pageAfter (r .cursor)) where
+    module _ (some : r .cursor .step ≡ 0 → ⊥) (m' : Line) (o : Outcome) (q : ComesTo s (performed s (r .cursor) (r .state .invalid) bytes) m m' o) where
       pub perform-less : actionsMost (left - programs (r .cursor)) (afterDue (s .geometry .pages) r o) < actionsMost left r
       perform-less =
-          after-less left (r .cursor) (r .state) (open-phase (r .cursor) left t) (s .geometry .pages) (open-left (r .cursor) left t) o (omega (arith, some)) (is-open .due .fits .step-most)
+          after-less left (r .cursor) (r .state) (open-phase (r .cursor) left t) (s .geometry .pages) (open-left (r .cursor) left t) o (omega (arith, some)) (is-open .fits .step-most)
 
       pub run-performed : Going s bytes most start l (left - programs (r .cursor)) (afterDue (s .geometry .pages) r o) m'
       run-performed =
@@ -217,22 +213,16 @@ module _ (s : Setting) (bytes : List ℕ) (most : ℕ) (start : Running) (l : Li
                 ∙ sym (acted-performed s bytes r (from cs os) some)
                 ∙ ap (acted s bytes r) (same cs os));
             opened = λ h.
-                let x = after-goes g (length bytes) (r .cursor) (r .state) (omega (arith, a .lent .is-valid .pages-least)) (a .due .fits) (a .last-below) (omega (arith, some)) o h in
+                let x = after-goes g (length bytes) (r .cursor) (r .state) (omega (arith, a .lent .is-valid .pages-least)) (a .fits) (a .last-below) (omega (arith, some)) o h in
                 let called = q .next-called (x .1) in
                 record {
                   lent = called-lent called;
                   passed = gone-on o (x .1) (x .3);
-                  due = record {
-                    fits = x .0 .fits;
-                    ready = λ e. called .ready;
-                    in-order = λ e.
-                        let y = x .2 e in
-                        omega (arith, ap (λ (b : ℕ). getD (m' .chip .history) b 0) (y .1), y .2, order (y .0));
-                  };
+                  fits = x .0 .fits;
                   last-below = x .0 .last-below;
                 };
             next-called = λ h n z.
-                let x = after-finished (g .pages) (g .blocks) (r .cursor) (r .state) (open-phase (r .cursor) left t) (a .due .fits .block-below (omega (arith, some))) o n z in
+                let x = after-finished (g .pages) (g .blocks) (r .cursor) (r .state) (open-phase (r .cursor) left t) (a .fits .block-below (omega (arith, some))) o n z in
                 (q .next-called (x .0), x .1);
           }
 

@@ -1,12 +1,10 @@
 -- A write or erase run on the chip: what is due is performed, one action after the other.
-use Prim.Native.Nat.{ℕ, zero, suc, _-_, _≤_, _<_}
+use Prim.Native.Nat.{ℕ, zero, suc, _-_, _<_}
 use mathlib.Core.Bool.{cond}
 use mathlib.Core.List.{List}
 use mathlib.Core.Path.{_≡_}
 use lib.Dec.{eqb}
-use lib.ListN.{getD}
 use Rattle.geometry.specs.declared.Geometry.{Geometry}
-use Rattle.chip_interface.specs.Interface.{outputPhase}
 use Rattle.chip_array.specs.Device.{Setting}
 use Rattle.chip.specs.Chip.{Cycle}
 use Rattle.bus.specs.Line.{Line}
@@ -20,7 +18,7 @@ use Rattle.progress.specs.Steps.{eraseOn}
 use Rattle.pages.specs.Layout.{dataKind}
 use Rattle.fill.specs.Fill.{Copy, copy, Source, dataSource, tableCopy, tableSource, pageFilled}
 use Rattle.fill.specs.declared.Content.{Content}
-use Rattle.fill_cursor.specs.Cursor.{Fits, prepared, afterDue, programs, isOpen, actionsMost}
+use Rattle.fill_cursor.specs.Cursor.{prepared, afterDue, programs, isOpen, actionsMost}
 use Rattle.fill_cursor.specs.declared.Cursor.{Cursor}
 use Rattle.fill_cursor.specs.declared.Running.{Running}
 
@@ -42,12 +40,6 @@ unfoldable pub performed : Setting → Cursor → List ℕ → List ℕ → Prog
 performed s c invalid bytes p =
     cond (eqb (c .step) 1) (eraseOn s (c .block) p)
     (pageFilled s (c .block) (copyOf c) (c .page) (sourceOf (s .geometry) c invalid bytes (c .page)) p)
-
--- what is due can be performed: the chip need be ready for a page only
-pub record Due (s : Setting) (long : ℕ) (c : Cursor) (l : Line) : Type 0 where
-  pub fits : Fits (s .geometry) long c
-  pub ready : c .step ≡ 2 → l .chip .interface .phase ≤ outputPhase
-  pub in-order : c .step ≡ 2 → getD (l .chip .history) (c .block) 0 ≤ c .page
 
 -- where a request has come to
 pub record Ran : Type 0 where

@@ -7,19 +7,17 @@ use fill_cursor::Cursor;
 use fill_cursor::Running;
 use geometry::Geometry;
 use state::State;
-ghost use mathlib.Core.Bool.{true};
 ghost use mathlib.Core.Path.{_≡_};
-ghost use Prim.Native.Nat.{_+_, _*_, _≤_, _<_};
-ghost use lib.ListN.{length, getD};
+ghost use Prim.Native.Nat.{_*_, _<_};
+ghost use lib.ListN.{length};
 ghost use Rattle.geometry.specs.Sizes.{pageSize};
 ghost use Rattle.chip_array.specs.Device.{setting};
 ghost use Rattle.bus.specs.Line.{line};
-ghost use Rattle.bus_polling.specs.Outcomes.{isPassed};
-ghost use Rattle.operations.specs.Ends.{Called, Lent};
+ghost use Rattle.operations.specs.Ends.{Lent};
 ghost use Rattle.progress.specs.Steps.{ComesTo};
 ghost use Rattle.fill.specs.Fill.{copy, Fillable, pageFilled, dataSource, tableCopy, tableSource};
-ghost use Rattle.fill_cursor.specs.Cursor.{pageAfter, running};
-ghost use Rattle.fill_driver.specs.Driver.{contentOf, performed, Due, RanAs};
+ghost use Rattle.fill_cursor.specs.Cursor.{Fits, running};
+ghost use Rattle.fill_driver.specs.Driver.{contentOf, performed, RanAs};
 
 // More page programs than a request can send: 64 for each block, of data fills and of table fills.
 pub const PROGRAMS: u64 = 524289;
@@ -39,12 +37,10 @@ fn fill_page(
     bytes: &[u8],
     page: &mut [u8],
 ) -> Done
-    requires { ⌜ Called (setting g (now mask) (now fates)) (line from (now array) (now register) (now history)) ⌝ }
+    requires { ⌜ Lent (setting g (now mask) (now fates)) (line from (now array) (now register) (now history)) ⌝ }
     requires { ⌜ Fillable g block place (content .kind) (content .logical) (length (now page)) ⌝ }
-    requires { ⌜ getD (now history) block 0 ≤ place ⌝ }
     requires { ⌜ length (now bytes) ≡ content .count * g .main ⌝ }
     ensures { λ r. ⌜ ComesTo (setting g (now (mask .entry)) (now (fates .entry))) (pageFilled (setting g (now (mask .entry)) (now (fates .entry))) block (copy (content .kind) (content .logical) (content .number)) place (dataSource g (content .old) (content .first) (content .count) (now (bytes .entry)) place)) (line from (now (array .entry)) (now (register .entry)) (now (history .entry))) (line (r .bus) (now (array .exit)) (now (register .exit)) (now (history .exit))) (r .outcome) ⌝ }
-    ensures { λ r. ⌜ (isPassed (r .outcome) ≡ true → getD (now (history .exit)) block 0 ≤ place + 1) ⌝ }
 {
     let put = fill::put_main(
         from,
@@ -93,13 +89,11 @@ fn fill_table_page(
     invalid: &[u8; 512],
     page: &mut [u8],
 ) -> Done
-    requires { ⌜ Called (setting g (now mask) (now fates)) (line from (now array) (now register) (now history)) ⌝ }
+    requires { ⌜ Lent (setting g (now mask) (now fates)) (line from (now array) (now register) (now history)) ⌝ }
     requires { ⌜ block < g .blocks ⌝ }
     requires { ⌜ place < g .pages ⌝ }
-    requires { ⌜ getD (now history) block 0 ≤ place ⌝ }
     requires { ⌜ length (now page) ≡ pageSize g ⌝ }
     ensures { λ r. ⌜ ComesTo (setting g (now (mask .entry)) (now (fates .entry))) (pageFilled (setting g (now (mask .entry)) (now (fates .entry))) block (tableCopy number) place (tableSource g (now (invalid .entry)) place)) (line from (now (array .entry)) (now (register .entry)) (now (history .entry))) (line (r .bus) (now (array .exit)) (now (register .exit)) (now (history .exit))) (r .outcome) ⌝ }
-    ensures { λ r. ⌜ (isPassed (r .outcome) ≡ true → getD (now (history .exit)) block 0 ≤ place + 1) ⌝ }
 {
     let mut first = [0u8; 4096];
     let main = g.main;
@@ -157,11 +151,10 @@ fn perform(
     page: &mut [u8],
 ) -> Done
     requires { ⌜ Lent (setting g (now mask) (now fates)) (line from (now array) (now register) (now history)) ⌝ }
-    requires { ⌜ Due (setting g (now mask) (now fates)) (length (now bytes)) c (line from (now array) (now register) (now history)) ⌝ }
+    requires { ⌜ Fits g (length (now bytes)) c ⌝ }
     requires { ⌜ 0 < c .step ⌝ }
     requires { ⌜ length (now page) ≡ pageSize g ⌝ }
     ensures { λ r. ⌜ ComesTo (setting g (now (mask .entry)) (now (fates .entry))) (performed (setting g (now (mask .entry)) (now (fates .entry))) c (now (invalid .entry)) (now (bytes .entry))) (line from (now (array .entry)) (now (register .entry)) (now (history .entry))) (line (r .bus) (now (array .exit)) (now (register .exit)) (now (history .exit))) (r .outcome) ⌝ }
-    ensures { λ r. ⌜ (isPassed (r .outcome) ≡ true → getD (now (history .exit)) (c .block) 0 ≤ pageAfter c) ⌝ }
 {
     let step = c.step;
     if step == 1 {
@@ -224,7 +217,7 @@ pub fn run(
     most: u64,
 ) -> Ran
     requires { ⌜ Lent (setting g (now mask) (now fates)) (line from (now array) (now register) (now history)) ⌝ }
-    requires { ⌜ (start .cursor .phase < 2 → Due (setting g (now mask) (now fates)) (length (now bytes)) (start .cursor) (line from (now array) (now register) (now history))) ⌝ }
+    requires { ⌜ (start .cursor .phase < 2 → Fits g (length (now bytes)) (start .cursor)) ⌝ }
     requires { ⌜ (start .cursor .phase < 2 → start .state .last < g .blocks) ⌝ }
     requires { ⌜ length (now page) ≡ pageSize g ⌝ }
     ensures { λ r. ⌜ RanAs (setting g (now (mask .entry)) (now (fates .entry))) (now (bytes .entry)) most start (line from (now (array .entry)) (now (register .entry)) (now (history .entry))) (line (r .bus) (now (array .exit)) (now (register .exit)) (now (history .exit))) (running (r .cursor) (r .state)) ⌝ }

@@ -22,11 +22,11 @@ open-more c a b t =
     let some = open-left c a t in
     rw (ne-eqb (a + b) 0 (λ z. some (omega (arith, z))), lt-ltb (c .phase) 2 (open-phase c a t))
 
-over-ended : (c : Cursor) (a : ℕ) → 2 ≤ c .phase → isOpen c a ≡ false
+pub over-ended : (c : Cursor) (a : ℕ) → 2 ≤ c .phase → isOpen c a ≡ false
 unfolding isOpen
 over-ended c a h = cases (eqb a 0) (λ t. rw t) (λ t. rw (t, le-ltb (c .phase) 2 h))
 
-over-so : (c : Cursor) (a : ℕ) → (a ≡ 0 → ⊥) → isOpen c a ≡ false → 2 ≤ c .phase
+pub over-so : (c : Cursor) (a : ℕ) → (a ≡ 0 → ⊥) → isOpen c a ≡ false → 2 ≤ c .phase
 unfolding isOpen
 over-so c a n f =
     let e : ltb (c .phase) 2 ≡ false = sym (rw (ne-eqb a 0 n)) ∙ f in
@@ -35,7 +35,7 @@ over-so c a n f =
 module _ (s : Setting) (bytes : List ℕ) where
   -- one action keeps the step in range and leaves fewer actions
   module _ (left : ℕ) (r : Running) (p : Progress) (most : r .cursor .step ≤ 2) where
-    next-step : acted s bytes r p .running .cursor .step ≤ 2
+    pub next-step : acted s bytes r p .running .cursor .step ≤ 2
     next-step =
         cases (eqb (r .cursor .step) 0)
         (λ t.
@@ -47,7 +47,7 @@ module _ (s : Setting) (bytes : List ℕ) where
         subst (λ (x : Ran). x .running .cursor .step ≤ 2) (sym e)
         (by-after (s .geometry .pages) (r .cursor) (r .state) (λ x. x .cursor .step ≤ 2) (λ a x. omega arith) _ (λ h k. omega arith) (λ h k. omega arith) (λ h. omega arith)))
 
-    next-less : isOpen (r .cursor) left ≡ true → actionsMost (left - programs (r .cursor)) (acted s bytes r p .running) < actionsMost left r
+    pub next-less : isOpen (r .cursor) left ≡ true → actionsMost (left - programs (r .cursor)) (acted s bytes r p .running) < actionsMost left r
     next-less o =
         let phase = open-phase (r .cursor) left o in
         cases (eqb (r .cursor .step) 0)

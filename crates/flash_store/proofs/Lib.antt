@@ -1,4 +1,5 @@
 pub mod DearestLaws
 pub mod KeptLaws
 pub mod LibraryLaws
+pub mod OpenedLaws
 pub mod SizeLaws

@@ -1,16 +1,20 @@
 -- Laws of what the call that lets the chip tell its size hands back. Assumes nothing.
 use Prim.Native.Nat.{ℕ}
-use mathlib.Core.Bool.{true, false, false≢true}
+use mathlib.Core.Bool.{Bool, true, false, false≢true}
 use mathlib.Core.List.{List}
 use mathlib.Core.Path.{_≡_, sym, ap, ap₂, _∙_}
 use borrow.Author.Tests.{eq-eqb, ne-eqb}
-use lib.ListN.{length}
+use lib.ListN.{length, take}
 use Rattle.chip_interface.specs.declared.Interface.{Interface}
 use Rattle.chip_array.specs.Device.{device}
 use Rattle.parameters.specs.declared.Sizes.{Sizes}
 use Rattle.state.specs.declared.State.{State}
-use Rattle.c_state.specs.StateBytes.{bytesState}
-use Rattle.request.specs.Call.{Result}
+use Rattle.c_state.specs.StateBytes.{stateLength, bytesState}
+use Rattle.c_open.specs.OpenBytes.{bytesWrite, bytesPage, bytesOpen}
+use Rattle.open_write.specs.declared.OpenWrite.{OpenWrite}
+use Rattle.open_write.specs.Open.{OpenState, openState}
+use Rattle.open_write.specs.Requests.{leaving, stops, beside, OpenIdentified, openIdentified, openIdentifyRequest, identifyingOpen}
+use Rattle.request.specs.Call.{Result, resultOf}
 use Rattle.identify.specs.Identify.{Identified, identified, identifying}
 use Rattle.c_buffers.specs.Buffers.{interfaceOf, sizeWords, Lent, rightly, Handed, handed, putBack, PassedOn}
 use Rattle.flash_store.specs.Identify.{identifyResult, identifyHanded, identifyingLent}
@@ -28,13 +32,17 @@ module _ (mask fates : List ℕ) (l : Lent) (n : ℕ) (page : List ℕ) (logical
   sizes-wrongly t x = (rw (t, ne-eqb (length sizes) 4 x), λ e. absurd (x e))
 
   -- the call on the state and the interface in the buffers
-  pub identify-handed : (after : List ℕ) (x : Handed) (q : Result) (z : Sizes) (bytes : List ℕ) (state : State) (i : Interface) → rightly l ≡ true → length sizes ≡ 4
-      → state ≡ bytesState (l .state) → i ≡ interfaceOf (l .interface)
-      → identified q z ≡ identifying mask fates (device i (l .array) (l .register) (l .history)) n state page logical
-      → x ≡ putBack q → bytesState bytes ≡ q .state → after ≡ sizeWords z
-      → (identifyHanded x after ≡ identifyingLent mask fates l n page logical sizes) × (length sizes ≡ 4 → PassedOn l (identifyResult mask fates l n page logical .returned) bytes)
-  unfolding identifyingLent
-  identify-handed after x q z bytes state i t h e f r p b w =
-      let all : identified q z ≡ identifyResult mask fates l n page logical =
-      r ∙ ap₂ (λ (j : Interface) (y : State). identifying mask fates (device j (l .array) (l .register) (l .history)) n y page logical) f e in
-      (rw (t, eq-eqb (length sizes) 4 h) (ap₂ identifyHanded (p ∙ ap (λ (y : Identified). putBack (y .returned)) all) (w ∙ ap (λ (y : Identified). sizeWords (y .sizes)) all)), λ _ _. b ∙ ap (λ (y : Identified). y .returned .state) all)
+  module _ (t : rightly l ≡ true) (four : length sizes ≡ 4) (st : State) (w : OpenWrite) (i : Interface) (e : st ≡ bytesState (take stateLength (l .state))) (f : w ≡ bytesWrite (l .state)) (g : i ≡ interfaceOf (l .interface)) where
+    abbrev x : OpenState
+    x = openState st w (bytesPage (l .state))
+
+    pub identify-handed : (after : List ℕ) (h : Handed) (q : Result) (z : Sizes) (gone : Bool) (bytes : List ℕ) → identified q z ≡ identifying mask fates (device i (l .array) (l .register) (l .history)) n st page logical → gone ≡ stops (q .answer)
+        → h ≡ putBack (leaving gone x q) → bytesOpen bytes ≡ leaving gone x q .state → after ≡ sizeWords z
+        → (identifyHanded h after ≡ identifyingLent mask fates l n page logical sizes) × (length sizes ≡ 4 → PassedOn l (identifyResult mask fates l n page logical .returned) bytes)
+    unfolding identifyingLent openIdentifyRequest resultOf
+    identify-handed after h q z gone bytes r k p b words =
+        let made : openIdentified (leaving gone x q) z ≡ identifyingOpen mask fates (device i (l .array) (l .register) (l .history)) n x page logical =
+        ap (λ (y : Bool). openIdentified (leaving y x q) z) k ∙ ap (λ (y : Identified). openIdentified (beside x (y .returned)) (y .sizes)) r in
+        let all : openIdentified (leaving gone x q) z ≡ identifyResult mask fates l n page logical =
+        made ∙ (λ j. identifyingOpen mask fates (device (g j) (l .array) (l .register) (l .history)) n (openState (e j) (f j) (bytesPage (l .state))) page logical) in
+        (rw (t, eq-eqb (length sizes) 4 four) (ap₂ identifyHanded (p ∙ ap (λ (y : OpenIdentified). putBack (y .returned)) all) (words ∙ ap (λ (y : OpenIdentified). sizeWords (y .sizes)) all)), λ _ _. b ∙ ap (λ (y : OpenIdentified). y .returned .state) all)

@@ -4,13 +4,12 @@ use mathlib.Core.Bool.{false, cond}
 use mathlib.Core.List.{List}
 use lib.Dec.{eqb}
 use lib.ListN.{length}
-use Rattle.identify.specs.Identify.{Identified, identifying}
-use Rattle.c_state.specs.StateBytes.{bytesState}
-use Rattle.c_buffers.specs.Buffers.{sizeWords, Lent, chipOf, rightly, Handed, handed, putBack}
+use Rattle.open_write.specs.Requests.{OpenIdentified, identifyingOpen}
+use Rattle.c_buffers.specs.Buffers.{sizeWords, Lent, stateOf, chipOf, rightly, Handed, handed, putBack}
 
 -- the call on the state and the chip that are lent; n: the cycles allowed
-abbrev pub identifyResult : List ℕ → List ℕ → Lent → ℕ → List ℕ → ℕ → Identified
-identifyResult mask fates l n page logical = identifying mask fates (chipOf l) n (bytesState (l .state)) page logical
+abbrev pub identifyResult : List ℕ → List ℕ → Lent → ℕ → List ℕ → ℕ → OpenIdentified
+identifyResult mask fates l n page logical = identifyingOpen mask fates (chipOf l) n (stateOf l) page logical
 
 -- the four words of the sizes too
 pub record IdentifyHanded : Type 0 where

@@ -1,3 +1,4 @@
 pub mod Dearest
 pub mod Identify
 pub mod Library
+pub mod Opened

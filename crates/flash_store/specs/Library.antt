@@ -3,31 +3,25 @@ use Prim.Native.Nat.{ℕ}
 use mathlib.Core.Bool.{cond}
 use mathlib.Core.List.{List}
 use Rattle.chip_array.specs.Device.{Setting}
-use Rattle.c_state.specs.StateBytes.{bytesState}
-use Rattle.request.specs.Call.{Result}
-use Rattle.format.specs.Format.{formatting}
 use Rattle.scan_summary.specs.declared.Depth.{Depth}
-use Rattle.mount.specs.Mount.{mounting}
-use Rattle.read_page.specs.Fetching.{ReadResult}
-use Rattle.read.specs.Reading.{readingPage}
-use Rattle.write_changes.specs.Changes.{writing, erasingLogical}
-use Rattle.c_buffers.specs.Buffers.{Lent, chipOf, rightly, Handed, answered}
+use Rattle.open_write.specs.Requests.{OpenResult, OpenRead, readingOpen, writingOpen, erasingOpen, formattingOpen, mountingOpen}
+use Rattle.c_buffers.specs.Buffers.{Lent, stateOf, chipOf, rightly, Handed, answered}
 
 -- the requests on the state and the chip that are lent; n: the cycles allowed
-abbrev pub formatResult : Setting → Lent → ℕ → Result
-formatResult s l n = formatting s (chipOf l) n (bytesState (l .state))
+abbrev pub formatResult : Setting → Lent → ℕ → OpenResult
+formatResult s l n = formattingOpen s (chipOf l) n (stateOf l)
 
-abbrev pub mountResult : Depth → Setting → Lent → ℕ → Result
-mountResult depth s l n = mounting depth s (chipOf l) n (bytesState (l .state))
+abbrev pub mountResult : Depth → Setting → Lent → ℕ → OpenResult
+mountResult depth s l n = mountingOpen depth s (chipOf l) n (stateOf l)
 
-abbrev pub readPage : Setting → Lent → ℕ → ℕ → ℕ → List ℕ → ReadResult
-readPage s l n logical page buffer = readingPage s (chipOf l) n (bytesState (l .state)) logical page buffer
+abbrev pub readPage : Setting → Lent → ℕ → ℕ → ℕ → List ℕ → OpenRead
+readPage s l n logical page buffer = readingOpen s (chipOf l) n (stateOf l) logical page buffer
 
-abbrev pub writeResult : Setting → Lent → ℕ → ℕ → ℕ → List ℕ → Result
-writeResult s l n logical page bytes = writing s (chipOf l) n (bytesState (l .state)) logical page bytes
+abbrev pub writeResult : Setting → Lent → ℕ → ℕ → ℕ → List ℕ → OpenResult
+writeResult s l n logical page bytes = writingOpen s (chipOf l) n (stateOf l) logical page bytes
 
-abbrev pub eraseResult : Setting → Lent → ℕ → ℕ → Result
-eraseResult s l n logical = erasingLogical s (chipOf l) n (bytesState (l .state)) logical
+abbrev pub eraseResult : Setting → Lent → ℕ → ℕ → OpenResult
+eraseResult s l n logical = erasingOpen s (chipOf l) n (stateOf l) logical
 
 unfoldable pub formattingLent : Setting → Lent → ℕ → Handed
 formattingLent s l n = answered l (formatResult s l n)

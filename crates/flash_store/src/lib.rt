@@ -1,7 +1,8 @@
-// The library for programs in C: format, mount, quick mount, read, write and erase, on numbers and lent buffers; the sizes that the chip tells; the
+// The library for programs in C: format, mount, quick mount, read, write and erase, on numbers and lent buffers; a write that is opened and advanced; the sizes that the chip tells; the
 // dearest write; price rules; sales held against each other; the draws of the test load.
 mod costs;
 mod load;
+mod opened;
 mod prices;
 mod sales;
 mod sizes;
@@ -11,11 +12,29 @@ use scan_summary::Depth;
 ghost use mathlib.Core.Path.{_≡_};
 ghost use Rattle.chip_array.specs.Device.{setting};
 ghost use Rattle.scan_summary.specs.declared.Depth.the-variants.{Full, Quick};
+ghost use Rattle.open_write.specs.Requests.{formatGives};
 ghost use Rattle.c_buffers.specs.Buffers.{geometryOf, lent, handed, PassedOn};
 ghost use Rattle.flash_store.specs.Library.{formatResult, mountResult, readPage, writeResult, eraseResult, formattingLent, mountingLent, readHanded, readingLent, writingLent, erasingLent};
 
 // A lent buffer has a length that the call cannot use.
 pub(crate) const BAD_BUFFER: usize = 100;
+
+// Sizes that do not go together, a write that is open, and a protected chip.
+const REFUSED_SIZES: usize = 1;
+
+const BARRED: usize = 15;
+
+const PROTECTED: usize = 13;
+
+// Whether a formatting with this answer gives up what is open.
+fn gives_up(answer: usize) -> bool
+    ensures { λ r. ⌜ r ≡ formatGives answer ⌝ }
+{
+    if answer == REFUSED_SIZES {
+        return false;
+    }
+    answer != PROTECTED
+}
 
 // Formats the chip. c/flash_store.h says what is lent.
 #[no_mangle]
@@ -48,8 +67,24 @@ pub extern "C" fn flash_store_format(
         blocks,
         logical,
     };
-    let before = c_state::load(state);
+    let before = c_open::state_of(state);
+    let write = c_open::write_of(state);
     let start = c_buffers::interface_of(interface);
+    let barred = write.opened != 0;
+    let held = c_buffers::held(
+        before,
+        write,
+        state,
+        g,
+        array.len(),
+        register.len(),
+        history.len(),
+        mask.len(),
+        barred,
+    );
+    if held == BARRED {
+        return c_buffers::refuse(held, before, write, start, state, interface, sent);
+    }
     let returned = format::format(
         before,
         g,
@@ -61,7 +96,8 @@ pub extern "C" fn flash_store_format(
         fates,
         allowed,
     );
-    c_buffers::hand_back(returned, state, interface, sent)
+    let gone = gives_up(returned.answer);
+    c_buffers::hand_back(returned, write, gone, state, interface, sent)
 }
 
 // Mounts at the depth given.
@@ -95,7 +131,8 @@ fn mount_at(
         blocks,
         logical,
     };
-    let before = c_state::load(state);
+    let before = c_open::state_of(state);
+    let write = c_open::write_of(state);
     let start = c_buffers::interface_of(interface);
     let returned = mount::mount(
         depth,
@@ -109,7 +146,8 @@ fn mount_at(
         fates,
         allowed,
     );
-    c_buffers::hand_back(returned, state, interface, sent)
+    let gone = returned.answer != REFUSED_SIZES;
+    c_buffers::hand_back(returned, write, gone, state, interface, sent)
 }
 
 // Mounts.
@@ -226,8 +264,23 @@ pub extern "C" fn flash_store_read(
         blocks,
         logical,
     };
-    let before = c_state::load(state);
+    let before = c_open::state_of(state);
+    let write = c_open::write_of(state);
     let start = c_buffers::interface_of(interface);
+    if !c_open::is_inside(write, state, g) {
+        let held = c_buffers::held(
+            before,
+            write,
+            state,
+            g,
+            array.len(),
+            register.len(),
+            history.len(),
+            mask.len(),
+            false,
+        );
+        return c_buffers::refuse(held, before, write, start, state, interface, sent);
+    }
     let returned = read::read(
         before,
         g,
@@ -242,7 +295,8 @@ pub extern "C" fn flash_store_read(
         page,
         buffer,
     );
-    c_buffers::hand_back(returned, state, interface, sent)
+    let gone = open_write::is_stopping(returned.answer);
+    c_buffers::hand_back(returned, write, gone, state, interface, sent)
 }
 
 // Writes one logical page.
@@ -279,8 +333,24 @@ pub extern "C" fn flash_store_write(
         blocks,
         logical,
     };
-    let before = c_state::load(state);
+    let before = c_open::state_of(state);
+    let write = c_open::write_of(state);
     let start = c_buffers::interface_of(interface);
+    let opened = write.opened;
+    if opened != 0 {
+        let held = c_buffers::held(
+            before,
+            write,
+            state,
+            g,
+            array.len(),
+            register.len(),
+            history.len(),
+            mask.len(),
+            true,
+        );
+        return c_buffers::refuse(held, before, write, start, state, interface, sent);
+    }
     let returned = write::write(
         before,
         g,
@@ -295,7 +365,8 @@ pub extern "C" fn flash_store_write(
         page,
         bytes,
     );
-    c_buffers::hand_back(returned, state, interface, sent)
+    let gone = open_write::is_stopping(returned.answer);
+    c_buffers::hand_back(returned, write, gone, state, interface, sent)
 }
 
 // Erases a logical block.
@@ -330,8 +401,24 @@ pub extern "C" fn flash_store_erase(
         blocks,
         logical,
     };
-    let before = c_state::load(state);
+    let before = c_open::state_of(state);
+    let write = c_open::write_of(state);
     let start = c_buffers::interface_of(interface);
+    let opened = write.opened;
+    if opened != 0 {
+        let held = c_buffers::held(
+            before,
+            write,
+            state,
+            g,
+            array.len(),
+            register.len(),
+            history.len(),
+            mask.len(),
+            true,
+        );
+        return c_buffers::refuse(held, before, write, start, state, interface, sent);
+    }
     let returned = write::erase(
         before,
         g,
@@ -344,5 +431,6 @@ pub extern "C" fn flash_store_erase(
         allowed,
         block,
     );
-    c_buffers::hand_back(returned, state, interface, sent)
+    let gone = open_write::is_stopping(returned.answer);
+    c_buffers::hand_back(returned, write, gone, state, interface, sent)
 }

@@ -30,7 +30,8 @@ pub extern "C" fn flash_store_identify(
     if sizes.len() != 4 {
         return BAD_BUFFER;
     }
-    let before = c_state::load(state);
+    let before = c_open::state_of(state);
+    let write = c_open::write_of(state);
     let start = c_buffers::interface_of(interface);
     let identified = identify::identify(
         before,
@@ -47,5 +48,6 @@ pub extern "C" fn flash_store_identify(
     let told = identified.sizes;
     c_buffers::write_sizes(told, sizes);
     let returned = identified.returned;
-    c_buffers::hand_back(returned, state, interface, sent)
+    let gone = open_write::is_stopping(returned.answer);
+    c_buffers::hand_back(returned, write, gone, state, interface, sent)
 }

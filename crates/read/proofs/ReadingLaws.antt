@@ -174,7 +174,7 @@ module _ (s : Setting) (d : Device) (n : ℕ) (state : State) (logical page : �
         passed-so : isPassed (readOutcome s start (row b) 0 (s .geometry .main)) ≡ true
         passed-so = ap isPassed (sym (page-outcome s d n b page) ∙ outcome-is) ∙ p
 
-        block-gives : Gives s d state (mainIn (s .geometry) (blockIn (s .geometry) (d .array) b) page) (readingBlock s d n state b page buffer)
+        pub block-gives : Gives s d state (mainIn (s .geometry) (blockIn (s .geometry) (d .array) b) page) (readingBlock s d n state b page buffer)
         unfolding readingBlock fetched
         block-gives =
             record {

@@ -39,10 +39,12 @@ use Rattle.fill_tables.specs.Tables.{Tabled, afterStatus, afterFill, tryBlock, 
 use Rattle.write_changes.specs.Changes.{writeUpdate, afterTry, copyTried, copiesFilled, thenTable, changeCall}
 use Rattle.identify.proofs.SentLaws.{identify-starts}
 use Rattle.damage.specs.Run.{failedIn}
-use Rattle.recovery.specs.Book.{Change, write, entered, Account, blankAccount, changed, mounted, settled, fed}
+use Rattle.open_write.specs.Open.{OpenState}
+use Rattle.open_write.specs.Requests.{openIdentifyRequest}
+use Rattle.recovery.specs.Book.{Change, write, entered, Account, blankAccount, changed, mounted, opened, settled, goneOn, fed}
 use Rattle.recovery.specs.Copy.{isDataProgram, sentPage, sentPages, hasCopy}
 use Rattle.scan_summary.specs.declared.Depth.{Depth}
-use Rattle.recovery.specs.Calls.{Lent, toMount, toRead, toIdentify, Store, mountOn, chipOf, traceOf, failedAfter, failedNext, step, unpowered}
+use Rattle.recovery.specs.Calls.{Lent, toMount, toRead, toIdentify, toAdvance, Store, underWay, mountOn, advanceOn, chipOf, answerOf, traceOf, failedAfter, failedNext, step, unpowered}
 
 abbrev small : Geometry
 small = record { main = 32; spare = 16; pages = 4; blocks = 4; logical = 2 }
@@ -95,13 +97,23 @@ read-unbooked g a logical page buffer y = refl
 
 -- asking the chip for its size changes neither book nor note, nor what is known of marked and failed blocks
 identify-unbooked : (g : Geometry) (a : Lent) (parameters : List ℕ) (logical : ℕ) (y : Store) → let z = step g (toIdentify a parameters logical) y in (z .account ≡ y .account) × (z .marked ≡ y .marked) × ((b : ℕ) → z .failed b ≡ y .failed b)
-unfolding startedIn step fed failedNext failedIn
+unfolding startedIn step fed failedNext failedIn openIdentifyRequest
 identify-unbooked g a parameters logical y =
     (refl, refl, λ b. ap (λ (os : List ArrayOperation). failedAfter (y .failed) os b) (identify-starts (a .mask) (a .fates) (chipOf a (y .chip)) (a .allowed) (y .state) parameters logical) ∙ or-none (y .failed b))
 
 refused-unbooked : (g : Geometry) (c : Change) (y : Account) → (fed g (changed c 1 []) y ≡ y) × (fed g (changed c 7 []) y ≡ y) × (fed g (changed c 2 []) y ≡ y) × (fed g (changed c 3 []) y ≡ y) × (fed g (mounted 1 false) y ≡ y)
 unfolding fed
 refused-unbooked g c y = (refl, refl, refl, refl, refl)
+
+-- nor does what is refused because a write is open
+barred-unbooked : (g : Geometry) (c : Change) (y : Account) → (fed g (changed c 15 []) y ≡ y) × (fed g (opened c 15) y ≡ y)
+unfolding fed
+barred-unbooked g c y = (refl, refl)
+
+-- an advance goes on with the write that is noted, by its answer, whether it finished, and the operations that it started
+advance-booked : (g : Geometry) (a : Lent) (most : ℕ) (y : Store) → step g (toAdvance a most) y .account ≡ goneOn g (answerOf g (toAdvance a most) y) (advanceOn g a most y .finished) (traceOf g (toAdvance a most) y) (underWay y) (y .account)
+unfolding step fed
+advance-booked g a most y = refl
 
 -- nor does a write or an erase that a protected chip did not take
 protected-unbooked : (g : Geometry) (c : Change) (y : Account) → fed g (changed c 13 []) y ≡ y
@@ -118,6 +130,6 @@ unfolding step failedNext
 mount-keeps depth g a y b z = rw (ne-eqb (mountOn depth g a y .answer) 0 z)
 
 -- power lost keeps the book and its note, the array, what was programmed since the last erase, and what is known of marked and failed blocks
-unpowered-keeps : (st : State) (register : List ℕ) (y : Store) → let z = unpowered st register y in (z .account ≡ y .account) × (z .chip .array ≡ y .chip .array) × (z .chip .history ≡ y .chip .history) × (z .marked ≡ y .marked) × (z .failed ≡ y .failed)
+unpowered-keeps : (x : OpenState) (register : List ℕ) (y : Store) → let z = unpowered x register y in (z .account ≡ y .account) × (z .chip .array ≡ y .chip .array) × (z .chip .history ≡ y .chip .history) × (z .marked ≡ y .marked) × (z .failed ≡ y .failed)
 unfolding unpowered
-unpowered-keeps st register y = (refl, refl, refl, refl, refl)
+unpowered-keeps x register y = (refl, refl, refl, refl, refl)

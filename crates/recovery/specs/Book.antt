@@ -1,7 +1,7 @@
 -- The book of the writes and erases acknowledged so far ("the book" of the paper), and the request under way.
 use Prim.Native.Nat.{ℕ, _<_}
-use mathlib.Core.Bool.{Bool, false, cond}
-use mathlib.Core.List.{List}
+use mathlib.Core.Bool.{Bool, true, false, cond}
+use mathlib.Core.List.{List, [], _++_}
 use mathlib.Core.Option.{Option, none, some}
 use mathlib.Core.Path.{_≡_}
 use lib.Dec.{eqb, leb}
@@ -50,10 +50,13 @@ abbrev pub blankAccount : Geometry → Account
 blankAccount g = account (blankBook g) none
 
 -- what the book is fed: a write or an erase with its answer and the operations that it started; a mount with its answer
--- and whether the request noted has a complete copy; reads and other calls are no entries
+-- and whether the request noted has a complete copy; a write that is opened with its answer; an advance with its answer, whether it finished
+-- the open write, and the operations that it started; reads and other calls are no entries
 pub data Entry : Type 0 where
   changed : Change → ℕ → List ArrayOperation → Entry
   mounted : ℕ → Bool → Entry
+  opened : Change → ℕ → Entry
+  advanced : ℕ → ℕ → List ArrayOperation → Entry
   unentered : Entry
 
 -- answered 8 to 11
@@ -65,11 +68,24 @@ unfoldable pub settled : Geometry → Bool → Option Note → Book → Account
 settled g copy none book = account book none
 settled g copy (some t) book = account (cond copy (entered g (t .change) book) book) none
 
--- a write or an erase answered 0 is entered, one answered 8 to 11 is noted; a mount answered 0 settles the note; all else
--- changes nothing
+-- answered 0 or 8 to 11
+abbrev pub isBegun : ℕ → Bool
+isBegun answer = cond (eqb answer 0) true (isUnderWay answer)
+
+-- the open write that is noted goes on: finished it is entered, otherwise its note has the operations of all its calls
+unfoldable pub goneOn : Geometry → ℕ → ℕ → List ArrayOperation → Option Note → Account → Account
+goneOn g answer finished started none y = y
+goneOn g answer finished started (some t) y =
+    cond (eqb finished 1) (account (entered g (t .change) (y .book)) none)
+    (cond (isBegun answer) (account (y .book) (some (note (t .change) (t .started ++ started)))) y)
+
+-- a write or an erase answered 0 is entered, one answered 8 to 11 is noted; a mount answered 0 settles the note; an open write is
+-- noted from its opening on, since a mount would settle it, and entered when it is finished; all else changes nothing
 unfoldable pub fed : Geometry → Entry → Account → Account
 fed g (changed c answer started) y =
     cond (eqb answer 0) (account (entered g c (y .book)) (y .noted))
     (cond (isUnderWay answer) (account (y .book) (some (note c started))) y)
 fed g (mounted answer copy) y = cond (eqb answer 0) (settled g copy (y .noted) (y .book)) y
+fed g (opened c answer) y = cond (isBegun answer) (account (y .book) (some (note c []))) y
+fed g (advanced answer finished started) y = goneOn g answer finished started (y .noted) y
 fed g unentered y = y

@@ -16,18 +16,15 @@ use Rattle.chip_array.specs.Device.{Device, device, Setting, setting, withInter
 use Rattle.chip.specs.Chip.{Cycle}
 use Rattle.operations.specs.Trace.{ArrayOperation}
 use Rattle.copies.specs.Blocks.{blockIn, isMarked}
-use Rattle.state.specs.State as state
 use Rattle.state.specs.declared.State.{State}
-use Rattle.request.specs.Call.{Result, Performed, resultOf, sentIn, startedIn}
-use Rattle.read_page.specs.Fetching.{ReadResult}
-use Rattle.read.specs.Reading.{readRequest, readingPage}
+use Rattle.request.specs.Call.{Performed, resultOf, sentIn, startedIn}
 use Rattle.scan_summary.specs.declared.Depth.{Depth}
-use Rattle.mount.specs.Mount.{mountRequest, mounting}
-use Rattle.format.specs.Format.{formatRequest, formatting}
-use Rattle.identify.specs.Identify.{Identified, identifyRequest, identifying}
-use Rattle.write_changes.specs.Changes.{writeRequest, writing, eraseRequest, erasingLogical}
+use Rattle.open_write.specs.Open.{OpenState, openState, keptBytes, isOpened, mountedOpen}
+use Rattle.open_write.specs.declared.OpenWrite.{OpenWrite}
+use Rattle.open_write.specs.Requests.{OpenResult, OpenRead, OpenIdentified, Advanced, through, openReadRequest, openWriteRequest, openEraseRequest, openFormatRequest, openMountRequest, openIdentifyRequest, openRequest, advanceRequest}
 use Rattle.damage.specs.Run.{failedIn}
-use Rattle.recovery.specs.Book.{write, erase, Note, Account, blankAccount, Entry, changed, mounted, unentered, fed}
+use Rattle.recovery.specs.Book as book
+use Rattle.recovery.specs.Book.{erase, Note, Account, blankAccount, Entry, changed, mounted, opened, advanced, unentered, fed}
 use Rattle.recovery.specs.Copy.{hasCopy}
 
 -- what each call brings of its own beside its arguments: the mask, the fate words, the cycles allowed, and the write-protect line, low where
@@ -39,48 +36,49 @@ pub record Lent : Type 0 where
   pub protected : ℕ
 
 -- a mount, full or quick; a read of a logical page into a buffer; a write of a logical page; an erase of a logical block; the chip asked for its size,
--- with the parameter page and the number of logical blocks
+-- with the parameter page and the number of logical blocks; a write of a logical page opened; the open write advanced by so many page programs
 pub data Call : Type 0 where
   toMount : Depth → Lent → Call
   toRead : Lent → ℕ → ℕ → List ℕ → Call
   toWrite : Lent → ℕ → ℕ → List ℕ → Call
   toErase : Lent → ℕ → Call
   toIdentify : Lent → List ℕ → ℕ → Call
+  toOpen : Lent → ℕ → ℕ → List ℕ → Call
+  toAdvance : Lent → ℕ → Call
 
--- of a call nothing is assumed but that bytes are bytes
+-- bytes are bytes
 abbrev pub Typed : Call → Type 0
 Typed (toMount depth a) = Bytes (a .mask)
 Typed (toRead a logical page buffer) = Bytes (a .mask)
 Typed (toWrite a logical page bytes) = Bytes (a .mask) × Bytes bytes
 Typed (toErase a logical) = Bytes (a .mask)
 Typed (toIdentify a parameters logical) = Unit {0}
+Typed (toOpen a logical page bytes) = Bytes (a .mask) × Bytes bytes
+Typed (toAdvance a most) = Bytes (a .mask)
 
 -- what happens to a store: a call, or power is lost; then come the state that the next call gets and what the page register holds
 pub data Event : Type 0 where
   called : Call → Event
-  powerLost : State → List ℕ → Event
+  powerLost : OpenState → List ℕ → Event
 
--- the state is gone: whatever stands in its place does not count as mounted
-abbrev pub Possible : Geometry → Event → Type 0
-Possible g (called c) = Typed c
-Possible g (powerLost st register) = (state.mounted st (g .blocks) (g .logical) ≡ false) × (length register ≡ pageSize g)
-
-unfoldable pub AllPossible : Geometry → List Event → Type 0
-AllPossible g [] = Unit {0}
-AllPossible g (e ∷ es) = Possible g e × AllPossible g es
-
--- between two calls: the state and the chip that the last one left, the book with the request under way, the blocks that
--- bore a factory mark when the chip was formatted, and those for which E1h was read since the mount or formatting that gave
--- the mounted state
+-- between two calls: the state with its open write and the page kept of it, and the chip, as the last one left them, the book with the
+-- request under way, the blocks that bore a factory mark when the chip was formatted, and those for which E1h was read since the mount
+-- or formatting that gave the mounted state
 pub record Store : Type 0 where
   pub state : State
+  pub write : OpenWrite
+  pub page : List ℕ
   pub chip : Device
   pub account : Account
   pub marked : ℕ → Bool
   pub failed : ℕ → Bool
 
-abbrev pub store : State → Device → Account → (ℕ → Bool) → (ℕ → Bool) → Store
-store st d y m f = record { state = st; chip = d; account = y; marked = m; failed = f }
+abbrev pub store : OpenState → Device → Account → (ℕ → Bool) → (ℕ → Bool) → Store
+store x d y m f =
+    record { state = x .state; write = x .write; page = x .page; chip = d; account = y; marked = m; failed = f }
+
+abbrev pub stateOf : Store → OpenState
+stateOf y = openState (y .state) (y .write) (y .page)
 
 -- the request under way
 abbrev pub underWay : Store → Option Note
@@ -98,37 +96,33 @@ withLine k i =
 abbrev pub chipOf : Lent → Device → Device
 chipOf a d = withInterface (withLine (a .protected) (d .interface)) d
 
--- what each call gives on a store
-abbrev pub mountOn : Depth → Geometry → Lent → Store → Result
-mountOn depth g a y = mounting depth (settingOf g a) (chipOf a (y .chip)) (a .allowed) (y .state)
+-- what a mount, a read and an advance give on a store
+abbrev pub mountOn : Depth → Geometry → Lent → Store → OpenResult
+mountOn depth g a y =
+    resultOf (openMountRequest depth (settingOf g a) (chipOf a (y .chip)) (a .allowed) (stateOf y))
 
-abbrev pub readOf : Geometry → Lent → ℕ → ℕ → List ℕ → Store → ReadResult
-readOf g a logical page buffer y = readingPage (settingOf g a) (chipOf a (y .chip)) (a .allowed) (y .state) logical page buffer
+abbrev pub readOf : Geometry → Lent → ℕ → ℕ → List ℕ → Store → OpenRead
+readOf g a logical page buffer y =
+    resultOf (openReadRequest (settingOf g a) (chipOf a (y .chip)) (a .allowed) (stateOf y) logical page buffer)
 
-abbrev pub writeOn : Geometry → Lent → ℕ → ℕ → List ℕ → Store → Result
-writeOn g a logical page bytes y = writing (settingOf g a) (chipOf a (y .chip)) (a .allowed) (y .state) logical page bytes
-
-abbrev pub eraseOf : Geometry → Lent → ℕ → Store → Result
-eraseOf g a logical y = erasingLogical (settingOf g a) (chipOf a (y .chip)) (a .allowed) (y .state) logical
-
-abbrev pub identifyOf : Lent → List ℕ → ℕ → Store → Identified
-identifyOf a parameters logical y =
-    identifying (a .mask) (a .fates) (chipOf a (y .chip)) (a .allowed) (y .state) parameters logical
-
--- a call that hands back more than the result of every request
-abbrev pub returning : {A : Type 0} → (A → Result) → Performed A → Performed Result
-returning f r = record { gives = f (resultOf r); cycles = sentIn r; started = startedIn r }
+abbrev pub advanceOn : Geometry → Lent → ℕ → Store → Advanced
+advanceOn g a most y =
+    resultOf (advanceRequest (settingOf g a) (chipOf a (y .chip)) (a .allowed) (stateOf y) most)
 
 -- a call on a store, whole: its result, the cycles that it sends and the array operations that it starts
-abbrev pub runOf : Geometry → Call → Store → Performed Result
-runOf g (toMount depth a) y = mountRequest depth (settingOf g a) (chipOf a (y .chip)) (a .allowed) (y .state)
+abbrev pub runOf : Geometry → Call → Store → Performed OpenResult
+runOf g (toMount depth a) y = openMountRequest depth (settingOf g a) (chipOf a (y .chip)) (a .allowed) (stateOf y)
 runOf g (toRead a logical page buffer) y =
-    returning (λ r. r .returned) (readRequest (settingOf g a) (chipOf a (y .chip)) (a .allowed) (y .state) logical page buffer)
+    through (λ (r : OpenRead). r .returned) (openReadRequest (settingOf g a) (chipOf a (y .chip)) (a .allowed) (stateOf y) logical page buffer)
 runOf g (toWrite a logical page bytes) y =
-    writeRequest (settingOf g a) (chipOf a (y .chip)) (a .allowed) (y .state) logical page bytes
-runOf g (toErase a logical) y = eraseRequest (settingOf g a) (chipOf a (y .chip)) (a .allowed) (y .state) logical
+    openWriteRequest (settingOf g a) (chipOf a (y .chip)) (a .allowed) (stateOf y) logical page bytes
+runOf g (toErase a logical) y = openEraseRequest (settingOf g a) (chipOf a (y .chip)) (a .allowed) (stateOf y) logical
 runOf g (toIdentify a parameters logical) y =
-    returning (λ r. r .returned) (identifyRequest (a .mask) (a .fates) (chipOf a (y .chip)) (a .allowed) (y .state) parameters logical)
+    through (λ (r : OpenIdentified). r .returned) (openIdentifyRequest (a .mask) (a .fates) (chipOf a (y .chip)) (a .allowed) (stateOf y) parameters logical)
+runOf g (toOpen a logical page bytes) y =
+    openRequest (settingOf g a) (chipOf a (y .chip)) (a .allowed) (stateOf y) logical page bytes
+runOf g (toAdvance a most) y =
+    through (λ (r : Advanced). r .returned) (advanceRequest (settingOf g a) (chipOf a (y .chip)) (a .allowed) (stateOf y) most)
 
 abbrev pub answerOf : Geometry → Call → Store → ℕ
 answerOf g c y = resultOf (runOf g c y) .answer
@@ -138,6 +132,20 @@ cyclesOf g c y = sentIn (runOf g c y)
 
 abbrev pub traceOf : Geometry → Call → Store → List ArrayOperation
 traceOf g c y = startedIn (runOf g c y)
+
+-- the write-protect line does not change while a write is open: it was high at the opening
+abbrev pub LineKept : Call → Store → Type 0
+LineKept (toMount depth a) y = Unit {0}
+LineKept (toRead a logical page buffer) y = Unit {0}
+LineKept (toWrite a logical page bytes) y = Unit {0}
+LineKept (toErase a logical) y = Unit {0}
+LineKept (toIdentify a parameters logical) y = Unit {0}
+LineKept (toOpen a logical page bytes) y = Unit {0}
+LineKept (toAdvance a most) y = isOpened (stateOf y) ≡ true → a .protected ≡ 0
+
+-- nothing else is assumed of a call
+abbrev pub Callable : Call → Store → Type 0
+Callable c y = Typed c × LineKept c y
 
 -- the blocks that failed before, and those that fail in a trace
 abbrev pub failedAfter : (ℕ → Bool) → List ArrayOperation → ℕ → Bool
@@ -149,21 +157,27 @@ copyOfNote g array none = false
 copyOfNote g array (some t) = hasCopy g array (t .started)
 
 -- what the book is fed of a call
-abbrev pub mountEntry : Geometry → Store → Result → Entry
+abbrev pub mountEntry : Geometry → Store → OpenResult → Entry
 mountEntry g y r = mounted (r .answer) (copyOfNote g (r .chip .array) (underWay y))
 
 abbrev pub entryOf : Geometry → Call → Store → Entry
 entryOf g (toMount depth a) y = mountEntry g y (mountOn depth g a y)
 entryOf g (toRead a logical page buffer) y = unentered
 entryOf g (toWrite a logical page bytes) y =
-    changed (write logical page bytes) (answerOf g (toWrite a logical page bytes) y) (traceOf g (toWrite a logical page bytes) y)
+    changed (book.write logical page bytes) (answerOf g (toWrite a logical page bytes) y) (traceOf g (toWrite a logical page bytes) y)
 entryOf g (toErase a logical) y = changed (erase logical) (answerOf g (toErase a logical) y) (traceOf g (toErase a logical) y)
 entryOf g (toIdentify a parameters logical) y = unentered
+entryOf g (toOpen a logical page bytes) y =
+    opened (book.write logical page bytes) (answerOf g (toOpen a logical page bytes) y)
+entryOf g (toAdvance a most) y =
+    advanced (answerOf g (toAdvance a most) y) (advanceOn g a most y .finished) (traceOf g (toAdvance a most) y)
 
 -- a mount answered 0 starts the failed blocks anew
 unfoldable pub failedNext : Entry → (ℕ → Bool) → List ArrayOperation → ℕ → Bool
 failedNext (mounted answer copy) f os b = cond (eqb answer 0) false (failedAfter f os b)
 failedNext (changed c answer started) f os b = failedAfter f os b
+failedNext (opened c answer) f os b = failedAfter f os b
+failedNext (advanced answer finished started) f os b = failedAfter f os b
 failedNext unentered f os b = failedAfter f os b
 
 -- one call
@@ -173,13 +187,24 @@ step g c y =
     (failedNext (entryOf g c y) (y .failed) (traceOf g c y))
 
 -- power lost leaves array and history, the book with its note, and the blocks known to have failed; the interface is as after power on
-unfoldable pub unpowered : State → List ℕ → Store → Store
-unpowered st register y =
-    store st (device poweredOn (y .chip .array) register (y .chip .history)) (y .account) (y .marked) (y .failed)
+unfoldable pub unpowered : OpenState → List ℕ → Store → Store
+unpowered x register y =
+    store x (device poweredOn (y .chip .array) register (y .chip .history)) (y .account) (y .marked) (y .failed)
 
 abbrev pub happens : Geometry → Event → Store → Store
 happens g (called c) y = step g c y
-happens g (powerLost st register) y = unpowered st register y
+happens g (powerLost x register) y = unpowered x register y
+
+-- the state is gone: whatever stands in its place does not count as mounted
+abbrev pub Possible : Geometry → Event → Store → Type 0
+Possible g (called c) y = Callable c y
+Possible g (powerLost x register) y =
+    (mountedOpen g x ≡ false) × (length (x .page) ≡ keptBytes) × (length register ≡ pageSize g)
+
+-- each where it happens
+unfoldable pub AllPossible : Geometry → List Event → Store → Type 0
+AllPossible g [] y = Unit {0}
+AllPossible g (e ∷ es) y = Possible g e y × AllPossible g es (happens g e y)
 
 -- one event after the other
 unfoldable pub after : Geometry → List Event → Store → Store
@@ -187,10 +212,13 @@ after g [] y = y
 after g (e ∷ es) y = after g es (happens g e y)
 
 -- what a formatting leaves: an empty book, nothing under way, and the blocks that failed in it
-abbrev pub formatOn : Geometry → Lent → Device → State → Result
-formatOn g a d st = formatting (settingOf g a) (chipOf a d) (a .allowed) st
+abbrev pub formatCall : Geometry → Lent → Device → OpenState → Performed OpenResult
+formatCall g a d x = openFormatRequest (settingOf g a) (chipOf a d) (a .allowed) x
 
-unfoldable pub begun : Geometry → Lent → Device → State → Store
-begun g a d st =
-    let r = formatOn g a d st in
-    store (r .state) (r .chip) (blankAccount g) (λ b. isMarked g (blockIn g (d .array) b)) (λ b. failedIn b (startedIn (formatRequest (settingOf g a) (chipOf a d) (a .allowed) st)))
+abbrev pub formatOn : Geometry → Lent → Device → OpenState → OpenResult
+formatOn g a d x = resultOf (formatCall g a d x)
+
+unfoldable pub begun : Geometry → Lent → Device → OpenState → Store
+begun g a d x =
+    let r = formatOn g a d x in
+    store (r .state) (r .chip) (blankAccount g) (λ b. isMarked g (blockIn g (d .array) b)) (λ b. failedIn b (startedIn (formatCall g a d x)))

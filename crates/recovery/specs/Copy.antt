@@ -1,9 +1,10 @@
 -- Whether a request has a complete copy on the chip.
-use Prim.Native.Nat.{ℕ, zero, suc}
+use Prim.Native.Nat.{ℕ, zero, suc, _+_}
 use mathlib.Core.Bool.{Bool, true, false, cond}
 use mathlib.Core.List.{List, [], _∷_}
 use lib.Dec.{eqb}
 use Rattle.geometry.specs.declared.Geometry.{Geometry}
+use Rattle.bus_polling.specs.Outcomes.{isPassed}
 use Rattle.operations.specs.Trace.{ArrayOperation}
 use Rattle.pages.specs.Layout.{kindOf, isDataKind}
 use Rattle.copies.specs.Pick.{someBelow}
@@ -28,3 +29,13 @@ sentPages g b os (suc n) = let less = sentPages g b os n in cond (sentPage g b n
 unfoldable pub hasCopy : Geometry → List ℕ → List ArrayOperation → Bool
 hasCopy g array os =
     someBelow (λ b. cond (sentPages g b os (g .pages)) (isComplete g (blockIn g array b)) false) (g .blocks)
+
+-- a program of the last page of a block with a data page, answered passed
+unfoldable pub isLastPassed : Geometry → ArrayOperation → Bool
+isLastPassed g o =
+    cond (eqb (o .kind) 2) (cond (eqb (o .page + 1) (g .pages)) (cond (isDataKind (kindOf (g .main) (o .bytes))) (isPassed (o .answer)) false) false) false
+
+-- the new copy is filled: its last page passed
+unfoldable pub lastPassed : Geometry → List ArrayOperation → Bool
+lastPassed g [] = false
+lastPassed g (o ∷ os) = let more = lastPassed g os in cond (isLastPassed g o) true more

@@ -3,7 +3,7 @@ use Prim.Native.Nat.{ℕ, _<_}
 use mathlib.Core.Bool.{Bool, true, false, cond}
 use mathlib.Core.List.{List, [], _∷_}
 use mathlib.Core.Logic.{_⊎_, _↔_}
-use mathlib.Core.Option.{none, some}
+use mathlib.Core.Option.{Option, none, some}
 use mathlib.Core.Path.{_≡_}
 use lib.Dec.{eqb}
 use lib.ListN.{length, replicate}
@@ -18,21 +18,19 @@ use Rattle.copies.specs.Pick.{at}
 use Rattle.copies.specs.Table.{lists}
 use Rattle.copies.specs.Current.{currentTable}
 use Rattle.scan_summary.specs.declared.Depth.{Depth}
-use Rattle.state.specs.declared.State.{State}
-use Rattle.request.specs.Call.{Result}
-use Rattle.read_page.specs.Fetching.{ReadResult}
-use Rattle.read.specs.Reading.{readingPage}
+use Rattle.open_write.specs.Open.{OpenState, keptBytes}
+use Rattle.open_write.specs.Requests.{OpenResult, OpenRead, readingOpen}
 use Rattle.recovery.specs.Book.{Book, Same, Note, entered, fed}
-use Rattle.recovery.specs.Copy.{hasCopy}
-use Rattle.recovery.specs.Calls.{Lent, Call, Typed, Event, AllPossible, Store, underWay, settingOf, chipOf, mountOn, readOf, traceOf, mountEntry, after, formatOn, begun}
+use Rattle.recovery.specs.Copy.{hasCopy, lastPassed}
+use Rattle.recovery.specs.Calls.{Lent, Call, Callable, Event, AllPossible, Store, underWay, settingOf, chipOf, mountOn, readOf, traceOf, mountEntry, after, formatOn, begun}
 
 -- a read of a logical page from the state and the chip that a request left, uncut and not silent
-abbrev pub plainRead : Geometry → Result → ℕ → ℕ → ReadResult
+abbrev pub plainRead : Geometry → OpenResult → ℕ → ℕ → OpenRead
 plainRead g r logical page =
-    readingPage (setting g (replicate (blockSize g) 0) []) (r .chip) 4294967295 (r .state) logical page (replicate (g .main) 0)
+    readingOpen (setting g (replicate (blockSize g) 0) []) (r .chip) 4294967295 (r .state) logical page (replicate (g .main) 0)
 
 -- the reading that a mount makes: what such reads give, page by page
-abbrev pub readingBy : Geometry → Result → Book
+abbrev pub readingBy : Geometry → OpenResult → Book
 readingBy g r logical page = plainRead g r logical page .buffer
 
 -- no request is under way, or the one under way has no complete copy on the chip or would have changed no byte
@@ -44,22 +42,22 @@ pub data Unaffected (g : Geometry) (y : Store) : Type 0 where
 -- the mount r after a list that came to store y: it succeeds; its reading and the book just before it are equal exactly
 -- where the request under way does not show, and otherwise the reading is the book with that request as the last; either way it is
 -- the book that the mount leaves. Every other read from there that is neither silent nor cut gives the same
-pub record Recovered (g : Geometry) (y : Store) (r : Result) : Type 0 where
+pub record Recovered (g : Geometry) (y : Store) (r : OpenResult) : Type 0 where
   pub done : r .answer ≡ 0
   pub heard : (logical page : ℕ) → logical < g .logical → page < g .pages → plainRead g r logical page .returned .answer ≡ 0
   pub equal : Same g (readingBy g r) (y .account .book) ↔ Unaffected g y
   pub otherwise : (t : Note) → underWay y ≡ some t → (Unaffected g y → ⊥) → Same g (readingBy g r) (entered g (t .change) (y .account .book))
   pub leaves : Same g (readingBy g r) (fed g (mountEntry g y r) (y .account) .book)
   pub any-read : (a : Lent) (logical page : ℕ) (buffer : List ℕ) → logical < g .logical → page < g .pages → length (a .mask) ≡ blockSize g → length buffer ≡ g .main
-      → let q = readingPage (settingOf g a) (chipOf a (r .chip)) (a .allowed) (r .state) logical page buffer in
+      → let q = readingOpen (settingOf g a) (chipOf a (r .chip)) (a .allowed) (r .state) logical page buffer in
       (q .returned .answer ≡ 10 → ⊥) → (q .returned .answer ≡ 11 → ⊥) → (q .returned .answer ≡ 0) × (q .buffer ≡ readingBy g r logical page)
 
 -- what is said of a store that a list of calls, with power lost at any places between them, has come to, after every acknowledged
 -- formatting of any chip whose array is bytes
 abbrev pub Always : (Geometry → Store → Type 0) → Type 0
 Always P =
-    (g : Geometry) (a : Lent) (d : Device) (st : State) → Bytes (a .mask) → Bytes (d .array) → formatOn g a d st .answer ≡ 0
-    → (es : List Event) → AllPossible g es → P g (after g es (begun g a d st))
+    (g : Geometry) (a : Lent) (d : Device) (x : OpenState) → Bytes (a .mask) → Bytes (d .array) → length (x .page) ≡ keptBytes → formatOn g a d x .answer ≡ 0
+    → (es : List Event) → AllPossible g es (begun g a d x) → P g (after g es (begun g a d x))
 
 -- every mount, full or quick, that is not answered 1, 10 or 11 recovers the book
 abbrev pub Recovers : Geometry → Store → Type 0
@@ -67,9 +65,17 @@ Recovers g y =
     (depth : Depth) (a : Lent) → (mountOn depth g a y .answer ≡ 1 → ⊥) → (mountOn depth g a y .answer ≡ 10 → ⊥) → (mountOn depth g a y .answer ≡ 11 → ⊥)
     → Recovered g y (mountOn depth g a y)
 
--- a read answered 0 gives the book's bytes of its page, and any other leaves its buffer as it was
-pub record ReadsBook (g : Geometry) (y : Store) (logical page : ℕ) (buffer : List ℕ) (q : ReadResult) : Type 0 where
-  pub gives : q .returned .answer ≡ 0 → q .buffer ≡ y .account .book logical page
+-- what reads show: the book, and with the open write entered once its new copy is filled
+unfoldable pub shownWith : Geometry → Option Note → Book → Book
+shownWith g none book = book
+shownWith g (some t) book = cond (lastPassed g (t .started)) (entered g (t .change) book) book
+
+abbrev pub shown : Geometry → Store → Book
+shown g y = shownWith g (underWay y) (y .account .book)
+
+-- a read answered 0 gives the bytes shown of its page, and any other leaves its buffer as it was
+pub record ReadsBook (g : Geometry) (y : Store) (logical page : ℕ) (buffer : List ℕ) (q : OpenRead) : Type 0 where
+  pub gives : q .returned .answer ≡ 0 → q .buffer ≡ shown g y logical page
   pub keeps : (q .returned .answer ≡ 0 → ⊥) → q .buffer ≡ buffer
 
 abbrev pub ReadsRight : Geometry → Store → Type 0
@@ -97,4 +103,4 @@ Spared g marked failed (o ∷ os) =
 
 -- every further call spares such blocks
 abbrev pub Spares : Geometry → Store → Type 0
-Spares g y = (c : Call) → Typed c → Spared g (y .marked) (y .failed) (traceOf g c y)
+Spares g y = (c : Call) → Callable c y → Spared g (y .marked) (y .failed) (traceOf g c y)

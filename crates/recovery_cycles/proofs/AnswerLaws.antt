@@ -1,15 +1,16 @@
 -- A request is answered 10 exactly where its last array operation has a slow fate word and it is not cut. Assumes nothing.
-use Prim.Native.Nat.{ℕ, zero, suc, max}
+use Prim.Native.Nat.{ℕ, zero, suc, _-_, _≤_, _<_, max}
 use mathlib.Core.Bool.{Bool, true, false, cond}
-use mathlib.Core.List.{List}
+use mathlib.Core.List.{List, []}
 use mathlib.Core.Logic.{_⊎_, inl, inr, ⊎-elim}
 use mathlib.Core.Path.{_≡_, refl, ap, _∙_}
 use native.Mathlib.Omega.{arith}
-use borrow.Author.Tests.{eqb-true}
+use borrow.Author.Tests.{eqb-true, ltb-true, ltb-false}
 use borrow.Table.Steps.{cases}
 use lib.Dec.{eqb, ltb}
 use lib.ListN.{getD}
 use Rattle.bools.proofs.BoolLaws.{clash}
+use Rattle.bools.proofs.BoolLaws as bools
 use Rattle.geometry.specs.declared.Geometry.{Geometry}
 use Rattle.chip_array.specs.Device.{Device, Setting}
 use Rattle.bus_polling.specs.Outcomes.{isPassed, isFailed, isSilent, isCut, isProtected}
@@ -18,11 +19,11 @@ use Rattle.bus_polling.specs.declared.Outcome.the-variants.{Passed, Failed, Sil
 use Rattle.state_choose.specs.Choose.{chosen}
 use Rattle.state_choose.specs.declared.Choice.{Choice}
 use Rattle.state_choose.specs.declared.Choice.the-variants.{Block, Worn}
-use Rattle.state.specs.State.{none, numbersLeft, heldBits, withInvalid}
+use Rattle.state.specs.State.{none, nextNumber, numbersLeft, spent, heldBits, withInvalid}
 use Rattle.state.specs.declared.State.{State}
 use Rattle.progress.specs.Progress.{Progress, statusOn}
 use Rattle.progress.specs.Steps.{eraseOn, resumed}
-use Rattle.request.specs.Call.{Result, result, resultOf, sentIn, startedIn, unsent, performed, sizedFor, callLine, stopAnswer, answerFor, statusAnswer}
+use Rattle.request.specs.Call.{Performed, result, resultOf, sentIn, unsent, sizedFor, callLine, stopAnswer, answerFor, statusAnswer}
 use Rattle.request.proofs.CallLaws.{stop-silent, stop-least}
 use Rattle.request_refusals.specs.Refusals.{refusal, refusalOf}
 use Rattle.request_refusals.proofs.RefusalLaws.{by-refusal}
@@ -39,11 +40,18 @@ use Rattle.mount.specs.Mount.{mountRun, mountEnd, mountRequest}
 use Rattle.mount_laws.proofs.MountingLaws.{answer-judged}
 use Rattle.read_page.specs.Fetching.{pageProgress, readingBlock}
 use Rattle.read.specs.Reading.{copyRequest, readRequest}
-use Rattle.recovery.specs.Calls.{Lent, toMount, toRead, toWrite, toErase, toIdentify, Store, settingOf, runOf, chipOf}
+use Rattle.fill_cursor.specs.Cursor.{ended, filling, onBlock, choiceOf, prepared, pageAfter, filledWhole, unfilled, afterAction, programs, isOpen}
+use Rattle.fill_cursor.specs.declared.Cursor.{Cursor}
+use Rattle.fill_cursor.specs.declared.Running.{Running}
+use Rattle.fill_driver.specs.Driver.{Ran, performed, gone, acted, ran}
+use Rattle.open_write.specs.Open.{OpenState, cursorOf, isOpened}
+use Rattle.open_write.specs.Requests.{OpenResult, beside, openRefusal, through, unless, openReadRequest, openWriteRequest, openEraseRequest, openMountRequest, openEnd, openRequest, advanceRun, advanceEnd, advanceRequest}
+use Rattle.recovery.specs.Calls.{Lent, toMount, toRead, toWrite, toErase, toIdentify, toOpen, toAdvance, LineKept, Store, stateOf, settingOf, runOf, chipOf}
+use Rattle.recovery_proof.proofs.OpenLaws.{by-open, admits}
 use Rattle.recovery_cycles.specs.Starts.{startsIn}
 use Rattle.recovery_cycles.specs.Silent.{SlowLast, SilentExactly, SilentCalls}
 use Rattle.recovery_cycles.proofs.WaitLaws.{Stopped, stopped-unpassed}
-use Rattle.recovery_cycles.proofs.SilentLaws.{HeardFrom, change-heard, format-heard, mount-heard, page-heard}
+use Rattle.recovery_cycles.proofs.SilentLaws.{HeardFrom, shown-heard, change-heard, advance-heard, format-heard, mount-heard, page-heard}
 
 -- an answer by how the last operation ended
 record Told (answer : ℕ) (o : Outcome) : Type 0 where
@@ -193,16 +201,66 @@ module _ (s : Setting) where
       (λ t. rw t (told-passed _ (p .outcome) t (λ e. omega (arith, e, answer-judged (s .geometry) (p .line .chip .array) .1))))
       (λ t. rw t (told-stop (p .outcome)))
 
+-- a run of the open write: while it goes on all before passed, and it ends with the answer of what it did last
+record RunTold (c : Cursor) (o : Outcome) : Type 0 where
+  passes : c .phase < 2 → isPassed o ≡ true
+  ends : 2 ≤ c .phase → Told (c .answer) o
+
+ended-told : (answer : ℕ) (o : Outcome) → Told answer o → RunTold (ended answer) o
+ended-told answer o t = record { passes = λ h. absurd (omega (arith, h)); ends = λ h. t }
+
+going-told : (c : Cursor) (o : Outcome) → c .phase < 2 → isPassed o ≡ true → RunTold c o
+going-told c o h t = record { passes = λ k. t; ends = λ k. absurd (omega (arith, h, k)) }
+
+prepared-told : (g : Geometry) (c : Cursor) (st : State) (o : Outcome) → c .phase < 2 → isPassed o ≡ true → RunTold (prepared g c st .cursor) o
+unfolding prepared onBlock
+prepared-told g c st o h t =
+    cases (spent st)
+    (λ y. rw y (ended-told 9 o (told-passed 9 o t (λ e. omega (arith, e)))))
+    (λ y. rw y (on (choiceOf g st)))
+  where
+    on : (x : Choice) → RunTold (onBlock c st x .cursor) o
+    on Worn = ended-told 8 o (told-passed 8 o t (λ e. omega (arith, e)))
+    on (Block b) = going-told (filling b (nextNumber st) c) o h t
+
+after-told : (pages : ℕ) (c : Cursor) (o : Outcome) → c .phase < 2 → RunTold (afterAction pages c o) (gone o)
+unfolding afterAction filledWhole unfilled gone isPassed isFailed
+after-told pages c Passed h =
+    cases (ltb (pageAfter c) pages)
+    (λ t. rw t (going-told _ Passed h refl))
+    (λ t.
+    cases (eqb (c .phase) 0)
+    (λ z. cases (eqb (c .failed) 0) (λ f. rw (t, z, f) (ended-told 0 Passed (told-passed 0 Passed refl (λ e. omega (arith, e))))) (λ f. rw (t, z, f) (going-told _ Passed (omega arith) refl)))
+    (λ z. rw (t, z) (ended-told 0 Passed (told-passed 0 Passed refl (λ e. omega (arith, e))))))
+after-told pages c Failed h = going-told _ Passed h refl
+after-told pages c Silent h = ended-told _ Silent (told-stop Silent)
+after-told pages c Cut h = ended-told _ Cut (told-stop Cut)
+after-told pages c Illegal h = ended-told _ Illegal (told-stop Illegal)
+after-told pages c Protected h = ended-told _ Protected (told-stop Protected)
+
+run-told : (s : Setting) (bytes : List ℕ) (n left : ℕ) (r : Running) (p : Progress) → RunTold (r .cursor) (p .outcome) → let t = ran s bytes n left r p in RunTold (t .running .cursor) (t .progress .outcome)
+unfolding ran isOpen acted
+run-told s bytes zero left r p w = w
+run-told s bytes (suc n) left r p w =
+    cases (isOpen (r .cursor) left)
+    (λ t.
+    let h = ltb-true (r .cursor .phase) 2 (bools.unless (eqb left 0) _ t .1) in
+    let next : RunTold (acted s bytes r p .running .cursor) (acted s bytes r p .progress .outcome) =
+    cases (eqb (r .cursor .step) 0)
+    (λ z. rw z (prepared-told (s .geometry) (r .cursor) (r .state) (p .outcome) h (w .passes h)))
+    (λ z. rw z (after-told (s .geometry .pages) (r .cursor) (performed s (r .cursor) (r .state .invalid) bytes p .outcome) h)) in
+    rw t (run-told s bytes n (left - programs (r .cursor)) (acted s bytes r p .running) (acted s bytes r p .progress) next))
+    (λ t. rw t w)
+
 -- a request that has come to p, and one that starts nothing
 module _ (s : Setting) (d : Device) where
-  exactly : (r : Result) (p : Progress) → HeardFrom s d p → Told (r .answer) (p .outcome) → SilentExactly s d (performed r p)
-  unfolding resultOf sentIn
-  exactly r p h t =
+  exactly : (answer : ℕ) (p : Progress) → HeardFrom s d p → Told answer (p .outcome) → SilentExactly s d answer (p .cycles)
+  exactly answer p h t =
       (λ z. (h .by (t .by z), λ e. omega (arith, e, z)), λ x. ⊎-elim (λ e. e) (λ e. absurd (x .1 e)) (t .so (h .so (x .0))))
 
-  unstarted-exactly : (r : Result) → (r .answer ≡ 10 → ⊥) → SilentExactly s d (unsent r)
-  unfolding resultOf sentIn startsIn SlowLast
-  unstarted-exactly r x = (λ z. absurd (x z), λ h. absurd (h .0))
+  unstarted-exactly : (answer : ℕ) → (answer ≡ 10 → ⊥) → SilentExactly s d answer []
+  unfolding startsIn SlowLast
+  unstarted-exactly answer x = (λ z. absurd (x z), λ h. absurd (h .0))
 
 -- no refusal is 10
 refusal-other : (g : Geometry) (fits : Bool) (st : State) (logical page long : ℕ) → refusal g fits st logical page long ≡ 10 → ⊥
@@ -212,51 +270,113 @@ refusal-other g fits st logical page long =
     (λ a b c d e z. omega (arith, z))
     (λ a z. omega (arith, z))
 
+open-other : (g : Geometry) (fits : Bool) (x : OpenState) (barred : Bool) → openRefusal g fits x barred ≡ 10 → ⊥
+open-other g fits x barred =
+    by-open g fits x barred (λ (k : ℕ). k ≡ 10 → ⊥) (λ a z. omega (arith, z)) (λ a b z. omega (arith, z)) (λ a b c z. omega (arith, z)) (λ a b c z. omega (arith, z))
+
 -- every call of any store
 module _ (g : Geometry) (y : Store) (a : Lent) where
   abbrev s : Setting
   s = settingOf g a
 
+  abbrev d : Device
+  d = chipOf a (y .chip)
+
   abbrev from : Device
-  from = callLine (chipOf a (y .chip)) (a .allowed) .chip
+  from = callLine d (a .allowed) .chip
 
-  mount-exactly : (depth : Depth) → SilentExactly s from (runOf g (toMount depth a) y)
-  unfolding mountRequest
+  abbrev Exactly : Performed OpenResult → Type 0
+  Exactly r = SilentExactly s from (resultOf r .answer) (sentIn r)
+
+  mount-exactly : (depth : Depth) → Exactly (runOf g (toMount depth a) y)
+  unfolding resultOf sentIn openMountRequest mountRequest
   mount-exactly depth =
-      let p = mountRun depth s (callLine (chipOf a (y .chip)) (a .allowed)) in
-      cases (sizedFor s (chipOf a (y .chip)))
-      (λ t. rw t (exactly s from (mountEnd depth s (a .allowed) p) p (mount-heard s (chipOf a (y .chip)) (a .allowed) depth) (mount-told s depth (a .allowed) p)))
-      (λ f. rw f (unstarted-exactly s from _ (λ e. omega (arith, e))))
+      let p = mountRun depth s (callLine d (a .allowed)) in
+      cases (sizedFor s d)
+      (λ t. rw t (exactly s from (mountEnd depth s (a .allowed) p .answer) p (mount-heard s d (a .allowed) depth) (mount-told s depth (a .allowed) p)))
+      (λ f. rw f (unstarted-exactly s from 1 (λ e. omega (arith, e))))
 
-  read-exactly : (logical page : ℕ) (buffer : List ℕ) → SilentExactly s from (runOf g (toRead a logical page buffer) y)
-  unfolding readRequest copyRequest readingBlock resultOf sentIn startedIn
+  read-exactly : (logical page : ℕ) (buffer : List ℕ) → Exactly (runOf g (toRead a logical page buffer) y)
+  unfolding openReadRequest readRequest copyRequest readingBlock resultOf sentIn
   read-exactly logical page buffer =
       let block = getD (y .state .map) logical 0 in
-      let refused = refusalOf s (chipOf a (y .chip)) (y .state) logical page buffer in
+      let refused = refusalOf s d (y .state) logical page buffer in
+      let barred = openRefusal g (sizedFor s d) (stateOf y) false in
+      cases (eqb barred 0)
+      (λ o.
       cases (eqb refused 0)
-      (λ t. cases (eqb block none) (λ u. rw (t, u) (unstarted-exactly s from (result 0 (y .state) (chipOf a (y .chip)) 0) (λ e. omega (arith, e))))
-      (λ u. rw (t, u) (exactly s from (readingBlock s (chipOf a (y .chip)) (a .allowed) (y .state) block page buffer .returned) (pageProgress s (chipOf a (y .chip)) (a .allowed) block page) (page-heard s (chipOf a (y .chip)) (a .allowed) block page) (told-for _))))
-      (λ f. rw f (unstarted-exactly s from (result refused (y .state) (chipOf a (y .chip)) 0) (refusal-other g _ (y .state) logical page _)))
+      (λ t. cases (eqb block none) (λ u. rw (o, t, u) (unstarted-exactly s from 0 (λ e. omega (arith, e))))
+      (λ u. rw (o, t, u) (exactly s from _ (pageProgress s d (a .allowed) block page) (page-heard s d (a .allowed) block page) (told-for _))))
+      (λ f. rw (o, f) (unstarted-exactly s from refused (refusal-other g _ (y .state) logical page _))))
+      (λ o. rw o (unstarted-exactly s from barred (open-other g (sizedFor s d) (stateOf y) false)))
 
-  change-exactly : (refused : ℕ) (u : Update) → (refused ≡ 10 → ⊥) → SilentExactly s from (cond (eqb refused 0) (changeRequest s (chipOf a (y .chip)) (a .allowed) (y .state) u) (unsent (result refused (y .state) (chipOf a (y .chip)) 0)))
+  change-exactly : (refused : ℕ) (u : Update) → (refused ≡ 10 → ⊥)
+      → Exactly (unless (openRefusal g (sizedFor s d) (stateOf y) (isOpened (stateOf y))) (stateOf y) d (through (beside (stateOf y)) (cond (eqb refused 0) (changeRequest s d (a .allowed) (y .state) u) (unsent (result refused (y .state) d 0)))))
+  unfolding resultOf sentIn
   change-exactly refused u x =
+      let barred = openRefusal g (sizedFor s d) (stateOf y) (isOpened (stateOf y)) in
+      cases (eqb barred 0)
+      (λ o.
       cases (eqb refused 0)
-      (λ t. rw t (exactly s from _ (changeCall s (chipOf a (y .chip)) (a .allowed) (y .state) u .progress) (change-heard s (chipOf a (y .chip)) (a .allowed) (y .state) u) (call-told s (chipOf a (y .chip)) (a .allowed) (y .state) u)))
-      (λ f. rw f (unstarted-exactly s from _ x))
+      (λ t. rw (o, t) (exactly s from _ (changeCall s d (a .allowed) (y .state) u .progress) (change-heard s d (a .allowed) (y .state) u) (call-told s d (a .allowed) (y .state) u)))
+      (λ f. rw (o, f) (unstarted-exactly s from refused x)))
+      (λ o. rw o (unstarted-exactly s from barred (open-other g (sizedFor s d) (stateOf y) (isOpened (stateOf y)))))
+
+  -- an opening ends with its status read
+  opened-told : (logical page : ℕ) (bytes : List ℕ) (p : Progress) → Told (openEnd (a .allowed) (stateOf y) logical page bytes p .answer) (p .outcome)
+  opened-told logical page bytes p =
+      cases (isPassed (p .outcome)) (λ t. rw t (told-passed 0 (p .outcome) t (λ e. omega (arith, e)))) (λ t. rw t (status-stop (p .outcome) t))
+
+  open-exactly : (logical page : ℕ) (bytes : List ℕ) → Exactly (runOf g (toOpen a logical page bytes) y)
+  unfolding resultOf sentIn openRequest
+  open-exactly logical page bytes =
+      let barred = openRefusal g (sizedFor s d) (stateOf y) (isOpened (stateOf y)) in
+      let refused = refusalOf s d (y .state) logical page bytes in
+      cases (eqb barred 0)
+      (λ o.
+      cases (eqb refused 0)
+      (λ t. rw (o, t) (exactly s from _ (changeFirst s d (a .allowed)) (shown-heard s d (a .allowed)) (opened-told logical page bytes (changeFirst s d (a .allowed)))))
+      (λ f. rw (o, f) (unstarted-exactly s from refused (refusal-other g _ (y .state) logical page _))))
+      (λ o. rw o (unstarted-exactly s from barred (open-other g (sizedFor s d) (stateOf y) (isOpened (stateOf y)))))
+
+  -- an advance by its run
+  advanced-told : (t : Ran) → RunTold (t .running .cursor) (t .progress .outcome) → Told (advanceEnd (a .allowed) (stateOf y) t .returned .answer) (t .progress .outcome)
+  unfolding advanceEnd
+  advanced-told t w =
+      cases (ltb (t .running .cursor .phase) 2)
+      (λ h. rw h (told-passed 0 (t .progress .outcome) (w .passes (ltb-true (t .running .cursor .phase) 2 h)) (λ e. omega (arith, e))))
+      (λ h. rw h (w .ends (ltb-false (t .running .cursor .phase) 2 h)))
+
+  first-phase : cursorOf (y .write) .phase < 2
+  first-phase = cases (eqb (y .write .phase) 0) (λ z. rw z (omega arith)) (λ z. rw z (omega arith))
+
+  advance-exactly : (most : ℕ) → LineKept (toAdvance a most) y → Exactly (runOf g (toAdvance a most) y)
+  unfolding resultOf sentIn advanceRequest isPassed
+  advance-exactly most kept =
+      let barred = openRefusal g (sizedFor s d) (stateOf y) (eqb (y .write .opened) 0) in
+      cases (eqb barred 0)
+      (λ o.
+      let shut = admits g (sizedFor s d) (stateOf y) (eqb (y .write .opened) 0) (eqb-true barred 0 o) .unbarred in
+      let high : a .protected ≡ 0 = kept (rw shut) in
+      let t = advanceRun s d (a .allowed) (stateOf y) most in
+      rw o (exactly s from _ (t .progress) (advance-heard s d (a .allowed) high _ _ most _) (advanced-told t (run-told s _ _ most _ _ (going-told (cursorOf (y .write)) Passed first-phase refl)))))
+      (λ o. rw o (unstarted-exactly s from barred (open-other g (sizedFor s d) (stateOf y) (eqb (y .write .opened) 0))))
 
 pub silent-exactly : (g : Geometry) (y : Store) → SilentCalls g y
-unfolding writeRequest eraseRequest
-silent-exactly g y (toMount depth a) h = mount-exactly g y a depth
-silent-exactly g y (toRead a logical page buffer) h = read-exactly g y a logical page buffer
-silent-exactly g y (toWrite a logical page bytes) h =
+unfolding openWriteRequest openEraseRequest writeRequest eraseRequest
+silent-exactly g y (toMount depth a) h kept = mount-exactly g y a depth
+silent-exactly g y (toRead a logical page buffer) h kept = read-exactly g y a logical page buffer
+silent-exactly g y (toWrite a logical page bytes) h kept =
     change-exactly g y a _ (writeUpdate (y .state) logical page bytes) (refusal-other g _ (y .state) logical page _)
-silent-exactly g y (toErase a logical) h =
+silent-exactly g y (toErase a logical) h kept =
     change-exactly g y a _ (eraseUpdate logical) (refusal-other g _ (y .state) logical 0 _)
-silent-exactly g y (toIdentify a parameters logical) h = absurd h
+silent-exactly g y (toIdentify a parameters logical) h kept = absurd h
+silent-exactly g y (toOpen a logical page bytes) h kept = open-exactly g y a logical page bytes
+silent-exactly g y (toAdvance a most) h kept = advance-exactly g y a most kept
 
 -- and every formatting
-pub format-exactly : (s : Setting) (d : Device) (n : ℕ) (st : State) → SilentExactly s (callLine d n .chip) (formatRequest s d n st)
-unfolding formatRequest
+pub format-exactly : (s : Setting) (d : Device) (n : ℕ) (st : State) → SilentExactly s (callLine d n .chip) (resultOf (formatRequest s d n st) .answer) (sentIn (formatRequest s d n st))
+unfolding resultOf sentIn formatRequest
 format-exactly s d n st =
     cases (sizedFor s d)
     (λ t. rw t (exactly s _ _ (formatRun s d n st .progress) (format-heard s d n t st) (reads-run-told s st _)))

@@ -24,28 +24,30 @@ use Rattle.copies.specs.Current.{currentTable}
 use Rattle.copies.specs.Pick.{at}
 use Rattle.copies.specs.Table.{lists}
 use Rattle.state.specs.State.{none}
-use Rattle.state.specs.declared.State.{State}
-use Rattle.request.specs.Call.{Result, result, Performed, unsent, sizedFor, callLine, sentIn, startedIn}
+use Rattle.request.specs.Call.{result, Performed, unsent, sizedFor, callLine, sentIn, startedIn}
 use Rattle.request_refusals.specs.Refusals.{refusalOf}
 use Rattle.write_changes.specs.Changes.{Update, changeRequest, writeUpdate, eraseUpdate, writeRequest, eraseRequest, eraseRefusal}
 use Rattle.scan_summary.specs.declared.Depth.{Depth}
 use Rattle.mount.specs.Mount.{mountRequest}
 use Rattle.read.specs.Reading.{copyRequest, readRequest}
 use Rattle.identify.proofs.SentLaws.{identify-starts}
+use Rattle.open_write.specs.Open.{isOpened}
+use Rattle.open_write.specs.Requests.{OpenResult, beside, openRefusal, through, unless, openReadRequest, openWriteRequest, openEraseRequest, openMountRequest, openIdentifyRequest, openRequest, advanceRequest}
 use Rattle.damage.specs.Run.{failedIn}
 use Rattle.damage.specs.Touched.{Each, Some, first}
 use Rattle.damage.proofs.EachLaws.{each-left, each-right, some-append-right}
 use Rattle.damage.proofs.TraceLaws.{or-assoc}
-use Rattle.recovery.specs.Calls.{Lent, Call, toMount, toRead, toWrite, toErase, toIdentify, Store, settingOf, cyclesOf, traceOf, failedAfter, chipOf, after, begun}
+use Rattle.recovery.specs.Calls.{Lent, Call, toMount, toRead, toWrite, toErase, toIdentify, toOpen, toAdvance, LineKept, Store, stateOf, settingOf, cyclesOf, traceOf, failedAfter, chipOf, after, begun}
 use Rattle.recovery_proof.specs.Sent.{Sends, SendsLegally}
 use Rattle.recovery.specs.Recovery.{Always, SparesBad, SparedBy, Spared, Spares}
+use Rattle.recovery_proof.proofs.OpenLaws.{admits}
 use Rattle.recovery_proof.proofs.RecoveryLaws.{spares}
 use Rattle.recovery_proof.proofs.SentLaws.{sends-legally}
 use Rattle.recovery_cycles.specs.Starts.{takes, failsNext, start, Start, startsAt, startsIn, kindOf, StartedAt, Traced, Divided, TracedAt, failedRead, OnChip, Changes, ChangeOn, TracesEach}
 use Rattle.recovery_cycles.specs.Spared.{OnlyReads, NamesGood, TracesCycles, SparesEach, startsOf, SparesCycles, FailsRead, ProtectedSends}
 use Rattle.recovery_cycles.proofs.StartLaws.{starts-append}
-use Rattle.recovery_cycles.proofs.TraceLaws.{change-traced, mount-traced, page-traced}
-use Rattle.recovery_cycles.proofs.ReadOnlyLaws.{mount-only-reads, page-only-reads, changes-confirm, identify-only-reads, identify-starts-none, change-only-reads}
+use Rattle.recovery_cycles.proofs.TraceLaws.{first-traced, change-traced, advance-traced, mount-traced, page-traced}
+use Rattle.recovery_cycles.proofs.ReadOnlyLaws.{mount-only-reads, page-only-reads, first-only-reads, changes-confirm, identify-only-reads, identify-starts-none, change-only-reads}
 
 divided : (g : Geometry) (ts us : List Start) (t : Start) (os : List ArrayOperation) → Traced g (ts ++ (t ∷ us)) os → Divided g ts t os
 unfolding Traced
@@ -194,69 +196,122 @@ none-there [] ys c e = absurd (let n : 0 ≡ suc (length ys) = ap length e in om
 none-there (x ∷ xs) ys c e = absurd (let n : 0 ≡ suc (length (xs ++ (c ∷ ys))) = ap length e in omega (arith, n))
 
 -- the trace of every call of any store has the operations that its confirm cycles start
+module _ (g : Geometry) (y : Store) (a : Lent) (u : Update) (refused : ℕ) where
+  -- a write or an erase, refused while a write is open
+  abbrev changing : Performed OpenResult
+  changing =
+      unless (openRefusal g (sizedFor (settingOf g a) (chipOf a (y .chip))) (stateOf y) (isOpened (stateOf y))) (stateOf y) (chipOf a (y .chip))
+      (through (beside (stateOf y)) (cond (eqb refused 0) (changeRequest (settingOf g a) (chipOf a (y .chip)) (a .allowed) (y .state) u) (unsent (result refused (y .state) (chipOf a (y .chip)) 0))))
+
+  changing-traced : Traced g (startsIn (settingOf g a) (callLine (chipOf a (y .chip)) (a .allowed) .chip) (sentIn changing)) (startedIn changing)
+  unfolding sentIn startedIn startsIn Traced
+  changing-traced =
+      cases (eqb (openRefusal g (sizedFor (settingOf g a) (chipOf a (y .chip))) (stateOf y) (isOpened (stateOf y))) 0)
+      (λ o. cases (eqb refused 0) (λ t. rw (o, t) (change-traced (settingOf g a) (chipOf a (y .chip)) (a .allowed) (y .state) u)) (λ f. rw (o, f) tt))
+      (λ o. rw o tt)
+
+  -- with the write-protect line low it sends no 80h, 60h, 10h or D0h
+  changing-sends : (a .protected ≡ 0 → ⊥) → OnlyReads (sentIn changing)
+  unfolding sentIn
+  changing-sends low xs ys code e k =
+      cases (eqb (openRefusal g (sizedFor (settingOf g a) (chipOf a (y .chip))) (stateOf y) (isOpened (stateOf y))) 0)
+      (λ o.
+      cases (eqb refused 0)
+      (λ t. change-only-reads (settingOf g a) (chipOf a (y .chip)) (a .allowed) low (y .state) u xs ys code (rw (o, t) at e) k)
+      (λ f. none-there xs ys (command code) (rw (o, f) at e)))
+      (λ o. none-there xs ys (command code) (rw o at e))
+
 pub call-traced : (g : Geometry) (c : Call) (y : Store) → Traced g (startsOf g c y) (traceOf g c y)
-unfolding sentIn startedIn mountRequest readRequest copyRequest writeRequest eraseRequest startsIn Traced
+unfolding sentIn startedIn openMountRequest openReadRequest openWriteRequest openEraseRequest openIdentifyRequest openRequest advanceRequest mountRequest readRequest copyRequest writeRequest eraseRequest startsIn Traced
 call-traced g (toMount depth a) y =
     cases (sizedFor (settingOf g a) (chipOf a (y .chip))) (λ t. rw t (mount-traced (settingOf g a) (chipOf a (y .chip)) (a .allowed) depth)) (λ f. rw f tt)
 call-traced g (toRead a logical page buffer) y =
+    cases (eqb (openRefusal g (sizedFor (settingOf g a) (chipOf a (y .chip))) (stateOf y) false) 0)
+    (λ o.
     cases (eqb (refusalOf (settingOf g a) (chipOf a (y .chip)) (y .state) logical page buffer) 0)
-    (λ t. cases (eqb (getD (y .state .map) logical 0) none) (λ u. rw (t, u) tt)
-    (λ u. rw (t, u) (page-traced (settingOf g a) (chipOf a (y .chip)) (a .allowed) (getD (y .state .map) logical 0) page)))
-    (λ f. rw f tt)
+    (λ t. cases (eqb (getD (y .state .map) logical 0) none) (λ u. rw (o, t, u) tt)
+    (λ u. rw (o, t, u) (page-traced (settingOf g a) (chipOf a (y .chip)) (a .allowed) (getD (y .state .map) logical 0) page)))
+    (λ f. rw (o, f) tt))
+    (λ o. rw o tt)
 call-traced g (toWrite a logical page bytes) y =
-    cases (eqb (refusalOf (settingOf g a) (chipOf a (y .chip)) (y .state) logical page bytes) 0)
-    (λ t. rw t (change-traced (settingOf g a) (chipOf a (y .chip)) (a .allowed) (y .state) (writeUpdate (y .state) logical page bytes)))
-    (λ f. rw f tt)
+    changing-traced g y a (writeUpdate (y .state) logical page bytes) (refusalOf (settingOf g a) (chipOf a (y .chip)) (y .state) logical page bytes)
 call-traced g (toErase a logical) y =
-    cases (eqb (eraseRefusal (settingOf g a) (chipOf a (y .chip)) (y .state) logical) 0)
-    (λ t. rw t (change-traced (settingOf g a) (chipOf a (y .chip)) (a .allowed) (y .state) (eraseUpdate logical)))
-    (λ f. rw f tt)
+    changing-traced g y a (eraseUpdate logical) (eraseRefusal (settingOf g a) (chipOf a (y .chip)) (y .state) logical)
 call-traced g (toIdentify a parameters logical) y =
     rw (identify-starts-none (a .mask) (a .fates) (chipOf a (y .chip)) (a .allowed) (y .state) parameters logical (settingOf g a) (callLine (chipOf a (y .chip)) (a .allowed) .chip), identify-starts (a .mask) (a .fates) (chipOf a (y .chip)) (a .allowed) (y .state) parameters logical) tt
+call-traced g (toOpen a logical page bytes) y =
+    cases (eqb (openRefusal g (sizedFor (settingOf g a) (chipOf a (y .chip))) (stateOf y) (isOpened (stateOf y))) 0)
+    (λ o.
+    cases (eqb (refusalOf (settingOf g a) (chipOf a (y .chip)) (y .state) logical page bytes) 0)
+    (λ t. rw (o, t) (first-traced (settingOf g a) (chipOf a (y .chip)) (a .allowed) .1))
+    (λ f. rw (o, f) tt))
+    (λ o. rw o tt)
+call-traced g (toAdvance a most) y =
+    cases (eqb (openRefusal g (sizedFor (settingOf g a) (chipOf a (y .chip))) (stateOf y) (eqb (y .write .opened) 0)) 0)
+    (λ o. rw o (advance-traced (settingOf g a) (chipOf a (y .chip)) (a .allowed) _ _ most _))
+    (λ o. rw o tt)
 
--- mounts, reads and calls that ask for the chip's size, of any store, send no 80h, 60h, 10h or D0h
+-- mounts, reads, calls that ask for the chip's size and openings, of any store, send no 80h, 60h, 10h or D0h
 pub mount-sends : (g : Geometry) (y : Store) (depth : Depth) (a : Lent) → OnlyReads (cyclesOf g (toMount depth a) y)
-unfolding sentIn mountRequest
+unfolding sentIn openMountRequest mountRequest
 mount-sends g y depth a xs ys code e k =
     cases (sizedFor (settingOf g a) (chipOf a (y .chip)))
     (λ t. mount-only-reads (settingOf g a) depth (callLine (chipOf a (y .chip)) (a .allowed)) xs ys code (rw t at e) k)
     (λ f. none-there xs ys (command code) (rw f at e))
 
 pub read-sends : (g : Geometry) (y : Store) (a : Lent) (logical page : ℕ) (buffer : List ℕ) → OnlyReads (cyclesOf g (toRead a logical page buffer) y)
-unfolding sentIn readRequest copyRequest
+unfolding sentIn openReadRequest readRequest copyRequest
 read-sends g y a logical page buffer xs ys code e k =
     let s = settingOf g a in
+    cases (eqb (openRefusal g (sizedFor s (chipOf a (y .chip))) (stateOf y) false) 0)
+    (λ o.
     cases (eqb (refusalOf s (chipOf a (y .chip)) (y .state) logical page buffer) 0)
     (λ t. cases (eqb (getD (y .state .map) logical 0) none)
-    (λ u. none-there xs ys (command code) (rw (t, u) at e))
-    (λ u. page-only-reads s (chipOf a (y .chip)) (a .allowed) (getD (y .state .map) logical 0) page xs ys code (rw (t, u) at e) k))
-    (λ f. none-there xs ys (command code) (rw f at e))
+    (λ u. none-there xs ys (command code) (rw (o, t, u) at e))
+    (λ u. page-only-reads s (chipOf a (y .chip)) (a .allowed) (getD (y .state .map) logical 0) page xs ys code (rw (o, t, u) at e) k))
+    (λ f. none-there xs ys (command code) (rw (o, f) at e)))
+    (λ o. none-there xs ys (command code) (rw o at e))
 
 pub identify-sends : (g : Geometry) (y : Store) (a : Lent) (parameters : List ℕ) (logical : ℕ) → OnlyReads (cyclesOf g (toIdentify a parameters logical) y)
-unfolding sentIn
+unfolding sentIn openIdentifyRequest
 identify-sends g y a parameters logical = identify-only-reads (a .mask) (a .fates) (chipOf a (y .chip)) (a .allowed) (y .state) parameters logical
 
--- nor does a write or an erase with the write-protect line low
-change-sends : (s : Setting) (d : Device) (n : ℕ) (st : State) (u : Update) (refused : ℕ) → (d .interface .protected ≡ 0 → ⊥)
-    → OnlyReads (sentIn (cond (eqb refused 0) (changeRequest s d n st u) (unsent (result refused st d 0))))
-unfolding sentIn
-change-sends s d n st u refused low xs ys code e k =
+pub open-sends : (g : Geometry) (y : Store) (a : Lent) (logical page : ℕ) (bytes : List ℕ) → OnlyReads (cyclesOf g (toOpen a logical page bytes) y)
+unfolding sentIn openRequest
+open-sends g y a logical page bytes xs ys code e k =
+    let s = settingOf g a in
+    cases (eqb (openRefusal g (sizedFor s (chipOf a (y .chip))) (stateOf y) (isOpened (stateOf y))) 0)
+    (λ o.
+    cases (eqb (refusalOf s (chipOf a (y .chip)) (y .state) logical page bytes) 0)
+    (λ t. first-only-reads s (chipOf a (y .chip)) (a .allowed) xs ys code (rw (o, t) at e) k)
+    (λ f. none-there xs ys (command code) (rw (o, f) at e)))
+    (λ o. none-there xs ys (command code) (rw o at e))
+
+-- an advance with the line low is refused, since none is open
+advance-sends : (g : Geometry) (y : Store) (a : Lent) (most : ℕ) → LineKept (toAdvance a most) y → (a .protected ≡ 0 → ⊥) → OnlyReads (cyclesOf g (toAdvance a most) y)
+unfolding sentIn advanceRequest
+advance-sends g y a most kept low xs ys code e k =
+    let refused = openRefusal g (sizedFor (settingOf g a) (chipOf a (y .chip))) (stateOf y) (eqb (y .write .opened) 0) in
     cases (eqb refused 0)
-    (λ t. change-only-reads s d n low st u xs ys code (rw t at e) k)
-    (λ f. none-there xs ys (command code) (rw f at e))
+    (λ o.
+    let shut = admits g (sizedFor (settingOf g a) (chipOf a (y .chip))) (stateOf y) (eqb (y .write .opened) 0) (eqb-true refused 0 o) .unbarred in
+    absurd (low (kept (rw shut))))
+    (λ o. none-there xs ys (command code) (rw o at e))
 
 pub protected-sends : (g : Geometry) (y : Store) → ProtectedSends g y
-unfolding writeRequest eraseRequest
-protected-sends g y (toMount depth a) low = mount-sends g y depth a
-protected-sends g y (toRead a logical page buffer) low = read-sends g y a logical page buffer
-protected-sends g y (toWrite a logical page bytes) low =
-    change-sends (settingOf g a) (chipOf a (y .chip)) (a .allowed) (y .state) (writeUpdate (y .state) logical page bytes) (refusalOf (settingOf g a) (chipOf a (y .chip)) (y .state) logical page bytes) low
-protected-sends g y (toErase a logical) low =
-    change-sends (settingOf g a) (chipOf a (y .chip)) (a .allowed) (y .state) (eraseUpdate logical) (eraseRefusal (settingOf g a) (chipOf a (y .chip)) (y .state) logical) low
-protected-sends g y (toIdentify a parameters logical) low = identify-sends g y a parameters logical
+unfolding openWriteRequest openEraseRequest writeRequest eraseRequest
+protected-sends g y (toMount depth a) kept low = mount-sends g y depth a
+protected-sends g y (toRead a logical page buffer) kept low = read-sends g y a logical page buffer
+protected-sends g y (toWrite a logical page bytes) kept low =
+    changing-sends g y a (writeUpdate (y .state) logical page bytes) (refusalOf (settingOf g a) (chipOf a (y .chip)) (y .state) logical page bytes) low
+protected-sends g y (toErase a logical) kept low =
+    changing-sends g y a (eraseUpdate logical) (eraseRefusal (settingOf g a) (chipOf a (y .chip)) (y .state) logical) low
+protected-sends g y (toIdentify a parameters logical) kept low = identify-sends g y a parameters logical
+protected-sends g y (toOpen a logical page bytes) kept low = open-sends g y a logical page bytes
+protected-sends g y (toAdvance a most) kept low = advance-sends g y a most kept low
 
 -- each cycle of a call is legal
-sends-legal : {s : Setting} {d : Device} {n : ℕ} {r : Performed Result} → Sends s d n r → Legal s (callLine d n .chip) (sentIn r)
+sends-legal : {s : Setting} {d : Device} {n : ℕ} {cs : List Cycle} {left : Device} {sent : ℕ} → Sends s d n cs left sent → Legal s (callLine d n .chip) cs
 sends-legal {s} {d} {n} x =
     ⊎-elim (λ e. subst (Legal s (callLine d n .chip)) (sym (e .0)) tt) (λ e. e .each-legal) (x .leads)
 
@@ -265,35 +320,43 @@ module _ (g : Geometry) (y : Store) where
   calls-spare sp w (toMount depth a) t = λ xs ys code e k. absurd (mount-sends g y depth a xs ys code e (inr (inr k)))
   calls-spare sp w (toRead a logical page buffer) t = λ xs ys code e k. absurd (read-sends g y a logical page buffer xs ys code e (inr (inr k)))
   calls-spare sp w (toWrite a logical page bytes) t =
-      spares-each (settingOf g a) (y .marked) (y .failed) (callLine (chipOf a (y .chip)) (a .allowed) .chip) (cyclesOf g (toWrite a logical page bytes) y) (traceOf g (toWrite a logical page bytes) y)
-      (call-traced g (toWrite a logical page bytes) y) (sends-legal (w (toWrite a logical page bytes) t)) (sp (toWrite a logical page bytes) t)
+      let c = toWrite a logical page bytes in
+      spares-each (settingOf g a) (y .marked) (y .failed) (callLine (chipOf a (y .chip)) (a .allowed) .chip) (cyclesOf g c y) (traceOf g c y) (call-traced g c y) (sends-legal (w c t)) (sp c t)
   calls-spare sp w (toErase a logical) t =
-      spares-each (settingOf g a) (y .marked) (y .failed) (callLine (chipOf a (y .chip)) (a .allowed) .chip) (cyclesOf g (toErase a logical) y) (traceOf g (toErase a logical) y)
-      (call-traced g (toErase a logical) y) (sends-legal (w (toErase a logical) t)) (sp (toErase a logical) t)
+      let c = toErase a logical in
+      spares-each (settingOf g a) (y .marked) (y .failed) (callLine (chipOf a (y .chip)) (a .allowed) .chip) (cyclesOf g c y) (traceOf g c y) (call-traced g c y) (sends-legal (w c t)) (sp c t)
   calls-spare sp w (toIdentify a parameters logical) t = λ xs ys code e k. absurd (identify-sends g y a parameters logical xs ys code e (inr (inr k)))
+  calls-spare sp w (toOpen a logical page bytes) t = λ xs ys code e k. absurd (open-sends g y a logical page bytes xs ys code e (inr (inr k)))
+  calls-spare sp w (toAdvance a most) t =
+      let c = toAdvance a most in
+      spares-each (settingOf g a) (y .marked) (y .failed) (callLine (chipOf a (y .chip)) (a .allowed) .chip) (cyclesOf g c y) (traceOf g c y) (call-traced g c y) (sends-legal (w c t)) (sp c t)
 
   calls-trace : Spares g y → SendsLegally g y → TracesCycles g y
   calls-trace sp w (toMount depth a) t = λ xs ys code e k. absurd (mount-sends g y depth a xs ys code e (inr (inr k)))
   calls-trace sp w (toRead a logical page buffer) t = λ xs ys code e k. absurd (read-sends g y a logical page buffer xs ys code e (inr (inr k)))
   calls-trace sp w (toWrite a logical page bytes) t =
       let c = toWrite a logical page bytes in
-      traces-each (settingOf g a) (callLine (chipOf a (y .chip)) (a .allowed) .chip) (cyclesOf g c y) (traceOf g c y) (call-traced g c y) (sends-legal (w (toWrite a logical page bytes) t)) (spared-on-chip g (y .marked) (y .failed) (traceOf g c y) (sp c t))
+      traces-each (settingOf g a) (callLine (chipOf a (y .chip)) (a .allowed) .chip) (cyclesOf g c y) (traceOf g c y) (call-traced g c y) (sends-legal (w c t)) (spared-on-chip g (y .marked) (y .failed) (traceOf g c y) (sp c t))
   calls-trace sp w (toErase a logical) t =
       let c = toErase a logical in
-      traces-each (settingOf g a) (callLine (chipOf a (y .chip)) (a .allowed) .chip) (cyclesOf g c y) (traceOf g c y) (call-traced g c y) (sends-legal (w (toErase a logical) t)) (spared-on-chip g (y .marked) (y .failed) (traceOf g c y) (sp c t))
+      traces-each (settingOf g a) (callLine (chipOf a (y .chip)) (a .allowed) .chip) (cyclesOf g c y) (traceOf g c y) (call-traced g c y) (sends-legal (w c t)) (spared-on-chip g (y .marked) (y .failed) (traceOf g c y) (sp c t))
   calls-trace sp w (toIdentify a parameters logical) t = λ xs ys code e k. absurd (identify-sends g y a parameters logical xs ys code e (inr (inr k)))
+  calls-trace sp w (toOpen a logical page bytes) t = λ xs ys code e k. absurd (open-sends g y a logical page bytes xs ys code e (inr (inr k)))
+  calls-trace sp w (toAdvance a most) t =
+      let c = toAdvance a most in
+      traces-each (settingOf g a) (callLine (chipOf a (y .chip)) (a .allowed) .chip) (cyclesOf g c y) (traceOf g c y) (call-traced g c y) (sends-legal (w c t)) (spared-on-chip g (y .marked) (y .failed) (traceOf g c y) (sp c t))
 
 pub traces-cycles : Always TracesCycles
-traces-cycles g a d st m k z es t =
-    calls-trace g _ (spares g a d st m k z es t) (sends-legally g a d st m k z es t)
+traces-cycles g a d x m h k z es t =
+    calls-trace g _ (spares g a d x m h k z es t) (sends-legally g a d x m h k z es t)
 
 pub spares-cycles : Always SparesCycles
-spares-cycles g a d st m k z es t =
-    calls-spare g _ (spares g a d st m k z es t) (sends-legally g a d st m k z es t)
+spares-cycles g a d x m h k z es t =
+    calls-spare g _ (spares g a d x m h k z es t) (sends-legally g a d x m h k z es t)
 
 pub sends-no-change : Always ProtectedSends
-sends-no-change g a d st m k z es t = protected-sends g (after g es (begun g a d st))
+sends-no-change g a d x m h k z es t = protected-sends g (after g es (begun g a d x))
 
 pub fails-read : Always FailsRead
-fails-read g a d st m k z es t c typed b =
-    sym (failed-traced g _ _ (call-traced g c _) (spared-on-chip g _ _ _ (spares g a d st m k z es t c typed)) b)
+fails-read g a d x m h k z es t c callable b =
+    sym (failed-traced g _ _ (call-traced g c _) (spared-on-chip g _ _ _ (spares g a d x m h k z es t c callable)) b)

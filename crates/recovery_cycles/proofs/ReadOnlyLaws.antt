@@ -115,6 +115,10 @@ module _ (s : Setting) where
       (λ t. rw t (all-append Harmless (p .cycles) (sent s (p .line) statusCycles) h (all-sent Harmless s (p .line) statusCycles (harmless-70, (tt, tt)))))
       (λ t. rw t h)
 
+  -- the status read that a write, an erase or an opening begins with
+  pub first-only-reads : (d : Device) (n : ℕ) → OnlyReads (changeFirst s d n .cycles)
+  first-only-reads d n = only-reads (changeFirst s d n .cycles) (status-harmless (progress (callLine d n) Passed [] []) tt)
+
   low-unpassed : (p : Progress) → (lineOf p ≡ 0 → ⊥) → isPassed (p .outcome) ≡ true → isPassed (statusOn s p .outcome) ≡ false
   low-unpassed p low y =
       cases (isPassed (statusOn s p .outcome)) (λ t. absurd (low (sym (status-keeps s p) ∙ shown-high s p y t))) (λ f. f)

@@ -43,6 +43,9 @@ use Rattle.format_laws.proofs.ProtectLaws.{format-low}
 use Rattle.fill_tables.specs.Tables.{Tabled}
 use Rattle.fill_tables.proofs.StatusLaws.{after-passed, after-stopped}
 use Rattle.write_changes.specs.Changes.{Update, changeRun, changeFirst, changeCall}
+use Rattle.fill_cursor.specs.declared.Running.{Running}
+use Rattle.fill_driver.specs.Driver.{ran}
+use Rattle.fill_laws.proofs.KeepLaws.{ran-keeps}
 use Rattle.write_changes.proofs.KeepLaws.{change-keeps}
 use Rattle.damage.specs.Touched.{Each}
 use Rattle.damage.proofs.EachLaws.{each-left, each-right}
@@ -285,7 +288,7 @@ module _ (s : Setting) (d : Device) (n : ℕ) where
   first-both = (leads-first s (callLine d n), λ h. unstarted-heard (s .fates) Passed refl)
 
   -- the status read that a write or an erase begins with
-  shown-heard : HeardFrom s from (changeFirst s d n)
+  pub shown-heard : HeardFrom s from (changeFirst s d n)
   unfolding statusOn isPassed
   shown-heard =
       subst (λ (ts : List Start). Heard (s .fates) ts (statusEnd (sendAll s (callLine d n) statusCycles))) (sym (status-starts s (callLine d n) from))
@@ -301,6 +304,11 @@ module _ (s : Setting) (d : Device) (n : ℕ) where
       let here = change-keeps s _ (heard-kept s from) st u p (leads-status s from first (first-both .0), λ h. shown-heard) .1 (inl high) in
       subst (λ (x : Tabled). HeardFrom s from (x .progress)) (sym (after-passed st p run t)) here)
       (λ f. subst (λ (x : Tabled). HeardFrom s from (x .progress)) (sym (after-stopped st p (changeRun s st u p) f)) shown-heard)
+
+  -- a run of the open write, with the line high
+  pub advance-heard : d .interface .protected ≡ 0 → (bytes : List ℕ) (k left : ℕ) (r : Running) → HeardFrom s from (ran s bytes k left r first .progress)
+  advance-heard high bytes k left r =
+      ran-keeps s _ (heard-kept s from) bytes k left r first first-both .1 (inl (ran-keeps s _ (line-kept s 0) bytes k left r first high))
 
   -- a formatting whose sizes go together: with the line low it starts nothing but reads
   pub format-heard : sizedFor s d ≡ true → (state : State) → HeardFrom s from (formatRun s d n state .progress)

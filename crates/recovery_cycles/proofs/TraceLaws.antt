@@ -32,6 +32,9 @@ use Rattle.format.specs.Format.{formatRun}
 use Rattle.format_laws.specs.Formatting.{readsDone}
 use Rattle.format_laws.proofs.FormattingLaws.{format-keeps}
 use Rattle.write_changes.specs.Changes.{Update, changeCall, changeFirst}
+use Rattle.fill_cursor.specs.declared.Running.{Running}
+use Rattle.fill_driver.specs.Driver.{ran}
+use Rattle.fill_laws.proofs.KeepLaws.{ran-keeps}
 use Rattle.write_changes.proofs.KeepLaws.{call-keeps}
 use Rattle.damage.proofs.ReplayLaws.{Leads, leads-first, leads-kept, leads-status}
 use Rattle.recovery_cycles.specs.Starts.{Start, failsNext, startsIn, kindOf, Traced, TracedFrom}
@@ -245,7 +248,7 @@ module _ (s : Setting) (d : Device) (n : ℕ) where
   begun = (leads-first s (callLine d n), tt)
 
   -- the status read that a write or an erase begins with
-  first-traced : Leads s from (changeFirst s d n) × TracedFrom s from (changeFirst s d n)
+  pub first-traced : Leads s from (changeFirst s d n) × TracedFrom s from (changeFirst s d n)
   unfolding statusOn isPassed Traced
   first-traced = (
     leads-status s from (progress (callLine d n) Passed [] []) (begun .0),
@@ -254,6 +257,10 @@ module _ (s : Setting) (d : Device) (n : ℕ) where
 
   pub change-traced : (st : State) (u : Update) → TracedFrom s from (changeCall s d n st u .progress)
   change-traced st u = call-keeps s _ (traced-kept s from) d n st u first-traced .1
+
+  -- a run of the open write
+  pub advance-traced : (bytes : List ℕ) (k left : ℕ) (r : Running) → TracedFrom s from (ran s bytes k left r (progress (callLine d n) Passed [] []) .progress)
+  advance-traced bytes k left r = ran-keeps s _ (traced-kept s from) bytes k left r (progress (callLine d n) Passed [] []) begun .1
 
   -- the one after the page reads of a formatting
   status-traced : (p : Progress) → (isPassed (p .outcome) ≡ true → p .line .chip .interface .failed ≡ 0) → Leads s from p × TracedFrom s from p → Leads s from (statusOn s p) × TracedFrom s from (statusOn s p)

@@ -6,8 +6,8 @@ use mathlib.Core.Path.{_≡_}
 use Rattle.geometry.specs.declared.Geometry.{Geometry}
 use Rattle.chip_interface.specs.Interface.{fateWord, busyOf}
 use Rattle.chip_array.specs.Device.{Device, Setting}
-use Rattle.request.specs.Call.{Result, Performed, resultOf, sentIn}
-use Rattle.recovery.specs.Calls.{Call, toMount, toRead, toWrite, toErase, toIdentify, Store, settingOf, runOf}
+use Rattle.chip.specs.Chip.{Cycle}
+use Rattle.recovery.specs.Calls.{Call, toMount, toRead, toWrite, toErase, toIdentify, toOpen, toAdvance, LineKept, Store, settingOf, answerOf, cyclesOf}
 use Rattle.recovery_proof.specs.Sent.{lentFor, chipFor}
 use Rattle.recovery_cycles.specs.Starts.{Start, startsIn}
 
@@ -21,10 +21,10 @@ SlowLast fates [] = ⊥
 SlowLast fates (t ∷ []) = 256 ≤ busyReads fates t
 SlowLast fates (t ∷ u ∷ ts) = SlowLast fates (u ∷ ts)
 
--- a request that begins on chip d is answered 10 exactly there, unless it is cut (11) before the 256th of them
-abbrev pub SilentExactly : Setting → Device → Performed Result → Type 0
-SilentExactly s d r =
-    (resultOf r .answer ≡ 10) ↔ (SlowLast (s .fates) (startsIn s d (sentIn r)) × (resultOf r .answer ≡ 11 → ⊥))
+-- a request that begins on chip d, is answered so and sends these cycles is answered 10 exactly there, unless it is cut (11) before the 256th of them
+abbrev pub SilentExactly : Setting → Device → ℕ → List Cycle → Type 0
+SilentExactly s d answer cycles =
+    (answer ≡ 10) ↔ (SlowLast (s .fates) (startsIn s d cycles) × (answer ≡ 11 → ⊥))
 
 -- every call but the one that asks the chip for its size, which starts no array operation
 abbrev pub OfArray : Call → Type 0
@@ -33,6 +33,9 @@ OfArray (toRead a logical page buffer) = Unit {0}
 OfArray (toWrite a logical page bytes) = Unit {0}
 OfArray (toErase a logical) = Unit {0}
 OfArray (toIdentify a parameters logical) = ⊥
+OfArray (toOpen a logical page bytes) = Unit {0}
+OfArray (toAdvance a most) = Unit {0}
 
 abbrev pub SilentCalls : Geometry → Store → Type 0
-SilentCalls g y = (c : Call) → OfArray c → SilentExactly (settingOf g (lentFor c)) (chipFor c y) (runOf g c y)
+SilentCalls g y =
+    (c : Call) → OfArray c → LineKept c y → SilentExactly (settingOf g (lentFor c)) (chipFor c y) (answerOf g c y) (cyclesOf g c y)

@@ -1,9 +1,8 @@
 -- The 10h and D0h cycles that a call sends after a list of calls, and the blocks that they name.
 use Prim.Native.Nat.{ℕ, _<_}
 use mathlib.Core.Bool.{Bool, true, false, cond}
-use mathlib.Core.List.{List, [], _∷_, _++_}
+use mathlib.Core.List.{List, _∷_, _++_}
 use mathlib.Core.Path.{_≡_}
-use lib.Dec.{eqb}
 use Rattle.geometry.specs.declared.Geometry.{Geometry}
 use Rattle.chip_array.specs.Device.{Device, Setting, blockAt}
 use Rattle.chip.specs.Chip.{Cycle}
@@ -13,7 +12,7 @@ use Rattle.copies.specs.Blocks.{blockIn}
 use Rattle.copies.specs.Current.{currentTable}
 use Rattle.copies.specs.Pick.{at}
 use Rattle.copies.specs.Table.{lists}
-use Rattle.recovery.specs.Calls.{Call, Typed, Store, settingOf, cyclesOf, traceOf}
+use Rattle.recovery.specs.Calls.{Call, LineKept, Callable, Store, settingOf, cyclesOf, traceOf}
 use Rattle.recovery_proof.specs.Sent.{lentFor, chipFor}
 use Rattle.damage.specs.Run.{failedIn}
 use Rattle.recovery_cycles.specs.Starts.{Start, startsIn, failedRead, Changes, TracesEach, Modifies}
@@ -46,17 +45,17 @@ startsOf g c y = startsIn (settingOf g (lentFor c)) (chipFor c y) (cyclesOf g c 
 -- each 10h and each D0h cycle of every further call has its operation in the call's trace
 abbrev pub TracesCycles : Geometry → Store → Type 0
 TracesCycles g y =
-    (c : Call) → Typed c → TracesEach (settingOf g (lentFor c)) (chipFor c y) (cyclesOf g c y) (traceOf g c y)
+    (c : Call) → Callable c y → TracesEach (settingOf g (lentFor c)) (chipFor c y) (cyclesOf g c y) (traceOf g c y)
 
 -- and spares bad blocks
 abbrev pub SparesCycles : Geometry → Store → Type 0
 SparesCycles g y =
-    (c : Call) → Typed c → SparesEach (settingOf g (lentFor c)) (y .marked) (y .failed) (chipFor c y) (cyclesOf g c y)
+    (c : Call) → Callable c y → SparesEach (settingOf g (lentFor c)) (y .marked) (y .failed) (chipFor c y) (cyclesOf g c y)
 
 -- the blocks that fail in the trace of a further call are those for which it reads E1h
 abbrev pub FailsRead : Geometry → Store → Type 0
-FailsRead g y = (c : Call) → Typed c → (b : ℕ) → failedIn b (traceOf g c y) ≡ failedRead g b (startsOf g c y)
+FailsRead g y = (c : Call) → Callable c y → (b : ℕ) → failedIn b (traceOf g c y) ≡ failedRead g b (startsOf g c y)
 
 -- a further call with the write-protect line low sends none of them
 abbrev pub ProtectedSends : Geometry → Store → Type 0
-ProtectedSends g y = (c : Call) → (lentFor c .protected ≡ 0 → ⊥) → OnlyReads (cyclesOf g c y)
+ProtectedSends g y = (c : Call) → LineKept c y → (lentFor c .protected ≡ 0 → ⊥) → OnlyReads (cyclesOf g c y)

@@ -8,7 +8,8 @@ use mathlib.Core.Path.{_≡_, refl, sym, ap, subst, _∙_}
 use native.Mathlib.Omega.{arith}
 use borrow.Author.Tests.{eq-eqb}
 use lib.Count.{ones}
-use lib.ListN.{getD, replicate}
+use lib.Dec.{eqb}
+use lib.ListN.{length, getD, replicate, length-replicate}
 use Rattle.geometry.specs.declared.Geometry.{Geometry}
 use Rattle.bools.proofs.BoolLaws.{clash}
 use Rattle.cells.specs.Bytes.{Bytes}
@@ -39,7 +40,7 @@ use Rattle.state.specs.State.{blank, mounted, copyBits}
 use Rattle.state.specs.declared.State.{State}
 use Rattle.progress.specs.Progress.{readOn, resetOn, statusOn}
 use Rattle.progress.specs.Steps.{eraseOn, programOn}
-use Rattle.request.specs.Call.{Result, result, resultOf, startedIn, sized, stopAnswer, endAt, statusAnswer, statusState}
+use Rattle.request.specs.Call.{Result, result, resultOf, startedIn, sized, sizedFor, stopAnswer, statusAnswer, statusState}
 use Rattle.request_refusals.specs.Refusals.{refusal, refusalOf}
 use Rattle.scan_block.specs.Pages.{pagesRead}
 use Rattle.scan_summary.specs.declared.Depth.{Depth}
@@ -47,20 +48,26 @@ use Rattle.scan_summary.specs.declared.Depth.the-variants.{Full, Quick}
 use Rattle.scan_quick.specs.BlockRead.{blockRead}
 use Rattle.scan.specs.Scan.{blocksRead}
 use Rattle.fill.specs.Fill.{mainOf, mainRead, pageFilled, pagesFilled, tableMain, dataSource, isGiven}
-use Rattle.fill_tables.specs.Tables.{Tabled, afterFill, tryBlock, tryTable, tablesFilled, afterStatus}
-use Rattle.write_changes.specs.Changes.{writeUpdate, afterTry, copyTried, copiesFilled, thenTable, changeCall, writeRequest}
+use Rattle.fill_tables.specs.Tables.{Tabled, endOfRun, afterFill, tryBlock, tryTable, tablesFilled, afterStatus}
+use Rattle.write_changes.specs.Changes.{writeUpdate, afterTry, copyTried, copiesFilled, thenTable, changeCall}
 use Rattle.format_erase.specs.Round.{afterErase, blockErased, failedAt, joined, numbersAt, erasedTo}
 use Rattle.format_scan.specs.Survey.{listBits, unionTo, passedOver}
-use Rattle.format.specs.Format.{firstState, tooFew, afterLate, lateRun, tablesRun, roundRun, readsRun, formatRequest, statusRun}
+use Rattle.format.specs.Format.{firstState, tooFew, afterLate, lateRun, tablesRun, roundRun, readsRun, formatRequest, formatting, statusRun}
 use Rattle.format_laws.specs.Formatting.{Acknowledged}
 use Rattle.format_laws.proofs.FormattingLaws.{format-acknowledged}
 use Rattle.damage.specs.Run.{failedIn, scanMost}
 use Rattle.mount_laws.specs.Mounting.{mountMost}
 use Rattle.recovery.specs.Book.{Change, write, entered, Note, note, Account, account, blankBook, blankAccount, changed, fed}
 use Rattle.recovery.specs.Copy.{isDataProgram, sentPage, sentPages, hasCopy}
+use Rattle.open_write.specs.Open.{OpenState, openState, noWrite, closed, keptBytes, isOpened, openFits}
+use Rattle.open_write.specs.Requests.{OpenResult, stops, openRefusal, openFormatRequest}
 use Rattle.recovery.specs.Calls as calls
-use Rattle.recovery.specs.Calls.{Lent, toWrite, Event, called, powerLost, AllPossible, Store, store, underWay, settingOf, mountOn, copyOfNote, failedAfter, failedNext, step, unpowered, after, formatOn, chipOf}
+use Rattle.recovery.specs.Calls.{Lent, toWrite, Event, called, powerLost, AllPossible, Store, store, stateOf, underWay, settingOf, mountOn, copyOfNote, failedAfter, step, unpowered, after, formatOn}
 use Rattle.recovery.specs.Recovery.{readingBy, Unaffected, none-under-way, no-copy, no-byte}
+use Rattle.recovery_write.specs.Changed.{updateOf}
+use Rattle.recovery_proof.proofs.OpenLaws.{admitted-so}
+use Rattle.recovery_proof.proofs.StartLaws.{begun-is}
+use Rattle.recovery_proof.proofs.ChangeSteps.{afterChange, write-goes}
 use Rattle.recovery_proof.proofs.RecoveryLaws.{recovers}
 use Rattle.recovery_proof.proofs.AnswerLaws.{comes-back}
 
@@ -87,7 +94,7 @@ chip =
     device (record { phase = 1; count = 5; address = 196608; first = 0; column = 48; operation = 2; busy = 0; failed = 0; loaded = 0; fate = 0; illegal = 0; protected = 0 })
     (tablePages 0 ++ (tablePages 1 ++ (tablePages 2 ++ (tablePages 3 ++ replicate 576 255)))) (tablePages 3) (4 ∷ 0 ∷ 0 ∷ 0 ∷ [])
 
-format-is : formatOn small (lent 10000) erased (blank 0) ≡ result 0 state chip 1196
+format-is : formatting (settingOf small (lent 10000)) erased 10000 (blank 0) ≡ result 0 state chip 1196
 unfolding ones begun statusMode readMode plainCommand addressFits latched addressed fateWord nextFate started statusByte fitting readStarted programStarted eraseStarted completed isConfirm confirmed confirmable commanded dataTaken dataGiven dataByte finished statusRead exec programmed weakened raised put mayGo cutAfter send byteOut sendAll sent goesOn waiting polls outcomeOf isPassed endedAs readCycles readOutcome putOut readOutputs startedBy readOn statusOn statusEnd afterStatus statusAnswer statusState isProtected resetOn pagesRead blockRead blocksRead sized stopAnswer isSilent isCut bitAt withBit countBits zeroBits numberWidth bytesOf numberOf labelBytes encoded kindOf labelOf allOnes storedCheck countedCheck whole isMarked marksTo afterErase blockErased failedAt erasedTo eraseOn programOn isFailed mainOf mainRead pageFilled pagesFilled tableMain permitted searchAfter countPermitted afterFill tryBlock tryTable tablesFilled firstState tooFew tablesRun roundRun readsRun statusRun table.tablePage isDataKind isTableKind anyTo greatest joined numbersAt greatestBelow greatestTo hasNumber resultOf formatRequest lateRun afterLate copyBits listBits unionTo passedOver carriedBy entryOf currentTable pick better isTable isComplete completeTo agrees
 format-is = refl
 
@@ -121,36 +128,41 @@ bytes-same zero x h i = omega arith
 bytes-same (suc n) x h zero = h
 bytes-same (suc n) x h (suc i) = bytes-same n x h i
 
+-- memory that comes up as zeros, its page kept in 4,096 bytes
+abbrev empty : OpenState
+empty = openState (blank 0) noWrite (replicate 4096 0)
+
+empty-long : length (empty .page) ≡ keptBytes
+empty-long = length-replicate {A = ℕ} 4096 0
+
 -- the list
 abbrev before : Store
-before = calls.begun small (lent 10000) erased (blank 0)
+before = calls.begun small (lent 10000) erased empty
 
 -- power is lost, and memory comes back as zeros
 abbrev list : List Event
-list = called (toWrite (lent 236) 0 0 page) ∷ powerLost (blank 0) (replicate 48 0) ∷ []
+list = called (toWrite (lent 236) 0 0 page) ∷ powerLost empty (replicate 48 0) ∷ []
 
 abbrev stored : Store
 stored = after small list before
 
--- what a write that is not refused leaves, and the loss of power after it
-abbrev afterCut : Geometry → Store → Change → Result → List ArrayOperation → Store
-afterCut g y c r os =
-    store (r .state) (r .chip) (fed g (changed c (r .answer) os) (y .account)) (y .marked) (failedAfter (y .failed) os)
+-- nothing is mounted, so the formatting is not barred
+unbarred : (fits : Bool) → eqb (openRefusal small fits empty (isOpened empty)) 15 ≡ false
+unfolding openRefusal mounted
+unbarred true = refl
+unbarred false = refl
 
-write-steps : (g : Geometry) (a : Lent) (l p : ℕ) (bytes : List ℕ) (y : Store) → refusalOf (settingOf g a) (chipOf a (y .chip)) (y .state) l p bytes ≡ 0
-    → let t = changeCall (settingOf g a) (chipOf a (y .chip)) (a .allowed) (y .state) (writeUpdate (y .state) l p bytes) in
-    step g (toWrite a l p bytes) y ≡ afterCut g y (write l p bytes) (endAt (a .allowed) (t .answer) (t .state) (t .progress .line)) (t .progress .started)
-unfolding resultOf startedIn step writeRequest failedNext
-write-steps g a l p bytes y z = rw (eq-eqb (refusalOf (settingOf g a) (chipOf a (y .chip)) (y .state) l p bytes) 0 z, calls.answerOf)
+format-done : formatOn small (lent 10000) erased empty .answer ≡ 0
+unfolding resultOf openFormatRequest
+format-done = rw (unbarred (sizedFor (settingOf small (lent 10000)) erased)) (ap (λ (r : Result). r .answer) format-is)
 
-format-done : formatOn small (lent 10000) erased (blank 0) .answer ≡ 0
-format-done = ap (λ (r : Result). r .answer) format-is
+acknowledged : Acknowledged (settingOf small (lent 10000)) (result 0 state chip 1196)
+acknowledged =
+    subst (Acknowledged (settingOf small (lent 10000))) format-is (format-acknowledged (settingOf small (lent 10000)) erased 10000 (blank 0) (bytes-same 192 255 (omega arith)) (bytes-same 768 255 (omega arith)) (ap (λ (r : Result). r .answer) format-is))
 
 unrefused : refusalOf (settingOf small (lent 236)) chip state 0 0 page ≡ 0
 unfolding refusal
-unrefused =
-    let a = subst (Acknowledged (settingOf small (lent 10000))) format-is (format-acknowledged (settingOf small (lent 10000)) erased 10000 (blank 0) (bytes-same 192 255 (omega arith)) (bytes-same 768 255 (omega arith)) format-done) in
-    rw (a .still-sized, a .counts-mounted)
+unrefused = rw (acknowledged .still-sized, acknowledged .counts-mounted)
 
 abbrev marks : ℕ → Bool
 marks b = isMarked small (blockIn small (erased .array) b)
@@ -159,16 +171,33 @@ abbrev fails : ℕ → Bool
 fails b = failedIn b (startedIn (formatRequest (settingOf small (lent 10000)) erased 10000 (blank 0)))
 
 abbrev start : Store
-start = store state chip (blankAccount small) marks fails
+start = store (closed state empty) chip (blankAccount small) marks fails
 
-begun-is : before ≡ start
-unfolding calls.begun
-begun-is = ap (λ (r : Result). store (r .state) (r .chip) (blankAccount small) marks fails) format-is
+begun-so : before ≡ start
+begun-so =
+    begun-is small (lent 10000) erased empty (bytes-same 192 255 (omega arith)) (bytes-same 768 255 (omega arith)) empty-long format-done
+    ∙ ap (λ (r : Result). store (closed (r .state) empty) (r .chip) (blankAccount small) marks fails) format-is
 
-stored-is : stored ≡ unpowered (blank 0) (replicate 48 0) (afterCut small start (write 0 0 page) (endAt 234 (cut .answer) (cut .state) (cut .progress .line)) (cut .progress .started))
+admitted : openRefusal small (sizedFor (settingOf small (lent 236)) chip) (stateOf start) (isOpened (stateOf start)) ≡ 0
+unfolding openFits
+admitted =
+    let long : length (start .page) ≡ keptBytes = length-replicate {A = ℕ} (length (empty .page)) 0 ∙ empty-long in
+    admitted-so small (sizedFor (settingOf small (lent 236)) chip) (stateOf start) (isOpened (stateOf start)) (acknowledged .still-sized) (rw (acknowledged .counts-mounted, eq-eqb (length (start .page)) keptBytes long)) refl
+
+-- what the cut write leaves: nothing is open, and then power is lost
+abbrev afterCut : Store
+afterCut =
+    store (closed (cut .state) (stateOf start)) (cut .progress .line .chip) (fed small (changed (write 0 0 page) (cut .answer) (cut .progress .started)) (blankAccount small)) marks (failedAfter fails (cut .progress .started))
+
+write-steps : step small (toWrite (lent 236) 0 0 page) start ≡ afterCut
+unfolding stops updateOf
+write-steps =
+    write-goes small start (lent 236) 0 0 page (eq-eqb _ 0 admitted) (eq-eqb _ 0 unrefused) .1
+    ∙ ap (λ (k : ℕ). afterChange (stops k) small start (write 0 0 page) (endOfRun 236 cut) (cut .progress .started)) cut-answer
+
+stored-is : stored ≡ unpowered empty (replicate 48 0) afterCut
 unfolding after
-stored-is =
-    ap (unpowered (blank 0) (replicate 48 0)) (ap (step small (toWrite (lent 236) 0 0 page)) begun-is ∙ write-steps small (lent 236) 0 0 page start unrefused)
+stored-is = ap (unpowered empty (replicate 48 0)) (ap (step small (toWrite (lent 236) 0 0 page)) begun-so ∙ write-steps)
 
 -- a request answered 11 is noted, and no page changes
 fed-cut : (c : Change) (k : ℕ) (os : List ArrayOperation) → k ≡ 11 → fed small (changed c k os) (blankAccount small) ≡ account (blankBook small) (some (note c os))
@@ -214,12 +243,12 @@ shows (no-byte t e same) =
     absurd (omega (arith, ap (λ (x : List ℕ). getD x 0 0) here))
 
 -- a mount, full or quick, heard and not cut, reads the new page
-abbrev mount : Depth → Result
+abbrev mount : Depth → OpenResult
 mount depth = mountOn depth small (lent 10000) stored
 
-possible : AllPossible small list
+possible : AllPossible small list before
 unfolding AllPossible mounted
-possible = ((bytes-same 192 255 (omega arith), bytes-same 32 165 (omega arith)), ((refl, refl), tt))
+possible = (((bytes-same 192 255 (omega arith), bytes-same 32 165 (omega arith)), tt), ((refl, empty-long, refl), tt))
 
 few : (depth : Depth) → mountMost depth small < 10000
 unfolding scanMost
@@ -228,12 +257,12 @@ few Quick = omega arith
 
 mount-done : (depth : Depth) → mount depth .answer ≡ 0
 mount-done depth =
-    comes-back small (lent 10000) erased (blank 0) (bytes-same 192 255 (omega arith)) (bytes-same 768 255 (omega arith)) format-done list possible depth (lent 10000) refl (λ slow. omega (arith, slow .within)) (few depth)
+    comes-back small (lent 10000) erased empty (bytes-same 192 255 (omega arith)) (bytes-same 768 255 (omega arith)) empty-long format-done list possible depth (lent 10000) refl (λ slow. omega (arith, slow .within)) (few depth)
 
 pub mount-reads : (depth : Depth) → readingBy small (mount depth) 0 0 ≡ page
 unfolding entered
 mount-reads depth =
     let done = mount-done depth in
-    let r = recovers small (lent 10000) erased (blank 0) (bytes-same 192 255 (omega arith)) (bytes-same 768 255 (omega arith)) format-done list possible depth (lent 10000)
+    let r = recovers small (lent 10000) erased empty (bytes-same 192 255 (omega arith)) (bytes-same 768 255 (omega arith)) empty-long format-done list possible depth (lent 10000)
     (λ e. omega (arith, e, done)) (λ e. omega (arith, e, done)) (λ e. omega (arith, e, done)) in
     r .otherwise (note (write 0 0 page) (cut .progress .started)) noted shows 0 0 (omega arith) (omega arith)

@@ -14,9 +14,10 @@ use Rattle.copies.specs.Pick.{at}
 use Rattle.copies.specs.Table.{lists, withLogical, laidTable}
 use Rattle.state.specs.declared.State.{State}
 use Rattle.recovery_stored.specs.Stored.{Left}
-use Rattle.recovery.specs.Calls.{Lent, Store, formatOn}
+use Rattle.format.specs.Format.{formatting}
+use Rattle.recovery.specs.Calls.{Lent, Store, settingOf, chipOf}
 
--- a formatting for so many logical blocks, with what it is lent and the state that it is handed; or power is lost, and the page register holds
+-- a formatting for so many logical blocks, with what it is lent and the base state that it is handed; or power is lost, and the page register holds
 -- anything
 pub data Again : Type 0 where
   formatted : ℕ → Lent → State → Again
@@ -33,7 +34,7 @@ AllTyped (f ∷ fs) = Typed f × AllTyped fs
 
 -- the chip that each leaves, whatever the answer
 abbrev pub chipAfter : Geometry → Again → Device → Device
-chipAfter g (formatted logical a st) d = formatOn (withLogical logical g) a d st .chip
+chipAfter g (formatted logical a st) d = formatting (settingOf (withLogical logical g) a) (chipOf a d) (a .allowed) st .chip
 chipAfter g (powerLost register) d = device poweredOn (d .array) register (d .history)
 
 unfoldable pub reformatted : Geometry → List Again → Device → Device

@@ -10,21 +10,20 @@ use lib.ListN.{replicate, length-replicate}
 use Rattle.geometry.specs.declared.Geometry.{Geometry}
 use Rattle.geometry.specs.Sizes.{blockSize}
 use Rattle.chip_interface.specs.Interface.{fateWord}
-use Rattle.chip_array.specs.Device.{Setting, setting}
-use Rattle.copies.specs.Current.{reading}
-use Rattle.request.specs.Call.{Result, sizedFor, resultOf}
+use Rattle.chip_array.specs.Device.{Setting}
+use Rattle.request.specs.Call.{sizedFor, resultOf}
 use Rattle.scan_summary.specs.declared.Depth.{Depth}
+use Rattle.mount.specs.Mount.{mounting}
 use Rattle.mount_laws.proofs.MountingLaws.{mount-ends, mount-refused}
-use Rattle.read.proofs.ReadingLaws.{Gives}
-use Rattle.request_laws.specs.Reads.{ReadsAs, MountRead}
-use Rattle.request_laws.proofs.JoinedLaws.{mount-then-read}
+use Rattle.open_write.specs.Requests.{OpenResult, openMountRequest}
 use Rattle.recovery.specs.Book.{Book, Same, Note, Account, entered, settled, fed}
 use Rattle.recovery.specs.Copy.{hasCopy}
 use Rattle.recovery.specs.Calls.{Lent, toMount, Store, underWay, settingOf, mountOn, copyOfNote, mountEntry, chipOf, step}
-use Rattle.recovery.specs.Recovery.{plainRead, readingBy, Unaffected, none-under-way, no-copy, no-byte, Recovered}
+use Rattle.recovery.specs.Recovery.{plainRead, readingBy, shownWith, shown, Unaffected, none-under-way, no-copy, no-byte, Recovered}
+use Rattle.recovery_proof.specs.Acknowledged.{ReadsOpen, ReadsBack, GivesOpen}
 use Rattle.recovery_proof.specs.Invariant.{dueOf, Inv}
 use Rattle.recovery_proof.proofs.InvariantLaws.{due-quiet}
-use Rattle.recovery_proof.proofs.MountSteps.{same-at, fed-done, mount-done, mount-step, mount-mounted}
+use Rattle.recovery_proof.proofs.MountSteps.{fed-done, mount-done, mount-step, mount-quiet, mount-mounted}
 use Rattle.recovery_proof.proofs.ReadSteps.{reads-back}
 
 -- the note of a store, by its cases
@@ -47,7 +46,7 @@ module _ (g : Geometry) (y : Store) (t : Note) (e : underWay y ≡ some t) where
 
 -- a mount that is not answered 1, 10 or 11
 module _ (g : Geometry) (y : Store) (i : Inv g y) (depth : Depth) (a : Lent) (x₁ : mountOn depth g a y .answer ≡ 1 → ⊥) (x₁₀ : mountOn depth g a y .answer ≡ 10 → ⊥) (x₁₁ : mountOn depth g a y .answer ≡ 11 → ⊥) where
-  abbrev r : Result
+  abbrev r : OpenResult
   r = mountOn depth g a y
 
   abbrev s : Setting
@@ -57,34 +56,57 @@ module _ (g : Geometry) (y : Store) (i : Inv g y) (depth : Depth) (a : Lent) (x�
   array = y .chip .array
 
   fits : sizedFor s (chipOf a (y .chip)) ≡ true
+  unfolding resultOf openMountRequest
   fits = cases (sizedFor s (chipOf a (y .chip))) (λ t. t) (λ f. absurd (x₁ (mount-refused depth s (chipOf a (y .chip)) (a .allowed) (y .state) f)))
 
+  base-done : mounting depth s (chipOf a (y .chip)) (a .allowed) (y .state) .answer ≡ 0
+  unfolding resultOf openMountRequest
+  base-done = mount-done g y i depth a fits x₁₀ x₁₁
+
   done : r .answer ≡ 0
-  done = mount-done g y i depth a fits x₁₀ x₁₁
+  unfolding resultOf openMountRequest
+  done = base-done
 
-  joined : MountRead g array r
-  joined = mount-then-read depth s (chipOf a (y .chip)) (a .allowed) (y .state) done
+  same-array : r .chip .array ≡ array
+  unfolding resultOf openMountRequest
+  same-array = mount-ends depth s (chipOf a (y .chip)) (a .allowed) fits (y .state) .same-array
 
-  -- a read that is uncut and not silent
-  abbrev plainSetting : Setting
-  plainSetting = setting g (replicate (blockSize g) 0) []
+  -- the store that it leaves
+  abbrev z : Store
+  z = step g (toMount depth a) y
 
-  plain : (l p : ℕ) → l < g .logical → p < g .pages → ReadsAs plainSetting (r .chip) 4294967295 (r .state) (reading g array (r .state .table) l p) (plainRead g r l p)
-  plain l p h k =
-      joined .reads (replicate (blockSize g) 0) [] 4294967295 l p (replicate (g .main) 0) (length-replicate (blockSize g) 0) h k (length-replicate (g .main) 0)
+  back : ReadsBack g z
+  back = reads-back g z (mount-step g y i depth a) (mount-mounted g y i depth a base-done)
 
-  plain-gives : (l p : ℕ) → (h : l < g .logical) → (k : p < g .pages) → Gives plainSetting (r .chip) (r .state) (reading g array (r .state .table) l p) (plainRead g r l p)
+  -- what is shown there is its book
+  shown-book : (l p : ℕ) → shown g z l p ≡ fed g (mountEntry g y r) (y .account) .book l p
+  unfolding step shownWith
+  shown-book l p = ap (λ (o : Option Note). shownWith g o (fed g (mountEntry g y r) (y .account) .book) l p) (mount-quiet g y i depth a base-done)
+
+  -- a call that is uncut and not silent, with the line as the mount found it
+  abbrev plainly : Lent
+  plainly = record { mask = replicate (blockSize g) 0; fates = []; allowed = 4294967295; protected = r .chip .interface .protected }
+
+  plain : (l p : ℕ) → l < g .logical → p < g .pages → ReadsOpen (settingOf g plainly) (r .chip) 4294967295 (r .state) (shown g z l p) (plainRead g r l p)
+  unfolding step
+  plain l p h k = back plainly l p (replicate (g .main) 0) (length-replicate (blockSize g) 0) h k (length-replicate (g .main) 0)
+
+  plain-gives : (l p : ℕ) → l < g .logical → p < g .pages → GivesOpen (settingOf g plainly) (r .chip) (r .state) (shown g z l p) (plainRead g r l p)
   unfolding fateWord
   plain-gives l p h k =
       let q = plain l p h k in
       q .gives (λ e. omega (arith, q .silent-by e)) (λ e. omega (arith, q .cut-at e, q .sent-most, i .stored .is-valid .main-most))
 
+  -- the book that it leaves
+  leaves-due : Same g (readingBy g r) (fed g (mountEntry g y r) (y .account) .book)
+  leaves-due l p h k = plain-gives l p h k .bytes-are ∙ shown-book l p
+
   -- the mount's reading is the book that is due
   reads-due : Same g (readingBy g r) (dueOf g array (y .account))
   reads-due l p h k =
-      plain-gives l p h k .bytes-are
-      ∙ ap (λ (t : ℕ). reading g array t l p) (same-at (sym (joined .table-is) ∙ i .table-is))
-      ∙ i .reads l p h k
+      leaves-due l p h k
+      ∙ ap (λ (x : Account). x .book l p) (fed-done g (r .answer) (copyOfNote g (r .chip .array) (underWay y)) (y .account) done)
+      ∙ ap (λ (x : List ℕ). dueOf g x (y .account) l p) same-array
 
   due-is : {b : Book} → dueOf g array (y .account) ≡ b → Same g (readingBy g r) b
   due-is {b} e l p h k = reads-due l p h k ∙ ap (λ (x : Book). x l p) e
@@ -109,15 +131,8 @@ module _ (g : Geometry) (y : Store) (i : Inv g y) (depth : Depth) (a : Lent) (x�
   affected t e x =
       cases (hasCopy g array (t .started)) (λ c. due-is (due-entered g y t e c)) (λ c. absurd (x (no-copy t e c)))
 
-  -- and the book that it leaves
-  leaves-due : Same g (readingBy g r) (fed g (mountEntry g y r) (y .account) .book)
-  leaves-due =
-      due-is
-      (ap (λ (x : List ℕ). dueOf g x (y .account)) (sym (mount-ends depth s (chipOf a (y .chip)) (a .allowed) fits (y .state) .same-array))
-      ∙ sym (ap (λ (x : Account). x .book) (fed-done g (r .answer) (copyOfNote g (r .chip .array) (underWay y)) (y .account) done)))
-
   pub inv-recovered : Recovered g y r
-  unfolding step resultOf
+  unfolding step
   inv-recovered =
       record {
         done = done;
@@ -126,6 +141,6 @@ module _ (g : Geometry) (y : Store) (i : Inv g y) (depth : Depth) (a : Lent) (x�
         otherwise = affected;
         leaves = leaves-due;
         any-read = λ b l p buffer h k mask-long buffer-long x x'.
-            let gives = reads-back g (step g (toMount depth a) y) (mount-step g y i depth a) (mount-mounted g y i depth a done) b l p buffer mask-long h k buffer-long .gives x x' in
-            (gives .done, gives .bytes-are ∙ sym (leaves-due l p h k));
+            let gives = back b l p buffer mask-long h k buffer-long .gives x x' in
+            (gives .done, gives .bytes-are ∙ shown-book l p ∙ sym (leaves-due l p h k));
       }

@@ -1,98 +1,79 @@
 -- After every list on a chip of bytes each write and erase that is not refused ends as on any chip. Assumes nothing.
 use Prim.Native.Nat.{ℕ}
-use mathlib.Core.Bool.{true, false}
+use mathlib.Core.Bool.{true}
 use mathlib.Core.List.{List, [], _∷_}
-use mathlib.Core.Path.{_≡_, sym, ap, subst, _∙_}
-use native.Mathlib.Omega.{arith}
-use borrow.Table.Steps.{cases}
-use lib.Dec.{eqb}
+use mathlib.Core.Logic.{⊎-elim}
+use mathlib.Core.Path.{_≡_, refl, sym, ap, subst, _∙_}
+use borrow.Author.Tests.{eq-eqb}
 use lib.ListN.{length}
 use Rattle.geometry.specs.declared.Geometry.{Geometry}
 use Rattle.cells.specs.Bytes.{Bytes}
 use Rattle.chip_array.specs.Device.{Device, Setting}
 use Rattle.chip.specs.Chip.{Cycle}
 use Rattle.chip_laws.proofs.ByteLaws.{run-bytes}
-use Rattle.bus.specs.Line.{run}
-use Rattle.state.specs.declared.State.{State}
-use Rattle.request.specs.Call.{Result, result, callLine, sizedFor, resultOf}
-use Rattle.request_refusals.specs.Refusals.{refusalOf}
-use Rattle.request_refusals.proofs.RefusalLaws.{accepts}
-use Rattle.scan_summary.specs.declared.Depth.{Depth}
-use Rattle.mount.specs.Mount.{mountRequest, mounting}
-use Rattle.mount_laws.proofs.MountingLaws.{mount-ends}
+use Rattle.request.specs.Call.{callLine, sizedFor, resultOf}
 use Rattle.mount_laws.proofs.StateLaws.{map-long}
-use Rattle.format_laws.proofs.FormattingLaws.{format-ends, format-refused}
-use Rattle.request_laws.proofs.UnreadyLaws.{read-array-kept}
-use Rattle.write_changes.specs.Changes.{Update, writeUpdate, eraseUpdate, changing, writeRequest, writing, eraseRefusal, eraseRequest, erasingLogical}
+use Rattle.format_laws.proofs.FormattingLaws.{format-ends}
+use Rattle.open_write.specs.Open.{OpenState, keptBytes, isOpened}
+use Rattle.open_write.specs.Requests.{openWriteRequest, openEraseRequest}
 use Rattle.write_laws.specs.Changing.{InRange}
 use Rattle.write_laws.proofs.ChangingLaws.{write-ends, erase-ends}
 use Rattle.recovery_stored.proofs.KnowsLaws.{knows-bits}
-use Rattle.recovery.specs.Calls.{Lent, Call, toMount, toRead, toWrite, toErase, toIdentify, Typed, Event, called, powerLost, Possible, AllPossible, Store, settingOf, formatOn, step, unpowered, happens, after, begun, chipOf}
+use Rattle.recovery.specs.Calls.{Lent, Call, toMount, toRead, toWrite, toErase, toIdentify, toOpen, toAdvance, Callable, Event, called, powerLost, Possible, AllPossible, Store, stateOf, settingOf, formatOn, step, unpowered, happens, after, begun, chipOf}
 use Rattle.recovery_proof.specs.Invariant.{Up, Inv}
 use Rattle.recovery.specs.Recovery.{Always}
+use Rattle.recovery_proof.specs.Sent.{Sends}
+use Rattle.recovery_proof.specs.Protected.{Unbarred}
 use Rattle.recovery_proof.specs.Told.{WritesTold, ErasesTold}
-use Rattle.recovery_proof.proofs.IdentifySteps.{identify-array}
+use Rattle.recovery_proof.proofs.IdentifySteps.{array-kept}
 use Rattle.recovery_proof.proofs.InvariantLaws.{is-up}
-use Rattle.recovery_proof.proofs.SizeLaws.{change-leads}
-use Rattle.recovery_proof.proofs.RecoveryLaws.{always}
+use Rattle.recovery_proof.proofs.OpenLaws.{admits}
+use Rattle.recovery_proof.proofs.ChangeSteps.{shut-so}
+use Rattle.recovery_proof.proofs.StartLaws.{fits, begun-is, start-inv}
+use Rattle.recovery_proof.proofs.SentLaws.{calls-sent}
+use Rattle.recovery_proof.proofs.RecoveryLaws.{always, event-inv}
 
-mount-unchanged : (depth : Depth) (s : Setting) (d : Device) (n : ℕ) (st : State) → sizedFor s d ≡ false → mounting depth s d n st ≡ result 1 st d 0
-unfolding resultOf mountRequest
-mount-unchanged depth s d n st f = rw f
+-- the array stays bytes: cycles change it as programs and erases do
+sent-bytes : (s : Setting) → Bytes (s .mask) → (d : Device) (n : ℕ) (cs : List Cycle) (left : Device) (sent : ℕ) → Sends s d n cs left sent → Bytes (d .array) → Bytes (left .array)
+sent-bytes s mask-bytes d n cs left sent w h =
+    ⊎-elim
+    (λ e. subst (λ (x : Device). Bytes (x .array)) (sym (e .1)) h)
+    (λ r. subst (λ (x : Device). Bytes (x .array)) (r .leads) (run-bytes s mask-bytes (callLine d n .chip) cs h))
+    (w .leads)
 
--- the array stays bytes: mounts and reads leave it, the cycles of other requests change it as programs and erases do
-module _ (s : Setting) (d : Device) (n : ℕ) (st : State) (h : Bytes (d .array)) where
-  mount-bytes : (depth : Depth) → Bytes (mounting depth s d n st .chip .array)
-  mount-bytes depth =
-      cases (sizedFor s d)
-      (λ t. subst Bytes (sym (mount-ends depth s d n t st .same-array)) h)
-      (λ f. subst (λ (x : Device). Bytes (x .array)) (sym (unchanged f)) h)
-    where
-      unchanged : sizedFor s d ≡ false → mounting depth s d n st .chip ≡ d
-      unchanged f = ap (λ (x : Result). x .chip) (mount-unchanged depth s d n st f)
+step-bytes : (g : Geometry) (c : Call) (y : Store) → Callable c y → Inv g y → Bytes (y .chip .array) → Bytes (step g c y .chip .array)
+unfolding step
+step-bytes g (toMount depth a) y t i h =
+    sent-bytes (settingOf g a) (t .0) _ _ _ _ _ (calls-sent g y i (toMount depth a) t) h
+step-bytes g (toRead a logical page buffer) y t i h =
+    sent-bytes (settingOf g a) (t .0) _ _ _ _ _ (calls-sent g y i (toRead a logical page buffer) t) h
+step-bytes g (toWrite a logical page bytes) y t i h =
+    sent-bytes (settingOf g a) (t .0 .0) _ _ _ _ _ (calls-sent g y i (toWrite a logical page bytes) t) h
+step-bytes g (toErase a logical) y t i h =
+    sent-bytes (settingOf g a) (t .0) _ _ _ _ _ (calls-sent g y i (toErase a logical) t) h
+step-bytes g (toIdentify a parameters logical) y t i h = subst Bytes (sym (array-kept g y a parameters logical)) h
+step-bytes g (toOpen a logical page bytes) y t i h =
+    sent-bytes (settingOf g a) (t .0 .0) _ _ _ _ _ (calls-sent g y i (toOpen a logical page bytes) t) h
+step-bytes g (toAdvance a most) y t i h =
+    sent-bytes (settingOf g a) (t .0) _ _ _ _ _ (calls-sent g y i (toAdvance a most) t) h
 
-  module _ (mask-bytes : Bytes (s .mask)) where
-    run-kept : (cs : List Cycle) (e : Device) → run s (callLine d n .chip) cs ≡ e → Bytes (e .array)
-    run-kept cs e leads = subst (λ (x : Device). Bytes (x .array)) leads (run-bytes s mask-bytes (callLine d n .chip) cs h)
-
-    change-bytes : (u : Update) → Bytes (changing s d n st u .chip .array)
-    change-bytes u = run-kept _ _ (change-leads s d n st u)
-
-    write-bytes : (logical page : ℕ) (bytes : List ℕ) → Bytes (writing s d n st logical page bytes .chip .array)
-    unfolding resultOf writeRequest
-    write-bytes logical page bytes =
-        cases (eqb (refusalOf s d st logical page bytes) 0) (λ t. rw t (change-bytes (writeUpdate st logical page bytes))) (λ f. rw f h)
-
-    erase-bytes : (logical : ℕ) → Bytes (erasingLogical s d n st logical .chip .array)
-    unfolding resultOf eraseRequest
-    erase-bytes logical = cases (eqb (eraseRefusal s d st logical) 0) (λ t. rw t (change-bytes (eraseUpdate logical))) (λ f. rw f h)
-
-step-bytes : (g : Geometry) (c : Call) → Typed c → (y : Store) → Bytes (y .chip .array) → Bytes (step g c y .chip .array)
-unfolding resultOf step
-step-bytes g (toMount depth a) t y h = mount-bytes (settingOf g a) (chipOf a (y .chip)) (a .allowed) (y .state) h depth
-step-bytes g (toRead a logical page buffer) t y h =
-    subst Bytes (sym (read-array-kept (settingOf g a) (chipOf a (y .chip)) (y .state) logical page buffer (a .allowed) .same-array)) h
-step-bytes g (toWrite a logical page bytes) t y h = write-bytes (settingOf g a) (chipOf a (y .chip)) (a .allowed) (y .state) h (t .0) logical page bytes
-step-bytes g (toErase a logical) t y h = erase-bytes (settingOf g a) (chipOf a (y .chip)) (a .allowed) (y .state) h t logical
-step-bytes g (toIdentify a parameters logical) t y h = subst Bytes (sym (identify-array g y a parameters logical)) h
-
-event-bytes : (g : Geometry) (e : Event) → Possible g e → (y : Store) → Bytes (y .chip .array) → Bytes (happens g e y .chip .array)
+event-bytes : (g : Geometry) (e : Event) (y : Store) → Possible g e y → Inv g y → Bytes (y .chip .array) → Bytes (happens g e y .chip .array)
 unfolding unpowered
-event-bytes g (called c) t y h = step-bytes g c t y h
-event-bytes g (powerLost st register) t y h = h
+event-bytes g (called c) y t i h = step-bytes g c y t i h
+event-bytes g (powerLost x register) y t i h = h
 
-after-bytes : (g : Geometry) (es : List Event) → AllPossible g es → (y : Store) → Bytes (y .chip .array) → Bytes (after g es y .chip .array)
+after-bytes : (g : Geometry) (es : List Event) (y : Store) → AllPossible g es y → Inv g y → Bytes (y .chip .array) → Bytes (after g es y .chip .array)
 unfolding after AllPossible
-after-bytes g [] t y h = h
-after-bytes g (e ∷ es) t y h = after-bytes g es (t .1) (happens g e y) (event-bytes g e (t .0) y h)
+after-bytes g [] y t i h = h
+after-bytes g (e ∷ es) y t i h = after-bytes g es (happens g e y) (t .1) (event-inv g e y (t .0) i) (event-bytes g e y (t .0) i h)
 
-begun-bytes : (g : Geometry) (a : Lent) (d : Device) (st : State) → Bytes (a .mask) → Bytes (d .array) → formatOn g a d st .answer ≡ 0 → Bytes (begun g a d st .chip .array)
-unfolding begun
-begun-bytes g a d st mask-bytes h z =
+begun-bytes : (g : Geometry) (a : Lent) (d : Device) (x : OpenState) → Bytes (a .mask) → Bytes (d .array) → length (x .page) ≡ keptBytes → formatOn g a d x .answer ≡ 0 → Bytes (begun g a d x .chip .array)
+begun-bytes g a d x mask-bytes h kept z =
     let s = settingOf g a in
     let e = chipOf a d in
-    let t : sizedFor s e ≡ true = cases (sizedFor s e) (λ t. t) (λ f. absurd (omega (arith, z, format-refused s e (a .allowed) st f))) in
-    run-kept s e (a .allowed) st h mask-bytes _ _ (format-ends s e (a .allowed) mask-bytes h t st .replayed .leads)
+    let t : sizedFor s e ≡ true = fits g a d x mask-bytes h kept z in
+    subst (λ (y : Store). Bytes (y .chip .array)) (sym (begun-is g a d x mask-bytes h kept z))
+    (subst (λ (y : Device). Bytes (y .array)) (format-ends s e (a .allowed) mask-bytes h t (x .state) .replayed .leads) (run-bytes s mask-bytes (callLine e (a .allowed) .chip) _ h))
 
 -- a mounted store is as the types of the code have it
 ranged : (g : Geometry) (y : Store) → Up g y → Bytes (y .chip .array) → (a : Lent) → Bytes (a .mask) → InRange (settingOf g a) (chipOf a (y .chip)) (y .state)
@@ -107,21 +88,30 @@ ranged g y u h a mask-bytes =
     }
 
 pub of-bytes : (P : Geometry → Store → Type 0) → ((g : Geometry) (y : Store) → Inv g y → Bytes (y .chip .array) → P g y) → Always P
-of-bytes P f g a d st mask-bytes h z es t =
-    f g (after g es (begun g a d st)) (always g a d st mask-bytes h z es t) (after-bytes g es t (begun g a d st) (begun-bytes g a d st mask-bytes h z))
+of-bytes P f g a d x mask-bytes h kept z es t =
+    f g (after g es (begun g a d x)) (always g a d x mask-bytes h kept z es t)
+    (after-bytes g es (begun g a d x) t (start-inv g a d x mask-bytes h kept z) (begun-bytes g a d x mask-bytes h kept z))
+
+-- a store that no write is open on
+up-unbarred : (g : Geometry) (a : Lent) (y : Store) → Inv g y → Unbarred g a y → Up g y
+up-unbarred g a y i o =
+    let x = admits g (sizedFor (settingOf g a) (chipOf a (y .chip))) (stateOf y) (isOpened (stateOf y)) o in
+    is-up g y i (x .is-mounted) (shut-so y (x .unbarred))
 
 pub writes-told : Always WritesTold
+unfolding resultOf openWriteRequest
 writes-told =
     of-bytes WritesTold
-    (λ g y i h a logical page bytes m b z.
+    (λ g y i h a logical page bytes m b o z.
     let s = settingOf g a in
-    let u = is-up g y i (accepts g (sizedFor s (chipOf a (y .chip))) (y .state) logical page (length bytes) z .is-mounted) in
-    write-ends s (chipOf a (y .chip)) (a .allowed) (y .state) (ranged g y u h a m) (u .ready) logical page bytes z b)
+    let u = up-unbarred g a y i o in
+    (rw (eq-eqb _ 0 o) refl, write-ends s (chipOf a (y .chip)) (a .allowed) (y .state) (ranged g y u h a m) (u .ready) logical page bytes z b))
 
 pub erases-told : Always ErasesTold
+unfolding resultOf openEraseRequest
 erases-told =
     of-bytes ErasesTold
-    (λ g y i h a logical m z.
+    (λ g y i h a logical m o z.
     let s = settingOf g a in
-    let u = is-up g y i (accepts g (sizedFor s (chipOf a (y .chip))) (y .state) logical 0 (g .main) z .is-mounted) in
-    erase-ends s (chipOf a (y .chip)) (a .allowed) (y .state) (ranged g y u h a m) (u .ready) logical z)
+    let u = up-unbarred g a y i o in
+    (rw (eq-eqb _ 0 o) refl, erase-ends s (chipOf a (y .chip)) (a .allowed) (y .state) (ranged g y u h a m) (u .ready) logical z))

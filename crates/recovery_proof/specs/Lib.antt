@@ -2,5 +2,5 @@ pub mod Invariant
 pub mod Answers
 pub mod Sent
 pub mod Acknowledged
-pub mod Told
 pub mod Protected
+pub mod Told

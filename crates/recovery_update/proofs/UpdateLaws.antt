@@ -3,11 +3,11 @@
 use mathlib.Core.Bool.{true, false}
 use mathlib.Core.Logic.{inr}
 use mathlib.Core.Path.{_≡_, refl, sym, ap}
+use lib.ListN.{length}
 use Rattle.geometry.specs.declared.Geometry.{Geometry}
 use Rattle.chip_array.specs.Device.{Device, lengthsFit}
 use Rattle.copies.specs.Current.{currentTable}
-use Rattle.state.specs.State.{mounted}
-use Rattle.state.specs.declared.State.{State}
+use Rattle.open_write.specs.Open.{OpenState, keptBytes, mountedOpen}
 use Rattle.mount.specs.Mount.{blockOf}
 use Rattle.mount_laws.proofs.StateLaws.{right-table}
 use Rattle.recovery_stored.specs.Stored.{Stored}
@@ -24,24 +24,25 @@ use Rattle.recovery_update.specs.Found.{foundOn, AlwaysFrom, AlwaysUpdat
 use Rattle.recovery_update.proofs.NarrowLaws.{narrow-stored}
 
 -- the invariant holds of a chip as it is found
-found-inv : (g : Geometry) (d : Device) (st : State) → Stored g (d .array) → lengthsFit g d ≡ true → mounted st (g .blocks) (g .logical) ≡ false → Inv g (foundOn g d st)
-found-inv g d st s fits unmounted =
+found-inv : (g : Geometry) (d : Device) (x : OpenState) → Stored g (d .array) → lengthsFit g d ≡ true → mountedOpen g x ≡ false → length (x .page) ≡ keptBytes → Inv g (foundOn g d x)
+found-inv g d x s fits unmounted kept =
     record {
       fits = fits;
+      kept = kept;
       marks = λ b h. refl;
       stored = s;
       table = blockOf (currentTable g (d .array));
       table-is = right-table g (d .array) (s .mounts) .is-current;
-      reads = λ l p h k. sym (ap (λ (b : Book). b l p) (due-quiet g (d .array) (foundOn g d st .account) refl));
-      is = inr unmounted;
+      reads = λ l p h k. sym (ap (λ (b : Book). b l p) (due-quiet g (d .array) (foundOn g d x .account) refl));
+      is = inr (inr unmounted);
     }
 
 module _ (P : Geometry → Store → Type 0) (by : (g : Geometry) (y : Store) → Inv g y → P g y) where
   from-inv : AlwaysFrom P
-  from-inv g d st s fits unmounted es t = by g _ (after-inv g es t (foundOn g d st) (found-inv g d st s fits unmounted))
+  from-inv g d x s fits unmounted kept es t = by g _ (after-inv g es (foundOn g d x) t (found-inv g d x s fits unmounted kept))
 
   updated-inv : AlwaysUpdated P
-  updated-inv g d st s fits unmounted es t = from-inv g d st (narrow-stored g (d .array) (s .0) (s .1)) fits unmounted es t
+  updated-inv g d x s fits unmounted kept es t = from-inv g d x (narrow-stored g (d .array) (s .0) (s .1)) fits unmounted kept es t
 
 pub recovers-from : AlwaysFrom Recovers
 recovers-from = from-inv Recovers inv-recovered

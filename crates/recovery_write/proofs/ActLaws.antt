@@ -15,7 +15,7 @@ use Rattle.cells.specs.Bytes.{Bytes}
 use Rattle.chip_array.specs.Device.{Setting}
 use Rattle.chip.specs.Chip.{Cycle}
 use Rattle.bus.specs.Line.{Line}
-use Rattle.bus_polling.specs.Outcomes.{isPassed, isFailed}
+use Rattle.bus_polling.specs.Outcomes.{isPassed, isFailed, isSilent, isCut}
 use Rattle.bus_polling.specs.declared.Outcome.{Outcome}
 use Rattle.bus_polling.specs.declared.Outcome.the-variants.{Passed}
 use Rattle.bus_polling.proofs.OutcomeLaws.{is-passed, passed-unfailed, failed-unpassed}
@@ -81,6 +81,14 @@ fill-stopped c st o y f = rw (y, f)
 fill-tabled : (c : Cursor) (st : State) (o : Outcome) → c .phase ≡ 1 → isPassed o ≡ true → afterFill c st o ≡ running (ended 0) (withTable (c .block) st)
 unfolding afterFill filledWhole settled
 fill-tabled c st o e y = rw (y, e)
+
+-- an operation that was silent or cut is not answered 13
+stop-unprotected : (o : Outcome) → stopAnswer o ≡ 13 → ⊥
+unfolding stopAnswer
+stop-unprotected o z =
+    cases (isSilent o)
+    (λ t. omega (arith, rw t at z))
+    (λ t. cases (isCut o) (λ u. omega (arith, rw (t, u) at z)) (λ u. omega (arith, rw (t, u) at z)))
 
 -- one that has ended is not open
 ended-shut : (a left : ℕ) → isOpen (ended a) left ≡ false
@@ -202,6 +210,7 @@ module _ (s : Setting) (mask-bytes : Bytes (s .mask)) (first : Line) (called : C
   -- the request has ended
   pub record Ended (r : Running) (p : Progress) : Type 0 where
     pub answer : ℕ
+    pub unprotected : answer ≡ 13 → ⊥
     pub state : State
     pub changed : Changed s c book marked₀ failed₀ (tabled p answer state)
     pub r-is : r ≡ running (ended answer) state
@@ -229,7 +238,7 @@ module _ (s : Setting) (mask-bytes : Bytes (s .mask)) (first : Line) (called : C
   -- stopped with an answer
   halts : (answer : ℕ) (p : Progress) → 0 < answer → phase.Halted s c book marked₀ failed₀ answer p → At (running (ended answer) (blank 2)) p
   halts answer p some h =
-      has-ended (record { answer = answer; state = blank 2; changed = tables.halted-changed s c book marked₀ failed₀ answer p some h; r-is = refl })
+      has-ended (record { answer = answer; unprotected = λ z. omega (arith, z, h .most); state = blank 2; changed = tables.halted-changed s c book marked₀ failed₀ answer p some h; r-is = refl })
 
   -- a data fill has ended so
   module _ (st : State) (b n : ℕ) (q : Progress) where
@@ -240,7 +249,7 @@ module _ (s : Setting) (mask-bytes : Bytes (s .mask)) (first : Line) (called : C
         (before-table (withCopy (u .logical) b (taken st)) q d (record { st = withCopy (u .logical) b (taken st); mid = tables.mid-first s mask-bytes first called st₀ c book marked₀ failed₀ marks₀ agrees proper (withCopy (u .logical) b (taken st)) true q d; r-is = refl }))
     fill-whole false y d =
         as-due (rw y) (gone-same q (passed-unfailed (q .outcome) y))
-        (has-ended (record { answer = 0; state = withCopy (u .logical) b (taken st); changed = tables.data-change s mask-bytes first called st₀ c book marked₀ failed₀ marks₀ agrees proper (withCopy (u .logical) b (taken st)) false q d refl; r-is = refl }))
+        (has-ended (record { answer = 0; unprotected = λ z. omega (arith, z); state = withCopy (u .logical) b (taken st); changed = tables.data-change s mask-bytes first called st₀ c book marked₀ failed₀ marks₀ agrees proper (withCopy (u .logical) b (taken st)) false q d refl; r-is = refl }))
 
     data-filled : (f : Bool) → (isPassed (q .outcome) ≡ true → Done (withCopy (u .logical) b (taken st)) f q) → (isFailed (q .outcome) ≡ true → Mid (withInvalid b (taken st)) true (resumed q))
         → (isPassed (q .outcome) ≡ false → isFailed (q .outcome) ≡ false → phase.Ends s mask-bytes first called st₀ c book marked₀ failed₀ marks₀ agrees proper (stoppedAt q)) → At (afterFill (filling b n (dataCursor f)) (taken st) (q .outcome)) (goneOn q)
@@ -387,13 +396,13 @@ module _ (s : Setting) (mask-bytes : Bytes (s .mask)) (first : Line) (called : C
         → At (afterFill (filling b n tableCursor) (taken st) (q .outcome)) (goneOn q)
     table-filled st b n q done again ends =
         cases (isPassed (q .outcome))
-        (λ y. as-due (table-whole y) (gone-same q (passed-unfailed (q .outcome) y)) (has-ended (record { answer = 0; state = withTable b (taken st); changed = done y; r-is = refl })))
+        (λ y. as-due (table-whole y) (gone-same q (passed-unfailed (q .outcome) y)) (has-ended (record { answer = 0; unprotected = λ z. omega (arith, z); state = withTable b (taken st); changed = done y; r-is = refl })))
         (λ y.
         cases (isFailed (q .outcome))
         (λ w. as-due (fill-failed (filling b n tableCursor) (taken st) (q .outcome) w) (gone-failed q w) (before-table st₁ p₁ d (record { st = withInvalid b (taken st); mid = again w; r-is = refl })))
         (λ w.
         as-due (fill-stopped (filling b n tableCursor) (taken st) (q .outcome) y w) (gone-same q w)
-        (has-ended (record { answer = stopAnswer (q .outcome); state = blank 2; changed = ends y w; r-is = refl }))))
+        (has-ended (record { answer = stopAnswer (q .outcome); unprotected = stop-unprotected (q .outcome); state = blank 2; changed = ends y w; r-is = refl }))))
       where
         table-whole : isPassed (q .outcome) ≡ true → afterFill (filling b n tableCursor) (taken st) (q .outcome) ≡ running (ended 0) (withTable b (taken st))
         table-whole y = fill-tabled (filling b n tableCursor) (taken st) (q .outcome) refl y
@@ -407,7 +416,7 @@ module _ (s : Setting) (mask-bytes : Bytes (s .mask)) (first : Line) (called : C
         (λ y. as-due (prepared-none g tableCursor st (ltb-false (nextNumber st) numberEnd y)) refl (none-left 9 is-spent (omega arith) (omega arith)))
       where
         none-left : (answer : ℕ) → ChangeAnswer answer → 0 < answer → answer < 10 → At (running (ended answer) (blank 2)) p
-        none-left answer is some few = has-ended (record { answer = answer; state = blank 2; changed = tables.table-none s mask-bytes first called st₀ c book marked₀ failed₀ marks₀ agrees proper st₁ true p₁ d answer is some few st p m; r-is = refl })
+        none-left answer is some few = has-ended (record { answer = answer; unprotected = λ z. omega (arith, z, few); state = blank 2; changed = tables.table-none s mask-bytes first called st₀ c book marked₀ failed₀ marks₀ agrees proper st₁ true p₁ d answer is some few st p m; r-is = refl })
 
         last-below : st .last < g .blocks
         last-below = omega (arith, ap (λ (z : State). z .last) (m .state-is), ap (λ (z : State). z .last) (d .state-is), d .below)
@@ -553,3 +562,13 @@ module _ (s : Setting) (mask-bytes : Bytes (s .mask)) (first : Line) (called : C
   at-ended (in-table st₁ p₁ d w) h = absurd (omega (arith, h, ap (λ (x : Running). x .cursor .phase) (w .r-is)))
   at-ended {r} {p} (has-ended w) h =
       subst (λ (x : Running). Changed s c book marked₀ failed₀ (tabled p (x .cursor .answer) (x .state))) (sym (w .r-is)) (w .changed)
+
+  -- and its answer is not 13, which comes with the status read of a plain one alone
+  pub at-unprotected : {r : Running} {p : Progress} → At r p → 2 ≤ r .cursor .phase → r .cursor .answer ≡ 13 → ⊥
+  at-unprotected (before-data w) h z = omega (arith, h, ap (λ (x : Running). x .cursor .phase) (w .r-is))
+  at-unprotected (erase-data w) h z = omega (arith, h, ap (λ (x : Running). x .cursor .phase) (w .r-is))
+  at-unprotected (in-data w) h z = omega (arith, h, ap (λ (x : Running). x .cursor .phase) (w .r-is))
+  at-unprotected (before-table st₁ p₁ d w) h z = omega (arith, h, ap (λ (x : Running). x .cursor .phase) (w .r-is))
+  at-unprotected (erase-table st₁ p₁ d w) h z = omega (arith, h, ap (λ (x : Running). x .cursor .phase) (w .r-is))
+  at-unprotected (in-table st₁ p₁ d w) h z = omega (arith, h, ap (λ (x : Running). x .cursor .phase) (w .r-is))
+  at-unprotected (has-ended w) h z = w .unprotected (sym (ap (λ (x : Running). x .cursor .answer) (w .r-is)) ∙ z)

@@ -14,4 +14,8 @@ pub mod OtherCallLaws
 pub mod ShownLaws
 pub mod PausedCalmLaws
 pub mod TraceLaws
+pub mod SplitLaws
+pub mod LastLaws
+pub mod EntryLaws
+pub mod BetweenLaws
 pub mod StandsLaws

@@ -107,6 +107,7 @@ module _ (g : Geometry) (mask fates : List ℕ) (mask-bytes : Bytes mask) (first
         numbers = r .numbers;
         copies = r .copies;
         valid = r .valid;
+        table-valid = r .table-valid;
         apart = r .apart;
         reads = r .reads;
         complete = r .complete;

@@ -64,7 +64,7 @@ module _ (s : Setting) (mask-bytes : Bytes (s .mask)) (first : Line) (first-call
     abbrev pages : ℕ → List ℕ
     pages i = copyPage g (copy dataKind (u .logical) (nextNumber st)) i (main i)
 
-    meant : Meant s A b (copy dataKind (u .logical) (nextNumber st)) (dataSource g (u .old) (u .first) (u .count) (u .bytes)) pages
+    pub meant : Meant s A b (copy dataKind (u .logical) (nextNumber st)) (dataSource g (u .old) (u .first) (u .count) (u .bytes)) pages
     meant = phase.meant s mask-bytes first first-called st₀ c book marked₀ failed₀ marks₀ agrees proper st failed from mid number-fits b below may
 
     -- it stands at page n, and no cycle is left: what the chip shows

@@ -49,11 +49,12 @@ use Rattle.damage.proofs.CopyLaws.{copy-long, copy-bytes}
 use Rattle.recovery_write.proofs.LongLaws.{Long, long-kept}
 use Rattle.write_changes.proofs.LoopLaws.{Tabling, tables-end}
 use Rattle.recovery_stored.specs.Stored.{Stored}
+use Rattle.recovery_stored.specs.Knows.{Knows}
 use Rattle.recovery_stored.specs.After.{Below, Free, MarksSame, Listed}
 use Rattle.format_laws.proofs.TableBlockLaws.{table-label, table-long, table-bytes}
 use Rattle.recovery_stored.proofs.StoredLaws.{same-at}
 use Rattle.recovery_stored.proofs.FollowLaws.{marks-follow, map-renewed}
-use Rattle.recovery_stored.proofs.KnowsLaws.{knows-marked, knows-invalid, knows-entry}
+use Rattle.recovery_stored.proofs.KnowsLaws.{knows-facts, knows-marked, knows-invalid, knows-entry}
 use Rattle.recovery_stored.proofs.ListedLaws.{near-table, bits-are, table-below}
 use Rattle.recovery.specs.Book.{Book, Same, Change, entered}
 use Rattle.recovery.specs.Copy.{sentPages}
@@ -141,7 +142,7 @@ module _ (s : Setting) (mask-bytes : Bytes (s .mask)) (first : Line) (called : C
   entry-other l x = ap (λ (z : List ℕ). getD z l 0) map-is ∙ getD-set-other (st₀ .map) logical l (d .block) 0 x
 
   -- the map is that of an array on which the copies are these
-  map-of : (array : List ℕ) (table : ℕ) → ((l : ℕ) → l < g .logical → currentCopy g array table l ≡ currentCopy g array₁ t l) → st₁ .map ≡ mapOf g array table
+  pub map-of : (array : List ℕ) (table : ℕ) → ((l : ℕ) → l < g .logical → currentCopy g array table l ≡ currentCopy g array₁ t l) → st₁ .map ≡ mapOf g array table
   map-of array table copies =
       map-is ∙ ap (λ (z : List ℕ). set z logical (d .block)) (agrees .knows .map-is)
       ∙ sym (map-renewed g array₀ array t table logical (d .block) logical-below (copies logical logical-below ∙ d .copy-is) (λ l h x. copies l h ∙ d .copies l h x))
@@ -186,6 +187,7 @@ module _ (s : Setting) (mask-bytes : Bytes (s .mask)) (first : Line) (called : C
     pub numbers : Below g array n
     pub copies : (l : ℕ) → l < g .logical → currentCopy g array table l ≡ currentCopy g array₁ t l
     pub valid : (l b : ℕ) → l < g .logical → currentCopy g array₁ t l ≡ at b → bitAt invalid b ≡ false
+    pub table-valid : bitAt invalid t ≡ false
     pub apart : (b : ℕ) → b < g .blocks → isMarked g (blockIn g array₀ b) ≡ true → bitAt invalid b ≡ false
     pub reads : Same g (reading g array table) (entered g c book)
     pub complete : isComplete g (blockIn g array (d .block)) ≡ true
@@ -222,6 +224,7 @@ module _ (s : Setting) (mask-bytes : Bytes (s .mask)) (first : Line) (called : C
           numbers = d .numbers;
           copies = λ l h. refl;
           valid = valid-first;
+          table-valid = d .valid t (phase.table-held s mask-bytes first called st₀ c book marked₀ failed₀ marks₀ agrees proper) (knows-facts g array₀ st₀ (agrees .stored) (agrees .knows) .table-valid);
           apart = d .apart;
           reads = d .reads;
           complete = d .complete;
@@ -375,6 +378,7 @@ module _ (s : Setting) (mask-bytes : Bytes (s .mask)) (first : Line) (called : C
             numbers = numbers;
             copies = λ l h. copies l h ∙ r .copies l h;
             valid = λ l k h e. still-clear (g .blocks) invalid b few below (r .bits) k (off-held k (copy-held l k h e)) (r .valid l k h e);
+            table-valid = still-clear (g .blocks) invalid b few below (r .bits) t (off-held t table-held) (r .table-valid);
             apart = λ k h y. still-clear (g .blocks) invalid b few below (r .bits) k (off-marked k h y) (r .apart k h y);
             reads = λ l i h j. reads l i h j ∙ r .reads l i h j;
             complete = ap (isComplete g) (try .leaves .others (d .block) (d .below) off-block) ∙ r .complete;
@@ -532,6 +536,26 @@ module _ (s : Setting) (mask-bytes : Bytes (s .mask)) (first : Line) (called : C
   pub tables-change : Changed s c book marked₀ failed₀ (tablesFilled s held (numbersLeft st₁) st₁ p₁)
   tables-change = tables-end s held Mid (Changed s c book marked₀ failed₀) tabling (numbersLeft st₁) st₁ p₁ mid-first refl
 
+  bits-same : bitsAt g array₀ t ≡ bitsAt g array₁ t
+  bits-same = ap (λ (row : List ℕ). put 0 (bitmapOf (g .blocks) (mainIn g row 0)) (replicate 512 0)) (sym (d .table-same))
+
+  -- the state after the data fill, with the invalid blocks that the table on the chip lists
+  abbrev listing : State
+  listing =
+      record { status = st₁ .status; table = st₁ .table; last = st₁ .last; number = st₁ .number; marked = st₁ .marked; invalid = st₀ .invalid; map = st₁ .map }
+
+  pub listing-knows : Knows g array₁ listing
+  listing-knows =
+      record {
+        status-one = ap (λ (z : State). z .status) (d .state-is) ∙ agrees .knows .status-one;
+        table-is = d .table-is ∙ ap at (sym table-same);
+        marked-is = marked-same ∙ agrees .knows .marked-is ∙ sym (marks-follow g array₀ array₁ (d .marks));
+        invalid-is = agrees .knows .invalid-is ∙ bits-same ∙ ap (bitsAt g array₁) (sym table-same);
+        map-is = map-of array₁ t (λ l h. refl) ∙ ap (mapOf g array₁) (sym table-same);
+        last-below = omega (arith, ap (λ (z : State). z .last) (d .state-is), d .below);
+        numbers = d .numbers;
+      }
+
   -- no block failed: the table on the chip lists all invalid blocks
   pub data-change : f₁ ≡ false → Changed s c book marked₀ failed₀ (tabled p₁ 0 st₁)
   data-change e =
@@ -542,15 +566,7 @@ module _ (s : Setting) (mask-bytes : Bytes (s .mask)) (first : Line) (called : C
         done = λ z.
             record {
               stored = d .stored;
-              knows = record {
-                status-one = ap (λ (z : State). z .status) (d .state-is) ∙ agrees .knows .status-one;
-                table-is = d .table-is ∙ ap at (sym table-same);
-                marked-is = marked-same ∙ agrees .knows .marked-is ∙ sym (marks-follow g array₀ array₁ (d .marks));
-                invalid-is = d .clean e ∙ agrees .knows .invalid-is ∙ bits-same ∙ ap (bitsAt g array₁) (sym table-same);
-                map-is = map-of array₁ t (λ l h. refl) ∙ ap (mapOf g array₁) (sym table-same);
-                last-below = omega (arith, ap (λ (z : State). z .last) (d .state-is), d .below);
-                numbers = d .numbers;
-              };
+              knows = subst (Knows g array₁) (listing-is e) listing-knows;
               reads = λ l i h j. ap (λ (k : ℕ). reading g array₁ k l i) table-same ∙ d .reads l i h j;
               failed-listed = d .failures;
             };
@@ -567,5 +583,5 @@ module _ (s : Setting) (mask-bytes : Bytes (s .mask)) (first : Line) (called : C
         used-up = λ z. absurd (omega (arith, z));
       }
     where
-      bits-same : bitsAt g array₀ t ≡ bitsAt g array₁ t
-      bits-same = ap (λ (row : List ℕ). put 0 (bitmapOf (g .blocks) (mainIn g row 0)) (replicate 512 0)) (sym (d .table-same))
+      listing-is : f₁ ≡ false → listing ≡ st₁
+      listing-is e = ap (λ (z : List ℕ). record { status = st₁ .status; table = st₁ .table; last = st₁ .last; number = st₁ .number; marked = st₁ .marked; invalid = z; map = st₁ .map }) (sym (d .clean e))

@@ -5,8 +5,9 @@ use mathlib.Core.Path.{_≡_, ap, _∙_}
 use lib.ListN.{length, getD}
 use mir.Syntax.{w8, w16, w64}
 use mir.Val.{Fits}
-use Rattle.c_state.specs.StateBytes.{bytesState, Ranged}
-use Rattle.c_state.proofs.RoundLaws.{load-stored}
+use Rattle.c_state.specs.StateBytes.{Ranged}
+use Rattle.c_open.specs.OpenBytes.{bytesPage, bytesOpen, leftOpen, WordsRanged}
+use Rattle.c_open.proofs.RoundLaws.{load-left}
 use Rattle.c_buffers.proofs.BufferLaws.{put-back}
 use borrow.Author.Needs.{needs}
 use Rattle.c_buffers.proofs.hand_back.Statement.{statement}
@@ -58,8 +59,53 @@ ranged s =
       map-fits = λ i. map-fits s i .fits;
     }
 
-store-requires : tie.Need-store-requires
-store-requires c κs = search needs
+opened-word : (s : tie.Start) → Fits w64 (s .args .write .opened)
+opened-word s = search needs
+
+phase-word : (s : tie.Start) → Fits w64 (s .args .write .phase)
+phase-word s = search needs
+
+step-word : (s : tie.Start) → Fits w64 (s .args .write .step)
+step-word s = search needs
+
+logical-word : (s : tie.Start) → Fits w64 (s .args .write .logical)
+logical-word s = search needs
+
+first-word : (s : tie.Start) → Fits w64 (s .args .write .first)
+first-word s = search needs
+
+old-word : (s : tie.Start) → Fits w64 (s .args .write .old)
+old-word s = search needs
+
+block-word : (s : tie.Start) → Fits w64 (s .args .write .block)
+block-word s = search needs
+
+number-word : (s : tie.Start) → Fits w64 (s .args .write .number)
+number-word s = search needs
+
+page-word : (s : tie.Start) → Fits w64 (s .args .write .page)
+page-word s = search needs
+
+failed-word : (s : tie.Start) → Fits w64 (s .args .write .failed)
+failed-word s = search needs
+
+words-ranged : (s : tie.Start) → WordsRanged (s .args .write)
+words-ranged s =
+    record {
+      opened-fits = opened-word s .fits;
+      phase-fits = phase-word s .fits;
+      step-fits = step-word s .fits;
+      logical-fits = logical-word s .fits;
+      first-fits = first-word s .fits;
+      old-fits = old-word s .fits;
+      block-fits = block-word s .fits;
+      number-fits = number-word s .fits;
+      page-fits = page-word s .fits;
+      failed-fits = failed-word s .fits;
+    }
+
+leave-requires : tie.Need-leave-requires
+leave-requires c κs = search needs
 
 write-interface-requires : tie.Need-write-interface-requires
 write-interface-requires c κs = search needs
@@ -78,15 +124,17 @@ same-length-3 c = search needs
 
 returns : tie.Need-returns
 returns c =
-    let at-store = c .before .before .before .before .before .before in
-    let s = at-store .before .before .before .before .before .before .before in
-    (put-back (s .args .returned .answer) (s .args .returned .sent) (s .args .returned .state) (s .args .returned .interface) _ _ (now (s .args .sent)) (at-store .store .ensures) (c .before .before .write-interface .ensures) (s .pre .1 .1), ap bytesState (at-store .store .ensures) ∙ load-stored (s .args .returned .state) (ranged s))
+    let at-leave = c .before .before .before .before .before .before in
+    let s = at-leave .before .before .before .before .before .before .before in
+    let r = s .args .returned in
+    let page = bytesPage (now (s .args .state)) in
+    (put-back (r .answer) (r .sent) (leftOpen (s .args .gone) (r .state) (s .args .write) page) (r .interface) _ _ (now (s .args .sent)) (at-leave .leave .ensures) (c .before .before .write-interface .ensures) (s .pre .1 .1), ap bytesOpen (at-leave .leave .ensures) ∙ load-left (s .args .gone) (r .state) (s .args .write) page (ranged s) (words-ranged s))
 
 pub hand-back-spec : {M : Type 1} → statement M
 hand-back-spec =
     tie.close
     (tie.spec
-    store-requires
+    leave-requires
     write-interface-requires
     slice-write-sent
     same-length

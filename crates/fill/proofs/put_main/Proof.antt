@@ -1,14 +1,14 @@
 -- `fill::put_main` meets its contract. Assumes nothing.
 use Prim.Native.Nat.{ℕ, _-_}
 use mathlib.Core.List.{List}
-use mathlib.Core.Path.{refl, sym, _∙_}
+use mathlib.Core.Path.{sym, _∙_}
 use native.Mathlib.Omega.{arith}
 use denote.Ref.{now}
 use lib.ListN.{take, drop, replicate}
 use Rattle.chip_array.specs.Device.{setting}
 use Rattle.bus.specs.Line.{line}
 use Rattle.fill.specs.Fill.{givenMain, dataSource}
-use Rattle.fill.proofs.MainLaws.{source-given, source-kept, source-none, lent-long, put-read, put-ones, given-comes, given-main, kept-comes, kept-main, kept-history}
+use Rattle.fill.proofs.MainLaws.{source-given, source-kept, source-none, lent-long, put-read, put-ones, given-comes, given-main, kept-comes, kept-main}
 use borrow.Author.Needs.{needs}
 use Rattle.fill.proofs.put_main.Statement.{statement}
 use Rattle.fill.proofs.put_main.Tie as tie
@@ -35,7 +35,7 @@ returns c =
     let source = dataSource (s .args .g) (s .args .content .old) (s .args .content .first) (s .args .content .count) (now (s .args .bytes)) (s .args .place) in
     let main = givenMain (s .args .g) (s .args .content .first) (now (s .args .bytes)) (s .args .place) in
     let is = source-given (s .args .g) (s .args .content .old) (s .args .content .first) (s .args .content .count) (now (s .args .bytes)) (s .args .place) (sym (at-is-given .is-given .ensures) ∙ at-if1 .if1 .taken) in
-    (given-comes set (s .args .place) source main is l (s .pre .0), (λ t. given-main set (s .args .place) source main is (now (s .args .array)) _ (c .before .before .put-given .ensures), refl))
+    (given-comes set (s .args .place) source main is l (s .pre .0), (λ t. given-main set (s .args .place) source main is (now (s .args .array)) _ (c .before .before .put-given .ensures)))
 
 row-of-requires : tie.Need-row-of-requires
 row-of-requires c κs = search needs
@@ -80,7 +80,7 @@ returns-2 c =
     let buffer = take (s .args .g .main - 0) (drop 0 (now (s .args .page))) in
     let long = lent-long (s .args .g .main) (now (s .args .page)) (omega (arith, s .pre .1 .1 .0)) in
     let d = at-read .read in
-    (kept-comes set l (s .pre .0) old (s .args .place) (at-if2 .if2 .taken) (s .pre .1 .0) source is (at-row-of .row-of .result) (at-row-of .row-of .ensures) buffer long _ (d .result .outcome) (d .ensures .0) (d .ensures .1 .0), (λ t. put-read (s .args .g .main) (now (s .args .page)) (omega (arith, s .pre .1 .1 .0)) _ _ (d .kept .1 .1 .1 .1 .1 .1 .1 .1 .1 .0) ∙ kept-main set l (s .pre .0) old (s .args .place) (at-if2 .if2 .taken) (s .pre .1 .0) source is (at-row-of .row-of .result) (at-row-of .row-of .ensures) buffer long _ (d .result .outcome) (d .ensures .0) (d .ensures .1 .0) _ (d .ensures .1 .1) t, kept-history set l (s .pre .0) old (s .args .place) (at-if2 .if2 .taken) (s .pre .1 .0) source is (at-row-of .row-of .result) (at-row-of .row-of .ensures) buffer long _ (d .result .outcome) (d .ensures .0) (d .ensures .1 .0) _ (d .ensures .1 .1)))
+    (kept-comes set l (s .pre .0) old (s .args .place) (at-if2 .if2 .taken) (s .pre .1 .0) source is (at-row-of .row-of .result) (at-row-of .row-of .ensures) buffer long _ (d .result .outcome) (d .ensures .0) (d .ensures .1 .0), (λ t. put-read (s .args .g .main) (now (s .args .page)) (omega (arith, s .pre .1 .1 .0)) _ _ (d .kept .1 .1 .1 .1 .1 .1 .1 .1 .1 .0) ∙ kept-main set l (s .pre .0) old (s .args .place) (at-if2 .if2 .taken) (s .pre .1 .0) source is (at-row-of .row-of .result) (at-row-of .row-of .ensures) buffer long _ (d .result .outcome) (d .ensures .0) (d .ensures .1 .0) _ (d .ensures .1 .1) t))
 
 sub-erase-whole : tie.Need-sub-erase-whole
 sub-erase-whole c = search needs
@@ -109,7 +109,7 @@ returns-3 c =
     let source = dataSource (s .args .g) (s .args .content .old) (s .args .content .first) (s .args .content .count) (now (s .args .bytes)) (s .args .place) in
     let is = source-none (s .args .g) (s .args .content .old) (s .args .content .first) (s .args .content .count) (now (s .args .bytes)) (s .args .place) (sym (at-is-given .is-given .ensures) ∙ at-if1 .if1 .left) (at-if2 .if2 .left) in
     let put = put-ones (s .args .g .main) (now (s .args .page)) (omega (arith, s .pre .1 .1 .0)) _ _ (c .before .before .erase-whole .kept .0) (c .before .before .erase-whole .ensures) in
-    (given-comes set (s .args .place) source ones is l (s .pre .0), (λ t. given-main set (s .args .place) source ones is (now (s .args .array)) _ put, refl))
+    (given-comes set (s .args .place) source ones is l (s .pre .0), (λ t. given-main set (s .args .place) source ones is (now (s .args .array)) _ put))
 
 pub put-main-spec : {M : Type 1} → statement M
 put-main-spec =

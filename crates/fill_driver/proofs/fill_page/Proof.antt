@@ -1,14 +1,10 @@
 -- `fill_driver::fill_page` meets its contract. Assumes nothing.
-use Prim.Native.Nat.{ℕ, _≤_}
-use mathlib.Core.Bool.{false≢true}
-use mathlib.Core.List.{List}
-use mathlib.Core.Path.{sym, subst, _∙_}
+use mathlib.Core.Path.{_∙_}
 use denote.Ref.{now}
-use lib.ListN.{getD}
 use Rattle.chip_array.specs.Device.{setting}
 use Rattle.bus_polling.proofs.OutcomeLaws.{passed-by-tag, other-by-tag}
-use Rattle.fill.specs.Fill.{copy, Fillable, dataSource}
-use Rattle.fill_driver.proofs.PageLaws.{page-stops, page-programmed, page-order}
+use Rattle.fill.specs.Fill.{copy, dataSource}
+use Rattle.fill_driver.proofs.PageLaws.{page-stops, page-programmed}
 use borrow.Author.Needs.{needs}
 use Rattle.fill_driver.proofs.fill_page.Statement.{statement}
 use Rattle.fill_driver.proofs.fill_page.Tie as tie
@@ -16,7 +12,7 @@ use Rattle.fill_driver.proofs.fill_page.Tie as tie
 put-main-requires : tie.Need-put-main-requires
 put-main-requires c κs =
     let s = c .before .before .before .before .before .before .before .before .before .before .before in
-    (s .pre .0, (s .pre .1 .0 .place-below, (s .pre .1 .0 .page-long, s .pre .1 .1 .1)))
+    (s .pre .0, (s .pre .1 .0 .place-below, (s .pre .1 .0 .page-long, s .pre .1 .1)))
 
 enum-told : tie.Need-enum-told
 enum-told c = search needs
@@ -41,7 +37,7 @@ returns c =
     let k = copy (s .args .content .kind) (s .args .content .logical) (s .args .content .number) in
     let source = dataSource (s .args .g) (s .args .content .old) (s .args .content .first) (s .args .content .count) (now (s .args .bytes)) in
     let f = other-by-tag _ (c .match .keys2) in
-    (page-stops set (s .args .block) k (s .args .place) (source (s .args .place)) _ _ (at-put-main .put-main .result .outcome) (at-put-main .put-main .ensures .0) f, λ t. absurd (false≢true (sym f ∙ t)))
+    page-stops set (s .args .block) k (s .args .place) (source (s .args .place)) _ _ (at-put-main .put-main .result .outcome) (at-put-main .put-main .ensures .0) f
 
 program-page-requires : tie.Need-program-page-requires
 program-page-requires c κs =
@@ -74,10 +70,7 @@ returns-2 c =
     let source = dataSource (s .args .g) (s .args .content .old) (s .args .content .first) (s .args .content .count) (now (s .args .bytes)) in
     let d = at-put-main .put-main in
     let p = passed-by-tag _ (at-match .match .keys1) in
-    let f = s .pre .1 .0 in
-    let fillable : Fillable (s .args .g) (s .args .block) (s .args .place) (s .args .content .kind) (s .args .content .logical) _ = record { is-valid = f .is-valid; block-below = f .block-below; place-below = f .place-below; width-is = f .width-is; logical-fits = f .logical-fits; page-long = at-page .page .given ∙ f .page-long } in
-    let order = subst (λ (x : List ℕ). getD x (s .args .block) 0 ≤ s .args .place) (sym (d .ensures .1 .1)) (s .pre .1 .1 .0) in
-    (page-programmed set (s .args .block) k (s .args .place) (source (s .args .place)) _ _ (d .result .outcome) (d .ensures .0) p _ fillable (d .ensures .1 .0 p) order _ (at-program-page .program-page .result .outcome) (at-program-page .program-page .ensures .0) (at-program-page .program-page .ensures .1), page-order set (s .args .block) k (s .args .place) (source (s .args .place)) _ _ (d .result .outcome) (d .ensures .0) p _ fillable (d .ensures .1 .0 p) order _ (at-program-page .program-page .result .outcome) (at-program-page .program-page .ensures .0) (at-program-page .program-page .ensures .1))
+    page-programmed set (s .args .block) k (s .args .place) (source (s .args .place)) _ _ (d .result .outcome) (d .ensures .0) p _ (d .ensures .1 p) _ (at-program-page .program-page .result .outcome) (at-program-page .program-page .ensures .0) (at-program-page .program-page .ensures .1)
 
 pub fill-page-spec : {M : Type 1} → statement M
 fill-page-spec =

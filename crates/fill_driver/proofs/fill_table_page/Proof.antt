@@ -47,7 +47,7 @@ fill-page-requires c κs =
     let s = at-build-first .before .before .before .before .before .before .before .before .before in
     let g = s .args .g in
     let v = s .pre .0 .is-valid in
-    (s .pre .0, (table-fillable g v (s .args .block) (s .args .place) _ (s .pre .1 .0) (s .pre .1 .1 .0) (s .pre .1 .1 .1 .1), (s .pre .1 .1 .1 .0, (lent-long (g .main) _ (put-fits (g .main) (replicate 4096 0) (first-room g v) (at-build-first .build-first .last .0) (drop (g .main - 0) (replicate 4096 0)) (at-build-first .build-first .kept .0)) ∙ sym (one-mul (g .main))))))
+    (s .pre .0, (table-fillable g v (s .args .block) (s .args .place) _ (s .pre .1 .0) (s .pre .1 .1 .0) (s .pre .1 .1 .1), (lent-long (g .main) _ (put-fits (g .main) (replicate 4096 0) (first-room g v) (at-build-first .build-first .last .0) (drop (g .main - 0) (replicate 4096 0)) (at-build-first .build-first .kept .0)) ∙ sym (one-mul (g .main)))))
 
 same-length : tie.Need-same-length
 same-length c = search needs
@@ -71,7 +71,7 @@ returns c =
     let room = first-room g (s .pre .0 .is-valid) in
     let bytes = put-lent (g .main) (replicate 4096 0) room _ _ (at-build-first .build-first .kept .0) ∙ at-build-first .build-first .ensures ∙ ap (λ (k : ℕ). tablePage k (g .blocks) (g .logical) (now (s .args .invalid))) (lent-long (g .main) (replicate 4096 0) room) in
     let source = table-source g 65535 (omega (arith, s .pre .0 .is-valid .blocks-most)) (now (s .args .invalid)) _ (lent-long (g .main) _ (put-fits (g .main) (replicate 4096 0) room (at-build-first .build-first .last .0) (drop (g .main - 0) (replicate 4096 0)) (at-build-first .build-first .kept .0))) bytes in
-    (comes-as (λ p. ap (λ (x : ℕ → Source). pageFilled set (s .args .block) (tableCopy (s .args .number)) (s .args .place) (x (s .args .place)) p) source) (at-fill-page .fill-page .ensures .0), at-fill-page .fill-page .ensures .1)
+    comes-as (λ p. ap (λ (x : ℕ → Source). pageFilled set (s .args .block) (tableCopy (s .args .number)) (s .args .place) (x (s .args .place)) p) source) (at-fill-page .fill-page .ensures)
 
 pub fill-table-page-spec : {M : Type 1} → statement M
 fill-table-page-spec =

@@ -1,14 +1,13 @@
 -- `fill_driver::perform` meets its contract. Assumes nothing.
 use Prim.Native.Nat.{ℕ}
-use mathlib.Core.Path.{_≡_, ap, _∙_}
+use mathlib.Core.Path.{ap, _∙_}
 use native.Mathlib.Omega.{arith}
 use denote.Ref.{now}
 use Rattle.chip_array.specs.Device.{setting}
 use Rattle.bus.specs.Line.{line, sendAll}
 use Rattle.bus_sequences.specs.Cycles.{eraseCycles}
-use Rattle.operations.proofs.UnreadyLaws.{lent-called}
-use Rattle.progress.proofs.ComesLaws.{comes-as, erase-comes, erase-order}
-use Rattle.fill_driver.proofs.DueLaws.{erase-due, table-due, copy-comes, content-fillable, content-count, after-place, copy-fillable}
+use Rattle.progress.proofs.ComesLaws.{comes-as, erase-comes}
+use Rattle.fill_driver.proofs.DueLaws.{erase-due, table-due, copy-comes, content-fillable, content-count, copy-fillable}
 use borrow.Author.Needs.{needs}
 use Rattle.fill_driver.proofs.perform.Statement.{statement}
 use Rattle.fill_driver.proofs.perform.Tie as tie
@@ -17,7 +16,7 @@ row-of-requires : tie.Need-row-of-requires
 row-of-requires c κs =
     let s = c .before .before .before .before .before .before .before .before in
     let v = s .pre .0 .is-valid in
-    (v, (s .pre .1 .0 .fits .block-below (s .pre .1 .1 .0), omega (arith, v .pages-least)))
+    (v, (s .pre .1 .0 .block-below (s .pre .1 .1 .0), omega (arith, v .pages-least)))
 
 erase-requires : tie.Need-erase-requires
 erase-requires c κs = search needs
@@ -39,20 +38,16 @@ returns c =
     let s = at-if1 .before .before .before .before .before .before .before .before in
     let set = setting (s .args .g) (now (s .args .mask)) (now (s .args .fates)) in
     let l = line (s .args .from) (now (s .args .array)) (now (s .args .register)) (now (s .args .history)) in
-    let below = s .pre .1 .0 .fits .block-below (s .pre .1 .1 .0) in
-    let o = at-erase .erase .result .outcome in
+    let below = s .pre .1 .0 .block-below (s .pre .1 .1 .0) in
     let e = at-erase .erase .ensures .0 ∙ ap (λ (x : ℕ). sendAll set l (eraseCycles set l x)) (at-row-of .row-of .ensures) in
-    let q = at-erase .erase .ensures .1 in
-    (comes-as (λ p. erase-due set (s .args .c) (now (s .args .invalid)) (now (s .args .bytes)) p (at-if1 .if1 .taken)) (erase-comes set l (s .args .c .block) (s .pre .0) below _ o e q), λ t. omega (arith, erase-order set l (s .args .c .block) (s .pre .0) below _ o e q t))
+    comes-as (λ p. erase-due set (s .args .c) (now (s .args .invalid)) (now (s .args .bytes)) p (at-if1 .if1 .taken)) (erase-comes set l (s .args .c .block) (s .pre .0) below _ (at-erase .erase .result .outcome) e (at-erase .erase .ensures .1))
 
 fill-table-page-requires : tie.Need-fill-table-page-requires
 fill-table-page-requires c κs =
     let at-if1 = c .before .before .before .before .before in
     let s = at-if1 .before .before .before .before .before .before .before .before in
-    let d = s .pre .1 .0 in
-    let due = s .pre .1 .1 .0 in
-    let page : s .args .c .step ≡ 2 = omega (arith, due, d .fits .step-most, at-if1 .if1 .left) in
-    (lent-called (s .pre .0) (d .ready page), (d .fits .block-below due, (d .fits .page-below, (d .in-order page, s .pre .1 .1 .1))))
+    let f = s .pre .1 .0 in
+    (s .pre .0, (f .block-below (s .pre .1 .1 .0), (f .page-below, s .pre .1 .1 .1)))
 
 same-length-4 : tie.Need-same-length-4
 same-length-4 c = search needs
@@ -73,7 +68,7 @@ returns-2 c =
     let at-if1 = at-if2 .before in
     let s = at-if1 .before .before .before .before .before .before .before .before in
     let set = setting (s .args .g) (now (s .args .mask)) (now (s .args .fates)) in
-    (comes-as (λ p. table-due set (s .args .c) (now (s .args .invalid)) (now (s .args .bytes)) p (at-if1 .if1 .left) (at-if2 .if2 .taken)) (d .fill-table-page .ensures .0), λ t. omega (arith, after-place (s .args .c) (at-if1 .if1 .left), d .fill-table-page .ensures .1 t))
+    comes-as (λ p. table-due set (s .args .c) (now (s .args .invalid)) (now (s .args .bytes)) p (at-if1 .if1 .left) (at-if2 .if2 .taken)) (d .fill-table-page .ensures)
 
 content-of-requires : tie.Need-content-of-requires
 content-of-requires c κs = search needs
@@ -83,12 +78,10 @@ fill-page-requires c κs =
     let at-content = c .before .before .before .before in
     let at-if1 = at-content .before .before in
     let s = at-if1 .before .before .before .before .before .before .before .before in
-    let d = s .pre .1 .0 in
-    let due = s .pre .1 .1 .0 in
-    let page : s .args .c .step ≡ 2 = omega (arith, due, d .fits .step-most, at-if1 .if1 .left) in
+    let f = s .pre .1 .0 in
     let k = at-content .content-of in
-    let fillable = copy-fillable (s .args .g) (s .pre .0 .is-valid) (s .args .c .block) (s .args .c .page) _ (d .fits .block-below due) (d .fits .page-below) (s .pre .1 .1 .1) (s .args .c .logical) (d .fits .logical-below) in
-    (lent-called (s .pre .0) (d .ready page), (content-fillable (s .args .c) (k .result) (k .ensures) (s .args .g) _ fillable, (d .in-order page, content-count (s .args .c) (k .result) (k .ensures) _ (s .args .g .main) (d .fits .bytes-long))))
+    let fillable = copy-fillable (s .args .g) (s .pre .0 .is-valid) (s .args .c .block) (s .args .c .page) _ (f .block-below (s .pre .1 .1 .0)) (f .page-below) (s .pre .1 .1 .1) (s .args .c .logical) (f .logical-below) in
+    (s .pre .0, (content-fillable (s .args .c) (k .result) (k .ensures) (s .args .g) _ fillable, content-count (s .args .c) (k .result) (k .ensures) _ (s .args .g .main) (f .bytes-long)))
 
 same-length-8 : tie.Need-same-length-8
 same-length-8 c = search needs
@@ -110,7 +103,7 @@ returns-3 c =
     let at-if1 = at-if2 .before in
     let s = at-if1 .before .before .before .before .before .before .before .before in
     let k = at-content .content-of in
-    (copy-comes (s .args .c) (k .result) (k .ensures) (now (s .args .invalid)) (now (s .args .bytes)) (at-if1 .if1 .left) (at-if2 .if2 .left) (d .fill-page .ensures .0), λ t. omega (arith, after-place (s .args .c) (at-if1 .if1 .left), d .fill-page .ensures .1 t))
+    copy-comes (s .args .c) (k .result) (k .ensures) (now (s .args .invalid)) (now (s .args .bytes)) (at-if1 .if1 .left) (at-if2 .if2 .left) (d .fill-page .ensures)
 
 pub perform-spec : {M : Type 1} → statement M
 perform-spec =

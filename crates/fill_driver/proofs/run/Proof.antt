@@ -84,7 +84,7 @@ perform-requires c κs =
     let r = running (lp .cursor) (lp .state) in
     let here = line (lp .bus) (lp .array) (lp .register) (lp .history) in
     let a = is-open set (now (s .args .bytes)) (s .args .most) (s .args .start) first (lp .left) r here (lp .inv .4) (sym (at-open .is-open .ensures) ∙ at-if1 .if1 .taken) in
-    (a .lent, (a .due, (omega (arith, at-if2 .if2 .left), lp .inv .3 ∙ s .pre .1 .1 .1)))
+    (a .lent, (a .fits, (omega (arith, at-if2 .if2 .left), lp .inv .3 ∙ s .pre .1 .1 .1)))
 
 programs-requires : tie.Need-programs-requires Inv-loop μ-loop
 programs-requires c κs = search needs
@@ -108,7 +108,7 @@ after-requires c κs =
     let r = running (lp .cursor) (lp .state) in
     let here = line (lp .bus) (lp .array) (lp .register) (lp .history) in
     let a = is-open set (now (s .args .bytes)) (s .args .most) (s .args .start) first (lp .left) r here (lp .inv .4) (sym (at-open .is-open .ensures) ∙ at-if1 .if1 .taken) in
-    omega (arith, a .due .fits .page-below, a .lent .is-valid .pages-most)
+    omega (arith, a .fits .page-below, a .lent .is-valid .pages-most)
 
 settle-requires : tie.Need-settle-requires Inv-loop μ-loop
 settle-requires c κs =
@@ -124,7 +124,7 @@ settle-requires c κs =
     let here = line (lp .bus) (lp .array) (lp .register) (lp .history) in
     let a = is-open set (now (s .args .bytes)) (s .args .most) (s .args .start) first (lp .left) r here (lp .inv .4) (sym (at-open .is-open .ensures) ∙ at-if1 .if1 .taken) in
     let v = a .lent .is-valid in
-    (omega (arith, a .due .fits .logical-below, v .logical-most, v .blocks-most), omega (arith, a .due .fits .block-below (omega (arith, at-if2 .if2 .left)), v .blocks-most))
+    (omega (arith, a .fits .logical-below, v .logical-most, v .blocks-most), omega (arith, a .fits .block-below (omega (arith, at-if2 .if2 .left)), v .blocks-most))
 
 loop-less-2 : tie.Need-loop-less-2 Inv-loop μ-loop
 loop-less-2 c =
@@ -142,7 +142,7 @@ loop-less-2 c =
     let r = running (lp .cursor) (lp .state) in
     let here = line (lp .bus) (lp .array) (lp .register) (lp .history) in
     let d = at-perform .perform in
-    run-less set (now (s .args .bytes)) (s .args .most) (s .args .start) first (lp .left) r here (lp .inv .4) (sym (at-open .is-open .ensures) ∙ at-if1 .if1 .taken) (at-if2 .if2 .left) _ (d .result .outcome) (d .ensures .0) (d .ensures .1) _ (after-settled (s .args .g .pages) (lp .cursor) (lp .state) (d .result .outcome) (at-after .after .result) (at-after .after .ensures) (c .before .if3 .taken) _ (c .settle .ensures)) _ (at-programs .programs .ensures)
+    run-less set (now (s .args .bytes)) (s .args .most) (s .args .start) first (lp .left) r here (lp .inv .4) (sym (at-open .is-open .ensures) ∙ at-if1 .if1 .taken) (at-if2 .if2 .left) _ (d .result .outcome) (d .ensures) _ (after-settled (s .args .g .pages) (lp .cursor) (lp .state) (d .result .outcome) (at-after .after .result) (at-after .after .ensures) (c .before .if3 .taken) _ (c .settle .ensures)) _ (at-programs .programs .ensures)
 
 loop-again-2 : tie.Need-loop-again-2 Inv-loop μ-loop
 loop-again-2 c =
@@ -168,7 +168,7 @@ loop-again-2 c =
       at-register .register .given ∙ lp .inv .1,
       at-history .history .given ∙ lp .inv .2,
       at-page .page .given ∙ lp .inv .3,
-      run-goes set (now (s .args .bytes)) (s .args .most) (s .args .start) first (lp .left) r here (lp .inv .4) (sym (at-open .is-open .ensures) ∙ at-if1 .if1 .taken) (at-if2 .if2 .left) _ (d .result .outcome) (d .ensures .0) (d .ensures .1) _ (after-settled (s .args .g .pages) (lp .cursor) (lp .state) (d .result .outcome) (at-after .after .result) (at-after .after .ensures) (c .before .if3 .taken) _ (c .settle .ensures)) _ (at-programs .programs .ensures),
+      run-goes set (now (s .args .bytes)) (s .args .most) (s .args .start) first (lp .left) r here (lp .inv .4) (sym (at-open .is-open .ensures) ∙ at-if1 .if1 .taken) (at-if2 .if2 .left) _ (d .result .outcome) (d .ensures) _ (after-settled (s .args .g .pages) (lp .cursor) (lp .state) (d .result .outcome) (at-after .after .result) (at-after .after .ensures) (c .before .if3 .taken) _ (c .settle .ensures)) _ (at-programs .programs .ensures),
     )
 
 loop-less-3 : tie.Need-loop-less-3 Inv-loop μ-loop
@@ -187,7 +187,7 @@ loop-less-3 c =
     let r = running (lp .cursor) (lp .state) in
     let here = line (lp .bus) (lp .array) (lp .register) (lp .history) in
     let d = at-perform .perform in
-    run-less set (now (s .args .bytes)) (s .args .most) (s .args .start) first (lp .left) r here (lp .inv .4) (sym (at-open .is-open .ensures) ∙ at-if1 .if1 .taken) (at-if2 .if2 .left) _ (d .result .outcome) (d .ensures .0) (d .ensures .1) _ (after-kept (s .args .g .pages) (lp .cursor) (lp .state) (d .result .outcome) (at-after .after .result) (at-after .after .ensures) (c .if3 .left)) _ (at-programs .programs .ensures)
+    run-less set (now (s .args .bytes)) (s .args .most) (s .args .start) first (lp .left) r here (lp .inv .4) (sym (at-open .is-open .ensures) ∙ at-if1 .if1 .taken) (at-if2 .if2 .left) _ (d .result .outcome) (d .ensures) _ (after-kept (s .args .g .pages) (lp .cursor) (lp .state) (d .result .outcome) (at-after .after .result) (at-after .after .ensures) (c .if3 .left)) _ (at-programs .programs .ensures)
 
 loop-again-3 : tie.Need-loop-again-3 Inv-loop μ-loop
 loop-again-3 c =
@@ -213,7 +213,7 @@ loop-again-3 c =
       at-register .register .given ∙ lp .inv .1,
       at-history .history .given ∙ lp .inv .2,
       at-page .page .given ∙ lp .inv .3,
-      run-goes set (now (s .args .bytes)) (s .args .most) (s .args .start) first (lp .left) r here (lp .inv .4) (sym (at-open .is-open .ensures) ∙ at-if1 .if1 .taken) (at-if2 .if2 .left) _ (d .result .outcome) (d .ensures .0) (d .ensures .1) _ (after-kept (s .args .g .pages) (lp .cursor) (lp .state) (d .result .outcome) (at-after .after .result) (at-after .after .ensures) (c .if3 .left)) _ (at-programs .programs .ensures),
+      run-goes set (now (s .args .bytes)) (s .args .most) (s .args .start) first (lp .left) r here (lp .inv .4) (sym (at-open .is-open .ensures) ∙ at-if1 .if1 .taken) (at-if2 .if2 .left) _ (d .result .outcome) (d .ensures) _ (after-kept (s .args .g .pages) (lp .cursor) (lp .state) (d .result .outcome) (at-after .after .result) (at-after .after .ensures) (c .if3 .left)) _ (at-programs .programs .ensures),
     )
 
 same-length : tie.Need-same-length Inv-loop μ-loop

@@ -1,14 +1,18 @@
 -- `flash_store::flash_store_format` meets its contract. Assumes nothing.
-use mathlib.Core.Path.{sym, _∙_}
+use Prim.Native.Nat.{ℕ}
+use mathlib.Core.Path.{sym, ap, _∙_}
 use borrow.Author.Tests.{not-true, not-false}
 use denote.Ref.{now}
-use Rattle.chip_array.specs.Device.{Device, setting}
-use Rattle.state.specs.declared.State.{State}
-use Rattle.format.specs.Format.{formatting}
-use Rattle.c_buffers.specs.Buffers.{geometryOf, lent}
+use Rattle.chip_array.specs.Device.{Device, device, setting}
+use Rattle.open_write.specs.Open.{OpenState, openState}
+use Rattle.open_write.specs.Requests.{openResult, formatGives, openRefusal, formattingOpen}
+use Rattle.open_write.proofs.BesideLaws.{format-held, format-beside}
 use Rattle.flash_store.specs.Library.{formattingLent}
+use Rattle.flash_store.proofs.LibraryLaws.{lent-wrongly, turned, request-handed, left-by}
+use lib.Dec.{eqb}
+use Rattle.c_open.specs.OpenBytes.{bytesPage}
+use Rattle.c_buffers.specs.Buffers.{geometryOf, lent}
 use Rattle.c_buffers.proofs.BufferLaws.{right-long}
-use Rattle.flash_store.proofs.LibraryLaws.{lent-wrongly, request-handed}
 use borrow.Author.Needs.{needs}
 use Rattle.flash_store.proofs.flash_store_format.Statement.{statement}
 use Rattle.flash_store.proofs.flash_store_format.Tie as tie
@@ -19,66 +23,101 @@ is-lent-rightly-requires c κs = search needs
 returns : tie.Need-returns
 unfolding formattingLent
 returns c =
-    let way = c .before .before .before .before .before .before .before .before .before in
-    let s = way .before in
-    lent-wrongly (lent (now (s .args .state)) (now (s .args .interface)) (now (s .args .array)) (now (s .args .register)) (now (s .args .history)) (now (s .args .sent))) _ (sym (c .before .is-lent-rightly .ensures) ∙ not-true _ (c .if1 .taken))
+    let s = c .before .before .before .before .before .before .before .before .before .before in
+    let l = (lent (now (s .args .state)) (now (s .args .interface)) (now (s .args .array)) (now (s .args .register)) (now (s .args .history)) (now (s .args .sent))) in
+    let set = (setting (geometryOf (s .args .main) (s .args .spare) (s .args .pages) (s .args .blocks) (s .args .logical)) (now (s .args .mask)) (now (s .args .fates))) in
+    lent-wrongly l _ (sym (c .before .is-lent-rightly .ensures) ∙ not-true _ (c .if1 .taken))
 
-load-requires : tie.Need-load-requires
-load-requires c κs = right-long _ _ _ (sym (c .before .before .is-lent-rightly .ensures) ∙ not-false _ (c .before .if1 .left)) .state-long
+state-of-requires : tie.Need-state-of-requires
+state-of-requires c κs = right-long _ _ _ (sym (c .before .before .is-lent-rightly .ensures) ∙ not-false _ (c .before .if1 .left)) .state-long
+
+write-of-requires : tie.Need-write-of-requires
+write-of-requires c κs = right-long _ _ _ (sym (c .before .before .before .before .is-lent-rightly .ensures) ∙ not-false _ (c .before .before .before .if1 .left)) .state-long
 
 interface-of-requires : tie.Need-interface-of-requires
-interface-of-requires c κs = right-long _ _ _ (sym (c .before .before .before .before .is-lent-rightly .ensures) ∙ not-false _ (c .before .before .before .if1 .left)) .interface-long
+interface-of-requires c κs = right-long _ _ _ (sym (c .before .before .before .before .before .before .is-lent-rightly .ensures) ∙ not-false _ (c .before .before .before .before .before .if1 .left)) .interface-long
 
-format-requires : tie.Need-format-requires
-format-requires c κs = search needs
+held-requires : tie.Need-held-requires
+held-requires c κs = right-long _ _ _ (sym (c .before .before .before .before .before .before .before .before .before .is-lent-rightly .ensures) ∙ not-false _ (c .before .before .before .before .before .before .before .before .if1 .left)) .state-long
 
-hand-back-requires : tie.Need-hand-back-requires
-hand-back-requires c κs =
-    let way = c .before .before .before .before .before .before .before .before .before in
-    let at-if1 = way .before .before .before .before .before .before .before .before in
-    let at-is-lent-rightly = at-if1 .before in
-    let long = right-long _ _ _ (sym (at-is-lent-rightly .is-lent-rightly .ensures) ∙ not-false _ (at-if1 .if1 .left)) in
+refuse-requires : tie.Need-refuse-requires
+refuse-requires c κs =
+    let long = right-long _ _ _ (sym (c .before .before .before .before .before .before .before .before .before .before .before .before .before .before .is-lent-rightly .ensures) ∙ not-false _ (c .before .before .before .before .before .before .before .before .before .before .before .before .before .if1 .left)) in
     (long .state-long, (long .interface-long, long .sent-long))
 
 same-length : tie.Need-same-length
-same-length c = c .before .before .before .before .before .state .given
+same-length c = search needs
 
 same-length-2 : tie.Need-same-length-2
-same-length-2 c = c .before .before .before .interface .given
+same-length-2 c = search needs
 
 same-length-3 : tie.Need-same-length-3
-same-length-3 c =
-    let way = c .before .before .before .before .before .before .before .before .before in
-    let at-array = way .before .before .before .before .before .before in
-    at-array .array .given
-
-same-length-4 : tie.Need-same-length-4
-same-length-4 c =
-    let way = c .before .before .before .before .before .before .before .before .before in
-    let at-register = way .before .before .before .before in
-    at-register .register .given
-
-same-length-5 : tie.Need-same-length-5
-same-length-5 c =
-    let way = c .before .before .before .before .before .before .before .before .before in
-    let at-history = way .before .before in
-    at-history .history .given
-
-same-length-6 : tie.Need-same-length-6
-same-length-6 c = c .before .sent .given
+same-length-3 c = search needs
 
 returns-2 : tie.Need-returns-2
 unfolding formattingLent
 returns-2 c =
-    let at-hand-back = c .before .before .before .before .before .before in
-    let way = at-hand-back .before .before .before .before .before .before .before .before .before in
-    let at-format = way .before in
-    let at-interface-of = at-format .before .before .before .before in
-    let at-load = at-interface-of .before .before in
-    let at-if1 = at-load .before .before in
-    let at-is-lent-rightly = at-if1 .before in
-    let s = at-is-lent-rightly .before .before .before .before .before .before .before .before .before in
-    request-handed (λ (d : Device) (state : State). formatting (setting (geometryOf (s .args .main) (s .args .spare) (s .args .pages) (s .args .blocks) (s .args .logical)) (now (s .args .mask)) (now (s .args .fates))) d (s .args .allowed) state) (lent (now (s .args .state)) (now (s .args .interface)) (now (s .args .array)) (now (s .args .register)) (now (s .args .history)) (now (s .args .sent))) _ _ _ (at-load .load .result) (at-interface-of .interface-of .result) (sym (at-is-lent-rightly .is-lent-rightly .ensures) ∙ not-false _ (at-if1 .if1 .left)) (at-load .load .ensures) (at-interface-of .interface-of .ensures) (at-format .format .ensures) (at-hand-back .hand-back .ensures .0 _ _ _) (at-hand-back .hand-back .ensures .1)
+    let s = c .before .before .before .before .before .before .before .before .before .before .before .before .before .before .before .before .before .before .before .before .before .before .before .before .before .before .before .before .before .before in
+    let l = (lent (now (s .args .state)) (now (s .args .interface)) (now (s .args .array)) (now (s .args .register)) (now (s .args .history)) (now (s .args .sent))) in
+    let set = (setting (geometryOf (s .args .main) (s .args .spare) (s .args .pages) (s .args .blocks) (s .args .logical)) (now (s .args .mask)) (now (s .args .fates))) in
+    let right = sym (c .before .before .before .before .before .before .before .before .before .before .before .before .before .before .before .before .before .before .before .before .before .is-lent-rightly .ensures) ∙ not-false _ (c .before .before .before .before .before .before .before .before .before .before .before .before .before .before .before .before .before .before .before .before .if1 .left) in
+    let st = c .before .before .before .before .before .before .before .before .before .before .before .before .before .before .before .before .before .before .state-of in
+    let w = c .before .before .before .before .before .before .before .before .before .before .before .before .before .before .before .before .write-of in
+    let i = c .before .before .before .before .before .before .before .before .before .before .before .before .before .before .interface-of in
+    let x = openState (st .result) (w .result) (bytesPage (now (s .args .state))) in
+    let d = device (i .result) (now (s .args .array)) (now (s .args .register)) (now (s .args .history)) in
+    let told = c .before .before .before .before .before .before .before .before .before .before .before .held .ensures ∙ ap (openRefusal (geometryOf (s .args .main) (s .args .spare) (s .args .pages) (s .args .blocks) (s .args .logical)) _ x) (turned (eqb (w .result .opened) 0)) in
+    let fifteen = c .before .before .before .before .before .before .before .before .before .before .if2 .taken in
+    let back = c .before .before .before .before .before .before .refuse .ensures in
+    request-handed l right (st .result) (w .result) (i .result) (st .ensures) (w .ensures) (i .ensures) (λ (c : Device) (y : OpenState). formattingOpen set c (s .args .allowed) y) _ _ _
+    (ap (λ (k : ℕ). openResult k x d 0) fifteen ∙ format-held set d (s .args .allowed) x (sym told ∙ fifteen)) (back .0 _ _ _) (back .1)
+
+format-requires : tie.Need-format-requires
+format-requires c κs = search needs
+
+gives-up-requires : tie.Need-gives-up-requires
+gives-up-requires c κs = search needs
+
+hand-back-requires : tie.Need-hand-back-requires
+hand-back-requires c κs =
+    let long = right-long _ _ _ (sym (c .before .before .before .before .before .before .before .before .before .before .before .before .before .before .before .before .before .before .before .before .before .before .before .before .before .is-lent-rightly .ensures) ∙ not-false _ (c .before .before .before .before .before .before .before .before .before .before .before .before .before .before .before .before .before .before .before .before .before .before .before .before .if1 .left)) in
+    (long .state-long, (long .interface-long, long .sent-long))
+
+same-length-4 : tie.Need-same-length-4
+same-length-4 c = search needs
+
+same-length-5 : tie.Need-same-length-5
+same-length-5 c = search needs
+
+same-length-6 : tie.Need-same-length-6
+same-length-6 c = search needs
+
+same-length-7 : tie.Need-same-length-7
+same-length-7 c = search needs
+
+same-length-8 : tie.Need-same-length-8
+same-length-8 c = search needs
+
+same-length-9 : tie.Need-same-length-9
+same-length-9 c = search needs
+
+returns-3 : tie.Need-returns-3
+unfolding formattingLent
+returns-3 c =
+    let s = c .before .before .before .before .before .before .before .before .before .before .before .before .before .before .before .before .before .before .before .before .before .before .before .before .before .before .before .before .before .before .before .before .before .before .before .before .before .before .before .before .before in
+    let l = (lent (now (s .args .state)) (now (s .args .interface)) (now (s .args .array)) (now (s .args .register)) (now (s .args .history)) (now (s .args .sent))) in
+    let set = (setting (geometryOf (s .args .main) (s .args .spare) (s .args .pages) (s .args .blocks) (s .args .logical)) (now (s .args .mask)) (now (s .args .fates))) in
+    let right = sym (c .before .before .before .before .before .before .before .before .before .before .before .before .before .before .before .before .before .before .before .before .before .before .before .before .before .before .before .before .before .before .before .before .is-lent-rightly .ensures) ∙ not-false _ (c .before .before .before .before .before .before .before .before .before .before .before .before .before .before .before .before .before .before .before .before .before .before .before .before .before .before .before .before .before .before .before .if1 .left) in
+    let st = c .before .before .before .before .before .before .before .before .before .before .before .before .before .before .before .before .before .before .before .before .before .before .before .before .before .before .before .before .before .state-of in
+    let w = c .before .before .before .before .before .before .before .before .before .before .before .before .before .before .before .before .before .before .before .before .before .before .before .before .before .before .before .write-of in
+    let i = c .before .before .before .before .before .before .before .before .before .before .before .before .before .before .before .before .before .before .before .before .before .before .before .before .before .interface-of in
+    let x = openState (st .result) (w .result) (bytesPage (now (s .args .state))) in
+    let d = device (i .result) (now (s .args .array)) (now (s .args .register)) (now (s .args .history)) in
+    let told = c .before .before .before .before .before .before .before .before .before .before .before .before .before .before .before .before .before .before .before .before .before .before .held .ensures ∙ ap (openRefusal (geometryOf (s .args .main) (s .args .spare) (s .args .pages) (s .args .blocks) (s .args .logical)) _ x) (turned (eqb (w .result .opened) 0)) in
+    let r = c .before .before .before .before .before .before .before .before .before .before .before .before .before .before .before .before .before .format in
+    let back = c .before .before .before .before .before .before .hand-back .ensures in
+    request-handed l right (st .result) (w .result) (i .result) (st .ensures) (w .ensures) (i .ensures) (λ (c : Device) (y : OpenState). formattingOpen set c (s .args .allowed) y) _ _ _
+    (left-by formatGives x _ _ _ (r .ensures) (c .before .before .before .before .before .before .before .before .before .before .gives-up .ensures) ∙ format-beside set d (s .args .allowed) x (λ z. c .before .before .before .before .before .before .before .before .before .before .before .before .before .before .before .before .before .before .before .before .before .if2 .left (told ∙ z))) (back .0 _ _ _) (back .1)
 
 pub flash-store-format-spec : {M : Type 1} → statement M
 flash-store-format-spec =
@@ -86,14 +125,22 @@ flash-store-format-spec =
     (tie.spec
     is-lent-rightly-requires
     returns
-    load-requires
+    state-of-requires
+    write-of-requires
     interface-of-requires
-    format-requires
-    hand-back-requires
+    held-requires
+    refuse-requires
     same-length
     same-length-2
     same-length-3
+    returns-2
+    format-requires
+    gives-up-requires
+    hand-back-requires
     same-length-4
     same-length-5
     same-length-6
-    returns-2)
+    same-length-7
+    same-length-8
+    same-length-9
+    returns-3)

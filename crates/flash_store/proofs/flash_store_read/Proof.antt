@@ -3,9 +3,9 @@ use mathlib.Core.Path.{sym, _∙_}
 use borrow.Author.Tests.{not-true, not-false}
 use denote.Ref.{now}
 use Rattle.chip_array.specs.Device.{setting}
+use Rattle.flash_store.proofs.LibraryLaws.{read-wrongly, read-handed, read-refused}
 use Rattle.c_buffers.specs.Buffers.{geometryOf, lent}
 use Rattle.c_buffers.proofs.BufferLaws.{right-long}
-use Rattle.flash_store.proofs.LibraryLaws.{read-wrongly, read-handed}
 use borrow.Author.Needs.{needs}
 use Rattle.flash_store.proofs.flash_store_read.Statement.{statement}
 use Rattle.flash_store.proofs.flash_store_read.Tie as tie
@@ -15,73 +15,97 @@ is-lent-rightly-requires c κs = search needs
 
 returns : tie.Need-returns
 returns c =
-    let way = c .before .before .before .before .before .before .before .before .before in
-    let s = way .before .before in
-    read-wrongly (setting (geometryOf (s .args .main) (s .args .spare) (s .args .pages) (s .args .blocks) (s .args .logical)) (now (s .args .mask)) (now (s .args .fates))) (lent (now (s .args .state)) (now (s .args .interface)) (now (s .args .array)) (now (s .args .register)) (now (s .args .history)) (now (s .args .sent))) (s .args .allowed) (s .args .block) (s .args .page) (now (s .args .buffer)) (sym (c .before .is-lent-rightly .ensures) ∙ not-true _ (c .if1 .taken))
+    let s = c .before .before .before .before .before .before .before .before .before .before .before in
+    let l = (lent (now (s .args .state)) (now (s .args .interface)) (now (s .args .array)) (now (s .args .register)) (now (s .args .history)) (now (s .args .sent))) in
+    let set = (setting (geometryOf (s .args .main) (s .args .spare) (s .args .pages) (s .args .blocks) (s .args .logical)) (now (s .args .mask)) (now (s .args .fates))) in
+    read-wrongly set l (s .args .allowed) (s .args .block) (s .args .page) (now (s .args .buffer)) (sym (c .before .is-lent-rightly .ensures) ∙ not-true _ (c .if1 .taken))
 
-load-requires : tie.Need-load-requires
-load-requires c κs = right-long _ _ _ (sym (c .before .before .is-lent-rightly .ensures) ∙ not-false _ (c .before .if1 .left)) .state-long
+state-of-requires : tie.Need-state-of-requires
+state-of-requires c κs = right-long _ _ _ (sym (c .before .before .is-lent-rightly .ensures) ∙ not-false _ (c .before .if1 .left)) .state-long
+
+write-of-requires : tie.Need-write-of-requires
+write-of-requires c κs = right-long _ _ _ (sym (c .before .before .before .before .is-lent-rightly .ensures) ∙ not-false _ (c .before .before .before .if1 .left)) .state-long
 
 interface-of-requires : tie.Need-interface-of-requires
-interface-of-requires c κs = right-long _ _ _ (sym (c .before .before .before .before .is-lent-rightly .ensures) ∙ not-false _ (c .before .before .before .if1 .left)) .interface-long
+interface-of-requires c κs = right-long _ _ _ (sym (c .before .before .before .before .before .before .is-lent-rightly .ensures) ∙ not-false _ (c .before .before .before .before .before .if1 .left)) .interface-long
+
+is-inside-requires : tie.Need-is-inside-requires
+is-inside-requires c κs = right-long _ _ _ (sym (c .before .before .before .before .before .before .before .before .is-lent-rightly .ensures) ∙ not-false _ (c .before .before .before .before .before .before .before .if1 .left)) .state-long
+
+held-requires : tie.Need-held-requires
+held-requires c κs = right-long _ _ _ (sym (c .before .before .before .before .before .before .before .before .before .before .before .is-lent-rightly .ensures) ∙ not-false _ (c .before .before .before .before .before .before .before .before .before .before .if1 .left)) .state-long
+
+refuse-requires : tie.Need-refuse-requires
+refuse-requires c κs =
+    let long = right-long _ _ _ (sym (c .before .before .before .before .before .before .before .before .before .before .before .before .before .before .before .is-lent-rightly .ensures) ∙ not-false _ (c .before .before .before .before .before .before .before .before .before .before .before .before .before .before .if1 .left)) in
+    (long .state-long, (long .interface-long, long .sent-long))
+
+same-length : tie.Need-same-length
+same-length c = search needs
+
+same-length-2 : tie.Need-same-length-2
+same-length-2 c = search needs
+
+same-length-3 : tie.Need-same-length-3
+same-length-3 c = search needs
+
+returns-2 : tie.Need-returns-2
+returns-2 c =
+    let s = c .before .before .before .before .before .before .before .before .before .before .before .before .before .before .before .before .before .before .before .before .before .before .before .before .before .before .before .before .before .before .before .before in
+    let l = (lent (now (s .args .state)) (now (s .args .interface)) (now (s .args .array)) (now (s .args .register)) (now (s .args .history)) (now (s .args .sent))) in
+    let set = (setting (geometryOf (s .args .main) (s .args .spare) (s .args .pages) (s .args .blocks) (s .args .logical)) (now (s .args .mask)) (now (s .args .fates))) in
+    let right = sym (c .before .before .before .before .before .before .before .before .before .before .before .before .before .before .before .before .before .before .before .before .before .before .is-lent-rightly .ensures) ∙ not-false _ (c .before .before .before .before .before .before .before .before .before .before .before .before .before .before .before .before .before .before .before .before .before .if1 .left) in
+    let st = c .before .before .before .before .before .before .before .before .before .before .before .before .before .before .before .before .before .before .before .state-of in
+    let w = c .before .before .before .before .before .before .before .before .before .before .before .before .before .before .before .before .before .write-of in
+    let i = c .before .before .before .before .before .before .before .before .before .before .before .before .before .before .before .interface-of in
+    let back = c .before .before .before .before .before .before .refuse .ensures in
+    let inside = c .before .before .before .before .before .before .before .before .before .before .before .before .before .is-inside in
+    read-refused l right (st .result) (w .result) (i .result) (st .ensures) (w .ensures) (i .ensures) set (s .args .allowed) (s .args .block) (s .args .page) (now (s .args .buffer)) _ _ _ (sym (inside .ensures (st .result)) ∙ not-true (inside .result) (c .before .before .before .before .before .before .before .before .before .before .before .before .if2 .taken)) (c .before .before .before .before .before .before .before .before .before .before .held .ensures) (back .0 _ _ _) (back .1)
 
 read-requires : tie.Need-read-requires
 read-requires c κs = search needs
 
+is-stopping-requires : tie.Need-is-stopping-requires
+is-stopping-requires c κs = search needs
+
 hand-back-requires : tie.Need-hand-back-requires
 hand-back-requires c κs =
-    let way = c .before .before .before .before .before .before .before .before .before in
-    let way-2 = way .before .before .before .before .before .before .before .before .before in
-    let at-if1 = way-2 .before .before in
-    let at-is-lent-rightly = at-if1 .before in
-    let long = right-long _ _ _ (sym (at-is-lent-rightly .is-lent-rightly .ensures) ∙ not-false _ (at-if1 .if1 .left)) in
+    let long = right-long _ _ _ (sym (c .before .before .before .before .before .before .before .before .before .before .before .before .before .before .before .before .before .before .before .before .before .before .before .before .before .before .before .is-lent-rightly .ensures) ∙ not-false _ (c .before .before .before .before .before .before .before .before .before .before .before .before .before .before .before .before .before .before .before .before .before .before .before .before .before .before .if1 .left)) in
     (long .state-long, (long .interface-long, long .sent-long))
 
-same-length : tie.Need-same-length
-same-length c = c .before .before .before .before .before .state .given
-
-same-length-2 : tie.Need-same-length-2
-same-length-2 c = c .before .before .before .interface .given
-
-same-length-3 : tie.Need-same-length-3
-same-length-3 c =
-    let way = c .before .before .before .before .before .before .before .before .before in
-    let at-array = way .before .before .before .before .before .before .before .before in
-    at-array .array .given
-
 same-length-4 : tie.Need-same-length-4
-same-length-4 c =
-    let way = c .before .before .before .before .before .before .before .before .before in
-    let at-register = way .before .before .before .before .before .before in
-    at-register .register .given
+same-length-4 c = search needs
 
 same-length-5 : tie.Need-same-length-5
-same-length-5 c =
-    let way = c .before .before .before .before .before .before .before .before .before in
-    let at-history = way .before .before .before .before in
-    at-history .history .given
+same-length-5 c = search needs
 
 same-length-6 : tie.Need-same-length-6
-same-length-6 c = c .before .sent .given
+same-length-6 c = search needs
 
 same-length-7 : tie.Need-same-length-7
-same-length-7 c =
-    let way = c .before .before .before .before .before .before .before .before .before in
-    let at-buffer = way .before .before in
-    at-buffer .buffer .given
+same-length-7 c = search needs
 
-returns-2 : tie.Need-returns-2
-returns-2 c =
-    let at-hand-back = c .before .before .before .before .before .before in
-    let way = at-hand-back .before .before .before .before .before .before .before .before .before in
-    let at-read = way .before .before .before in
-    let at-interface-of = at-read .before .before .before .before .before in
-    let at-load = at-interface-of .before .before in
-    let at-if1 = at-load .before .before in
-    let at-is-lent-rightly = at-if1 .before in
-    let way-2 = at-is-lent-rightly .before .before .before .before .before .before .before .before .before in
-    let s = way-2 .before in
-    read-handed (setting (geometryOf (s .args .main) (s .args .spare) (s .args .pages) (s .args .blocks) (s .args .logical)) (now (s .args .mask)) (now (s .args .fates))) (lent (now (s .args .state)) (now (s .args .interface)) (now (s .args .array)) (now (s .args .register)) (now (s .args .history)) (now (s .args .sent))) (s .args .allowed) (s .args .block) (s .args .page) (now (s .args .buffer)) _ _ _ _ (at-load .load .result) (at-interface-of .interface-of .result) (sym (at-is-lent-rightly .is-lent-rightly .ensures) ∙ not-false _ (at-if1 .if1 .left)) (at-load .load .ensures) (at-interface-of .interface-of .ensures) (at-read .read .ensures) (at-hand-back .hand-back .ensures .0 _ _ _) (at-hand-back .hand-back .ensures .1)
+same-length-8 : tie.Need-same-length-8
+same-length-8 c = search needs
+
+same-length-9 : tie.Need-same-length-9
+same-length-9 c = search needs
+
+same-length-10 : tie.Need-same-length-10
+same-length-10 c = search needs
+
+returns-3 : tie.Need-returns-3
+returns-3 c =
+    let s = c .before .before .before .before .before .before .before .before .before .before .before .before .before .before .before .before .before .before .before .before .before .before .before .before .before .before .before .before .before .before .before .before .before .before .before .before .before .before .before .before .before .before .before .before in
+    let l = (lent (now (s .args .state)) (now (s .args .interface)) (now (s .args .array)) (now (s .args .register)) (now (s .args .history)) (now (s .args .sent))) in
+    let set = (setting (geometryOf (s .args .main) (s .args .spare) (s .args .pages) (s .args .blocks) (s .args .logical)) (now (s .args .mask)) (now (s .args .fates))) in
+    let right = sym (c .before .before .before .before .before .before .before .before .before .before .before .before .before .before .before .before .before .before .before .before .before .before .before .before .before .before .before .before .before .before .before .before .before .before .is-lent-rightly .ensures) ∙ not-false _ (c .before .before .before .before .before .before .before .before .before .before .before .before .before .before .before .before .before .before .before .before .before .before .before .before .before .before .before .before .before .before .before .before .before .if1 .left) in
+    let st = c .before .before .before .before .before .before .before .before .before .before .before .before .before .before .before .before .before .before .before .before .before .before .before .before .before .before .before .before .before .before .before .state-of in
+    let w = c .before .before .before .before .before .before .before .before .before .before .before .before .before .before .before .before .before .before .before .before .before .before .before .before .before .before .before .before .before .write-of in
+    let i = c .before .before .before .before .before .before .before .before .before .before .before .before .before .before .before .before .before .before .before .before .before .before .before .before .before .before .before .interface-of in
+    let back = c .before .before .before .before .before .before .hand-back .ensures in
+    let inside = c .before .before .before .before .before .before .before .before .before .before .before .before .before .before .before .before .before .before .before .before .before .before .before .before .before .is-inside in
+    read-handed l right (st .result) (w .result) (i .result) (st .ensures) (w .ensures) (i .ensures) set (s .args .allowed) (s .args .block) (s .args .page) (now (s .args .buffer)) _ _ _ _ _ (sym (inside .ensures (st .result)) ∙ not-false (inside .result) (c .before .before .before .before .before .before .before .before .before .before .before .before .before .before .before .before .before .before .before .before .before .before .before .before .if2 .left)) (c .before .before .before .before .before .before .before .before .before .before .before .before .before .before .before .before .before .before .before .read .ensures) (c .before .before .before .before .before .before .before .before .before .before .is-stopping .ensures) (back .0 _ _ _) (back .1)
 
 pub flash-store-read-spec : {M : Type 1} → statement M
 flash-store-read-spec =
@@ -89,15 +113,24 @@ flash-store-read-spec =
     (tie.spec
     is-lent-rightly-requires
     returns
-    load-requires
+    state-of-requires
+    write-of-requires
     interface-of-requires
-    read-requires
-    hand-back-requires
+    is-inside-requires
+    held-requires
+    refuse-requires
     same-length
     same-length-2
     same-length-3
+    returns-2
+    read-requires
+    is-stopping-requires
+    hand-back-requires
     same-length-4
     same-length-5
     same-length-6
     same-length-7
-    returns-2)
+    same-length-8
+    same-length-9
+    same-length-10
+    returns-3)

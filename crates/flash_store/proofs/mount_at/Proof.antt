@@ -2,13 +2,16 @@
 use mathlib.Core.Path.{sym, _∙_}
 use borrow.Author.Tests.{not-true, not-false}
 use denote.Ref.{now}
-use Rattle.chip_array.specs.Device.{Device, setting}
-use Rattle.state.specs.declared.State.{State}
-use Rattle.mount.specs.Mount.{mounting}
-use Rattle.c_buffers.specs.Buffers.{geometryOf, lent}
+use Rattle.chip_array.specs.Device.{Device, device, setting}
+use Rattle.open_write.specs.Open.{OpenState, openState}
+use Rattle.open_write.specs.Requests.{mountGives, openMountRequest, mountingOpen}
+use Rattle.request.specs.Call.{resultOf}
 use Rattle.flash_store.specs.Library.{mountingLent}
+use Rattle.flash_store.proofs.LibraryLaws.{lent-wrongly, turned, request-handed, left-by}
+use lib.Dec.{eqb}
+use Rattle.c_open.specs.OpenBytes.{bytesPage}
+use Rattle.c_buffers.specs.Buffers.{geometryOf, lent}
 use Rattle.c_buffers.proofs.BufferLaws.{right-long}
-use Rattle.flash_store.proofs.LibraryLaws.{lent-wrongly, request-handed}
 use borrow.Author.Needs.{needs}
 use Rattle.flash_store.proofs.mount_at.Statement.{statement}
 use Rattle.flash_store.proofs.mount_at.Tie as tie
@@ -19,66 +22,62 @@ is-lent-rightly-requires c κs = search needs
 returns : tie.Need-returns
 unfolding mountingLent
 returns c =
-    let way = c .before .before .before .before .before .before .before .before .before in
-    let s = way .before in
-    lent-wrongly (lent (now (s .args .state)) (now (s .args .interface)) (now (s .args .array)) (now (s .args .register)) (now (s .args .history)) (now (s .args .sent))) _ (sym (c .before .is-lent-rightly .ensures) ∙ not-true _ (c .if1 .taken))
+    let s = c .before .before .before .before .before .before .before .before .before .before in
+    let l = (lent (now (s .args .state)) (now (s .args .interface)) (now (s .args .array)) (now (s .args .register)) (now (s .args .history)) (now (s .args .sent))) in
+    let set = (setting (geometryOf (s .args .main) (s .args .spare) (s .args .pages) (s .args .blocks) (s .args .logical)) (now (s .args .mask)) (now (s .args .fates))) in
+    lent-wrongly l _ (sym (c .before .is-lent-rightly .ensures) ∙ not-true _ (c .if1 .taken))
 
-load-requires : tie.Need-load-requires
-load-requires c κs = right-long _ _ _ (sym (c .before .before .is-lent-rightly .ensures) ∙ not-false _ (c .before .if1 .left)) .state-long
+state-of-requires : tie.Need-state-of-requires
+state-of-requires c κs = right-long _ _ _ (sym (c .before .before .is-lent-rightly .ensures) ∙ not-false _ (c .before .if1 .left)) .state-long
+
+write-of-requires : tie.Need-write-of-requires
+write-of-requires c κs = right-long _ _ _ (sym (c .before .before .before .before .is-lent-rightly .ensures) ∙ not-false _ (c .before .before .before .if1 .left)) .state-long
 
 interface-of-requires : tie.Need-interface-of-requires
-interface-of-requires c κs = right-long _ _ _ (sym (c .before .before .before .before .is-lent-rightly .ensures) ∙ not-false _ (c .before .before .before .if1 .left)) .interface-long
+interface-of-requires c κs = right-long _ _ _ (sym (c .before .before .before .before .before .before .is-lent-rightly .ensures) ∙ not-false _ (c .before .before .before .before .before .if1 .left)) .interface-long
 
 mount-requires : tie.Need-mount-requires
 mount-requires c κs = search needs
 
 hand-back-requires : tie.Need-hand-back-requires
 hand-back-requires c κs =
-    let way = c .before .before .before .before .before .before .before .before .before in
-    let at-if1 = way .before .before .before .before .before .before .before .before in
-    let at-is-lent-rightly = at-if1 .before in
-    let long = right-long _ _ _ (sym (at-is-lent-rightly .is-lent-rightly .ensures) ∙ not-false _ (at-if1 .if1 .left)) in
+    let long = right-long _ _ _ (sym (c .before .before .before .before .before .before .before .before .before .before .before .before .before .before .before .before .before .before .before .before .before .is-lent-rightly .ensures) ∙ not-false _ (c .before .before .before .before .before .before .before .before .before .before .before .before .before .before .before .before .before .before .before .before .if1 .left)) in
     (long .state-long, (long .interface-long, long .sent-long))
 
 same-length : tie.Need-same-length
-same-length c = c .before .before .before .before .before .state .given
+same-length c = search needs
 
 same-length-2 : tie.Need-same-length-2
-same-length-2 c = c .before .before .before .interface .given
+same-length-2 c = search needs
 
 same-length-3 : tie.Need-same-length-3
-same-length-3 c =
-    let way = c .before .before .before .before .before .before .before .before .before in
-    let at-array = way .before .before .before .before .before .before in
-    at-array .array .given
+same-length-3 c = search needs
 
 same-length-4 : tie.Need-same-length-4
-same-length-4 c =
-    let way = c .before .before .before .before .before .before .before .before .before in
-    let at-register = way .before .before .before .before in
-    at-register .register .given
+same-length-4 c = search needs
 
 same-length-5 : tie.Need-same-length-5
-same-length-5 c =
-    let way = c .before .before .before .before .before .before .before .before .before in
-    let at-history = way .before .before in
-    at-history .history .given
+same-length-5 c = search needs
 
 same-length-6 : tie.Need-same-length-6
-same-length-6 c = c .before .sent .given
+same-length-6 c = search needs
 
 returns-2 : tie.Need-returns-2
-unfolding mountingLent
+unfolding mountingLent openMountRequest resultOf
 returns-2 c =
-    let at-hand-back = c .before .before .before .before .before .before in
-    let way = at-hand-back .before .before .before .before .before .before .before .before .before in
-    let at-mount = way .before in
-    let at-interface-of = at-mount .before .before .before .before in
-    let at-load = at-interface-of .before .before in
-    let at-if1 = at-load .before .before in
-    let at-is-lent-rightly = at-if1 .before in
-    let s = at-is-lent-rightly .before .before .before .before .before .before .before .before .before in
-    request-handed (λ (d : Device) (state : State). mounting (s .args .depth) (setting (geometryOf (s .args .main) (s .args .spare) (s .args .pages) (s .args .blocks) (s .args .logical)) (now (s .args .mask)) (now (s .args .fates))) d (s .args .allowed) state) (lent (now (s .args .state)) (now (s .args .interface)) (now (s .args .array)) (now (s .args .register)) (now (s .args .history)) (now (s .args .sent))) _ _ _ (at-load .load .result) (at-interface-of .interface-of .result) (sym (at-is-lent-rightly .is-lent-rightly .ensures) ∙ not-false _ (at-if1 .if1 .left)) (at-load .load .ensures) (at-interface-of .interface-of .ensures) (at-mount .mount .ensures) (at-hand-back .hand-back .ensures .0 _ _ _) (at-hand-back .hand-back .ensures .1)
+    let s = c .before .before .before .before .before .before .before .before .before .before .before .before .before .before .before .before .before .before .before .before .before .before .before .before .before .before .before .before .before .before .before .before .before .before .before .before .before in
+    let l = (lent (now (s .args .state)) (now (s .args .interface)) (now (s .args .array)) (now (s .args .register)) (now (s .args .history)) (now (s .args .sent))) in
+    let set = (setting (geometryOf (s .args .main) (s .args .spare) (s .args .pages) (s .args .blocks) (s .args .logical)) (now (s .args .mask)) (now (s .args .fates))) in
+    let right = sym (c .before .before .before .before .before .before .before .before .before .before .before .before .before .before .before .before .before .before .before .before .before .before .before .before .before .before .before .before .is-lent-rightly .ensures) ∙ not-false _ (c .before .before .before .before .before .before .before .before .before .before .before .before .before .before .before .before .before .before .before .before .before .before .before .before .before .before .before .if1 .left) in
+    let st = c .before .before .before .before .before .before .before .before .before .before .before .before .before .before .before .before .before .before .before .before .before .before .before .before .before .state-of in
+    let w = c .before .before .before .before .before .before .before .before .before .before .before .before .before .before .before .before .before .before .before .before .before .before .before .write-of in
+    let i = c .before .before .before .before .before .before .before .before .before .before .before .before .before .before .before .before .before .before .before .before .before .interface-of in
+    let x = openState (st .result) (w .result) (bytesPage (now (s .args .state))) in
+    let d = device (i .result) (now (s .args .array)) (now (s .args .register)) (now (s .args .history)) in
+    let r = c .before .before .before .before .before .before .before .before .before .before .before .before .before .before .before .before .before .mount in
+    let back = c .before .before .before .before .before .before .hand-back .ensures in
+    request-handed l right (st .result) (w .result) (i .result) (st .ensures) (w .ensures) (i .ensures) (λ (c : Device) (y : OpenState). mountingOpen (s .args .depth) set c (s .args .allowed) y) _ _ _
+    (left-by mountGives x _ _ _ (r .ensures) (turned (eqb (r .result .answer) 1))) (back .0 _ _ _) (back .1)
 
 pub mount-at-spec : {M : Type 1} → statement M
 mount-at-spec =
@@ -86,7 +85,8 @@ mount-at-spec =
     (tie.spec
     is-lent-rightly-requires
     returns
-    load-requires
+    state-of-requires
+    write-of-requires
     interface-of-requires
     mount-requires
     hand-back-requires

@@ -9,7 +9,7 @@ use Rattle.bus.specs.Line.{line}
 use Rattle.operations.proofs.UnreadyLaws.{called-lent}
 use Rattle.state.specs.State.{none}
 use Rattle.fill_cursor.specs.Cursor.{running}
-use Rattle.fill_driver.proofs.RunLaws.{first-due}
+use Rattle.fill_driver.proofs.RunLaws.{first-fits}
 use Rattle.format.proofs.EndLaws.{tables-done}
 use borrow.Author.Needs.{needs}
 use Rattle.format.proofs.fill_tables.Statement.{statement}
@@ -28,9 +28,8 @@ run-requires : tie.Need-run-requires
 run-requires c κs =
     let at-begin = c .before .before .before .before .before in
     let s = c .before .before .before .before .before .before .before .before .before .before .before .before in
-    let set = setting (s .args .g) (now (s .args .mask)) (now (s .args .fates)) in
     let v = s .pre .0 .is-valid in
-    (called-lent (s .pre .0), (λ h. first-due set v _ 1 0 0 0 none _ (at-begin .begin .ensures) (omega (arith, v .logical-least)) _ (sym (zero-mul (s .args .g .main))), (λ h. s .pre .1 .0, s .pre .1 .1)))
+    (called-lent (s .pre .0), (λ h. first-fits (s .args .g) v 1 0 0 0 none _ (at-begin .begin .ensures) (omega (arith, v .logical-least)) _ (sym (zero-mul (s .args .g .main))), (λ h. s .pre .1 .0, s .pre .1 .1)))
 
 same-length : tie.Need-same-length
 same-length c = search needs

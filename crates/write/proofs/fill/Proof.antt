@@ -7,7 +7,7 @@ use Rattle.geometry.proofs.SizeLaws.{page-size-most}
 use Rattle.chip_array.specs.Device.{setting}
 use Rattle.request.proofs.CallLaws.{lent-page}
 use Rattle.fill_cursor.specs.Cursor.{running}
-use Rattle.fill_driver.proofs.RunLaws.{first-due}
+use Rattle.fill_driver.proofs.RunLaws.{first-fits}
 use Rattle.write.specs.Update.{update}
 use Rattle.write.proofs.EndLaws.{fill-left, fill-ends}
 use borrow.Author.Needs.{needs}
@@ -37,10 +37,9 @@ run-requires c κs =
     let at-cursor = c .before .before .before .before in
     let at-size = at-cursor .before in
     let s = at-size .before .before .before .before .before .before .before in
-    let set = setting (s .args .g) (now (s .args .mask)) (now (s .args .fates)) in
     let v = s .pre .0 .is-valid in
     let size = at-size .page-size .ensures in
-    (s .pre .0, (λ h. first-due set v _ 0 (s .args .logical) (s .args .first) (s .args .count) (s .args .old) _ (at-cursor .begin .ensures) (s .pre .1 .1 .1 .0) _ (s .pre .1 .1 .1 .1), (λ h. s .pre .1 .1 .0, lent-page _ _ (omega (arith, size, page-size-most (s .args .g) v)) size)))
+    (s .pre .0, (λ h. first-fits (s .args .g) v 0 (s .args .logical) (s .args .first) (s .args .count) (s .args .old) _ (at-cursor .begin .ensures) (s .pre .1 .1 .1 .0) _ (s .pre .1 .1 .1 .1), (λ h. s .pre .1 .1 .0, lent-page _ _ (omega (arith, size, page-size-most (s .args .g) v)) size)))
 
 end-requires : tie.Need-end-requires
 end-requires c κs =

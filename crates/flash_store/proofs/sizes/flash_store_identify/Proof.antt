@@ -2,9 +2,9 @@
 use mathlib.Core.Path.{sym, _∙_}
 use borrow.Author.Tests.{not-true, not-false}
 use denote.Ref.{now}
+use Rattle.flash_store.proofs.SizeLaws.{identify-wrongly, sizes-wrongly, identify-handed}
 use Rattle.c_buffers.specs.Buffers.{lent}
 use Rattle.c_buffers.proofs.BufferLaws.{right-long}
-use Rattle.flash_store.proofs.SizeLaws.{identify-wrongly, sizes-wrongly, identify-handed}
 use borrow.Author.Needs.{needs}
 use Rattle.flash_store.proofs.sizes.flash_store_identify.Statement.{statement}
 use Rattle.flash_store.proofs.sizes.flash_store_identify.Tie as tie
@@ -14,36 +14,37 @@ is-lent-rightly-requires c κs = search needs
 
 returns : tie.Need-returns
 returns c =
-    let way = c .before .before .before .before .before .before .before .before .before in
-    let s = way .before .before .before in
-    identify-wrongly (now (s .args .mask)) (now (s .args .fates)) (lent (now (s .args .state)) (now (s .args .interface)) (now (s .args .array)) (now (s .args .register)) (now (s .args .history)) (now (s .args .sent))) (s .args .allowed) (now (s .args .parameters)) (s .args .logical) (now (s .args .sizes)) (sym (c .before .is-lent-rightly .ensures) ∙ not-true _ (c .if1 .taken))
+    let s = c .before .before .before .before .before .before .before .before .before .before .before .before in
+    let l = (lent (now (s .args .state)) (now (s .args .interface)) (now (s .args .array)) (now (s .args .register)) (now (s .args .history)) (now (s .args .sent))) in
+    identify-wrongly (now (s .args .mask)) (now (s .args .fates)) l (s .args .allowed) (now (s .args .parameters)) (s .args .logical) (now (s .args .sizes)) (sym (c .before .is-lent-rightly .ensures) ∙ not-true _ (c .if1 .taken))
 
 returns-2 : tie.Need-returns-2
 returns-2 c =
-    let way = c .before .before .before .before .before .before .before .before .before in
-    let s = way .before .before .before .before in
-    sizes-wrongly (now (s .args .mask)) (now (s .args .fates)) (lent (now (s .args .state)) (now (s .args .interface)) (now (s .args .array)) (now (s .args .register)) (now (s .args .history)) (now (s .args .sent))) (s .args .allowed) (now (s .args .parameters)) (s .args .logical) (now (s .args .sizes)) (sym (c .before .before .is-lent-rightly .ensures) ∙ not-false _ (c .before .if1 .left)) (c .if2 .taken)
+    let s = c .before .before .before .before .before .before .before .before .before .before .before .before .before in
+    let l = (lent (now (s .args .state)) (now (s .args .interface)) (now (s .args .array)) (now (s .args .register)) (now (s .args .history)) (now (s .args .sent))) in
+    sizes-wrongly (now (s .args .mask)) (now (s .args .fates)) l (s .args .allowed) (now (s .args .parameters)) (s .args .logical) (now (s .args .sizes)) (sym (c .before .before .is-lent-rightly .ensures) ∙ not-false _ (c .before .if1 .left)) (c .if2 .taken)
 
-load-requires : tie.Need-load-requires
-load-requires c κs =
-    right-long _ _ _ (sym (c .before .before .before .is-lent-rightly .ensures) ∙ not-false _ (c .before .before .if1 .left)) .state-long
+state-of-requires : tie.Need-state-of-requires
+state-of-requires c κs = right-long _ _ _ (sym (c .before .before .before .is-lent-rightly .ensures) ∙ not-false _ (c .before .before .if1 .left)) .state-long
+
+write-of-requires : tie.Need-write-of-requires
+write-of-requires c κs = right-long _ _ _ (sym (c .before .before .before .before .before .is-lent-rightly .ensures) ∙ not-false _ (c .before .before .before .before .if1 .left)) .state-long
 
 interface-of-requires : tie.Need-interface-of-requires
-interface-of-requires c κs =
-    right-long _ _ _ (sym (c .before .before .before .before .before .is-lent-rightly .ensures) ∙ not-false _ (c .before .before .before .before .if1 .left)) .interface-long
+interface-of-requires c κs = right-long _ _ _ (sym (c .before .before .before .before .before .before .before .is-lent-rightly .ensures) ∙ not-false _ (c .before .before .before .before .before .before .if1 .left)) .interface-long
 
 identify-requires : tie.Need-identify-requires
 identify-requires c κs = search needs
 
 write-sizes-requires : tie.Need-write-sizes-requires
-write-sizes-requires c κs = search needs
+write-sizes-requires c κs = c .before .before .before .before .before .before .before .before .before .before .before .before .before .before .before .before .before .before .if2 .left
+
+is-stopping-requires : tie.Need-is-stopping-requires
+is-stopping-requires c κs = search needs
 
 hand-back-requires : tie.Need-hand-back-requires
 hand-back-requires c κs =
-    let at-identify = c .before .before .before .before .before .before .before .before .before .before .before .before .before .before .before in
-    let at-if1 = at-identify .before .before .before .before .before .before .before .before .before in
-    let at-is-lent-rightly = at-if1 .before in
-    let long = right-long _ _ _ (sym (at-is-lent-rightly .is-lent-rightly .ensures) ∙ not-false _ (at-if1 .if1 .left)) in
+    let long = right-long _ _ _ (sym (c .before .before .before .before .before .before .before .before .before .before .before .before .before .before .before .before .before .before .before .before .before .before .before .before .before .before .before .before .is-lent-rightly .ensures) ∙ not-false _ (c .before .before .before .before .before .before .before .before .before .before .before .before .before .before .before .before .before .before .before .before .before .before .before .before .before .before .before .if1 .left)) in
     (long .state-long, (long .interface-long, long .sent-long))
 
 same-length : tie.Need-same-length
@@ -69,17 +70,14 @@ same-length-7 c = search needs
 
 returns-3 : tie.Need-returns-3
 returns-3 c =
-    let at-hand-back = c .before .before .before .before .before .before in
-    let at-write-sizes = at-hand-back .before .before .before .before .before .before .before in
-    let at-identify = at-write-sizes .before .before .before .before .before .before .before .before .before in
-    let at-interface-of = at-identify .before .before .before .before in
-    let at-load = at-interface-of .before .before in
-    let at-if2 = at-load .before .before in
-    let at-if1 = at-if2 .before in
-    let at-is-lent-rightly = at-if1 .before in
-    let way = at-is-lent-rightly .before .before .before .before .before .before .before .before .before in
-    let s = way .before .before in
-    identify-handed (now (s .args .mask)) (now (s .args .fates)) (lent (now (s .args .state)) (now (s .args .interface)) (now (s .args .array)) (now (s .args .register)) (now (s .args .history)) (now (s .args .sent))) (s .args .allowed) (now (s .args .parameters)) (s .args .logical) (now (s .args .sizes)) _ _ _ _ _ (at-load .load .result) (at-interface-of .interface-of .result) (sym (at-is-lent-rightly .is-lent-rightly .ensures) ∙ not-false _ (at-if1 .if1 .left)) (at-if2 .if2 .left) (at-load .load .ensures) (at-interface-of .interface-of .ensures) (at-identify .identify .ensures) (at-hand-back .hand-back .ensures .0 _ _ _) (at-hand-back .hand-back .ensures .1) (at-write-sizes .write-sizes .ensures)
+    let s = c .before .before .before .before .before .before .before .before .before .before .before .before .before .before .before .before .before .before .before .before .before .before .before .before .before .before .before .before .before .before .before .before .before .before .before .before .before .before .before .before .before .before .before .before .before .before in
+    let l = (lent (now (s .args .state)) (now (s .args .interface)) (now (s .args .array)) (now (s .args .register)) (now (s .args .history)) (now (s .args .sent))) in
+    let right = sym (c .before .before .before .before .before .before .before .before .before .before .before .before .before .before .before .before .before .before .before .before .before .before .before .before .before .before .before .before .before .before .before .before .before .before .before .is-lent-rightly .ensures) ∙ not-false _ (c .before .before .before .before .before .before .before .before .before .before .before .before .before .before .before .before .before .before .before .before .before .before .before .before .before .before .before .before .before .before .before .before .before .before .if1 .left) in
+    let st = c .before .before .before .before .before .before .before .before .before .before .before .before .before .before .before .before .before .before .before .before .before .before .before .before .before .before .before .before .before .before .before .state-of in
+    let w = c .before .before .before .before .before .before .before .before .before .before .before .before .before .before .before .before .before .before .before .before .before .before .before .before .before .before .before .before .before .write-of in
+    let i = c .before .before .before .before .before .before .before .before .before .before .before .before .before .before .before .before .before .before .before .before .before .before .before .before .before .before .before .interface-of in
+    let back = c .before .before .before .before .before .before .hand-back .ensures in
+    identify-handed (now (s .args .mask)) (now (s .args .fates)) l (s .args .allowed) (now (s .args .parameters)) (s .args .logical) (now (s .args .sizes)) right (c .before .before .before .before .before .before .before .before .before .before .before .before .before .before .before .before .before .before .before .before .before .before .before .before .before .before .before .before .before .before .before .before .before .if2 .left) (st .result) (w .result) (i .result) (st .ensures) (w .ensures) (i .ensures) _ _ _ _ _ _ (c .before .before .before .before .before .before .before .before .before .before .before .before .before .before .before .before .before .before .before .before .before .before .before .identify .ensures) (c .before .before .before .before .before .before .before .before .before .before .is-stopping .ensures) (back .0 _ _ _) (back .1) (c .before .before .before .before .before .before .before .before .before .before .before .before .before .before .write-sizes .ensures)
 
 pub flash-store-identify-spec : {M : Type 1} → statement M
 flash-store-identify-spec =
@@ -88,10 +86,12 @@ flash-store-identify-spec =
     is-lent-rightly-requires
     returns
     returns-2
-    load-requires
+    state-of-requires
+    write-of-requires
     interface-of-requires
     identify-requires
     write-sizes-requires
+    is-stopping-requires
     hand-back-requires
     same-length
     same-length-2

@@ -1,0 +1,14 @@
+pub mod PortionTests
+pub mod EndLaws
+pub mod AlikeLaws
+pub mod PageLaws
+pub mod RunLaws
+pub mod InductionLaws
+pub mod BesideLaws
+pub mod PositionLaws
+pub mod PortionLaws
+pub mod SameLaws
+pub mod AnyReadLaws
+pub mod CountLaws
+pub mod ProgramLaws
+pub mod BetweenLaws

@@ -1,0 +1,3 @@
+pub mod Portions
+pub mod Same
+pub mod Programs

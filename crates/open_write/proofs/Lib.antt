@@ -1,0 +1,3 @@
+pub mod BesideLaws
+pub mod OpenTests
+pub mod WordLaws
