@@ -18,14 +18,14 @@ use Rattle.bus_polling.specs.declared.Outcome.the-variants.{Passed, Cut, Protec
 use Rattle.operations.specs.Ends.{Called}
 use Rattle.operations.specs.Trace.{ArrayOperation}
 use Rattle.copies.specs.Current.{reading}
-use Rattle.progress.specs.Progress.{Progress, progress}
+use Rattle.progress.specs.Progress.{Progress, progress, statusOn}
 use Rattle.progress.proofs.StatusLaws.{StatusLeft, status-leaves, status-started, shown-high}
 use Rattle.state.specs.State.{blank}
 use Rattle.state.specs.declared.State.{State}
 use Rattle.request.specs.Call.{callLine, stopAnswer, statusAnswer, statusState}
-use Rattle.fill_tables.specs.Tables.{tabled}
+use Rattle.fill_tables.specs.Tables.{Tabled, tabled, afterStatus}
 use Rattle.fill_tables.proofs.StatusLaws.{after-passed, after-stopped}
-use Rattle.write_changes.specs.Changes.{Update, Copied, thenTable, changeRun, changeFirst, changeCall}
+use Rattle.write_changes.specs.Changes.{Update, Copied, thenTable, changeRun, changeCall}
 use Rattle.write_laws.specs.Changing.{ChangeAnswer, is-cut, is-protected}
 use Rattle.damage.specs.Run.{failedIn}
 use Rattle.recovery.specs.Book.{Book, Same, Change, entered}
@@ -56,22 +56,25 @@ module _ (s : Setting) (mask-bytes : Bytes (s .mask)) (first : Line) (called : C
   run-ends : (cs : List Cycle) → first .chip .interface .protected ≡ 0 → Changed s c book marked failed (changeRun s st (updateOf st c) (progress first Passed cs []))
   run-ends cs high = then-ends _ (phase.data-ends s mask-bytes first called st c book marked failed marks agrees proper cs high)
 
--- from the chip handed in: its status read, then that
-module _ (s : Setting) (d : Device) (n : ℕ) (st : State) (c : Change) (book : Book) (marked failed : ℕ → Bool) (mask-bytes : Bytes (s .mask)) (called : Called s (callLine d n))
-    (marks : MarkedBy (s .geometry) (d .array) marked) (agrees : Agrees (s .geometry) (d .array) st book failed) (proper : Proper (s .geometry) c) where
+-- from a line on, with these cycles sent: the status read, then that
+module _ (s : Setting) (first : Line) (before : List Cycle) (st : State) (c : Change) (book : Book) (marked failed : ℕ → Bool) (mask-bytes : Bytes (s .mask)) (called : Called s first)
+    (marks : MarkedBy (s .geometry) (first .chip .array) marked) (agrees : Agrees (s .geometry) (first .chip .array) st book failed) (proper : Proper (s .geometry) c) where
   abbrev u : Update
   u = updateOf st c
 
   abbrev p : Progress
-  p = changeFirst s d n
+  p = statusOn s (progress first Passed before [])
 
-  left : StatusLeft s (progress (callLine d n) Passed [] []) p
+  abbrev whole : Tabled
+  whole = afterStatus st p (changeRun s st u p)
+
+  left : StatusLeft s (progress first Passed before []) p
   unfolding isPassed
-  left = status-leaves s (progress (callLine d n) Passed [] []) refl called
+  left = status-leaves s (progress first Passed before []) refl called
 
   none-started : p .started ≡ []
   unfolding isPassed
-  none-started = status-started s (progress (callLine d n) Passed [] []) refl called
+  none-started = status-started s (progress first Passed before []) refl called
 
   here : Agrees (s .geometry) (p .line .chip .array) st book failed
   here = subst (λ (a : List ℕ). Agrees (s .geometry) a st book failed) (sym (left .same-array)) agrees
@@ -79,13 +82,13 @@ module _ (s : Setting) (d : Device) (n : ℕ) (st : State) (c : Change) (book : 
   marks-here : MarkedBy (s .geometry) (p .line .chip .array) marked
   marks-here = subst (λ (a : List ℕ). MarkedBy (s .geometry) a marked) (sym (left .same-array)) marks
 
-  goes : isPassed (p .outcome) ≡ true → Changed s c book marked failed (changeCall s d n st u)
+  goes : isPassed (p .outcome) ≡ true → Changed s c book marked failed whole
   unfolding isPassed
   goes t =
       let next = left .next-called (passed-answered (p .outcome) t) in
       let same : progress (p .line) Passed (p .cycles) [] ≡ p = λ i. progress (p .line) (sym (is-passed (p .outcome) t) i) (p .cycles) (sym none-started i) in
       subst (Changed s c book marked failed) (ap (changeRun s st u) same ∙ sym (after-passed st p (changeRun s st u p) t))
-      (run-ends s mask-bytes (p .line) next st c book marked failed marks-here here proper (p .cycles) (shown-high s (progress (callLine d n) Passed [] []) refl t))
+      (run-ends s mask-bytes (p .line) next st c book marked failed marks-here here proper (p .cycles) (shown-high s (progress first Passed before []) refl t))
 
   -- nothing was programmed: as many copies as before
   as-before : Same (s .geometry) (reading (s .geometry) (p .line .chip .array) (st .table)) (cond (hasCopy (s .geometry) (p .line .chip .array) (p .started)) (entered (s .geometry) c book) book)
@@ -132,18 +135,23 @@ module _ (s : Setting) (d : Device) (n : ℕ) (st : State) (c : Change) (book : 
   abbrev StopsWith : Outcome → Type 0
   StopsWith o = Changed s c book marked failed (tabled p (statusAnswer o) (statusState o st))
 
-  stops : isPassed (p .outcome) ≡ false → Changed s c book marked failed (changeCall s d n st u)
+  stops : isPassed (p .outcome) ≡ false → Changed s c book marked failed whole
   unfolding statusAnswer statusState stopAnswer isPassed isProtected isSilent isCut answered
   stops f =
       subst (Changed s c book marked failed) (sym (after-stopped st p (changeRun s st u p) f))
-      (cases (ltb n 2)
+      (cases (ltb (first .left) 2)
       (λ t.
       let o : p .outcome ≡ Cut = left .outcome-is ∙ rw t in
-      subst StopsWith (sym o) (stays 11 (blank 2) (omega arith) is-cut (λ z. omega (arith, z)) (λ z. omega (arith, left .left-is, ltb-true n 2 t)) (λ z. absurd (omega (arith, z))) (λ x. refl) (λ z. absurd (omega (arith, z)))))
+      subst StopsWith (sym o) (stays 11 (blank 2) (omega arith) is-cut (λ z. omega (arith, z)) (λ z. omega (arith, left .left-is, ltb-true (first .left) 2 t)) (λ z. absurd (omega (arith, z))) (λ x. refl) (λ z. absurd (omega (arith, z)))))
       (λ t.
-      let low : eqb (d .interface .protected) 0 ≡ false = cases (eqb (d .interface .protected) 0) (λ y. absurd (let o = sym f ∙ ap isPassed (left .outcome-is) in false≢true (rw (t, y) at o))) (λ y. y) in
+      let low : eqb (first .chip .interface .protected) 0 ≡ false = cases (eqb (first .chip .interface .protected) 0) (λ y. absurd (let o = sym f ∙ ap isPassed (left .outcome-is) in false≢true (rw (t, y) at o))) (λ y. y) in
       let o : p .outcome ≡ Protected = left .outcome-is ∙ rw (t, low) in
       subst StopsWith (sym o) (stays 13 st (omega arith) is-protected (λ z. omega (arith, z)) (λ z. absurd (omega (arith, z))) (λ z. refl) (λ x. absurd (x refl)) (λ z. left .next-called (ap answered o) .ready))))
 
-  pub change-ends : Changed s c book marked failed (changeCall s d n st u)
-  change-ends = cases (isPassed (p .outcome)) goes stops
+  pub change-from : Changed s c book marked failed whole
+  change-from = cases (isPassed (p .outcome)) goes stops
+
+-- from the chip handed in
+pub change-ends : (s : Setting) (d : Device) (n : ℕ) (st : State) (c : Change) (book : Book) (marked failed : ℕ → Bool) → Bytes (s .mask) → Called s (callLine d n) → MarkedBy (s .geometry) (d .array) marked
+    → Agrees (s .geometry) (d .array) st book failed → Proper (s .geometry) c → Changed s c book marked failed (changeCall s d n st (updateOf st c))
+change-ends s d n st c book marked failed mask-bytes called marks agrees proper = change-from s (callLine d n) [] st c book marked failed mask-bytes called marks agrees proper

@@ -20,8 +20,8 @@ ghost use Rattle.operations.specs.Trace.{ArrayOperation};
 ghost use Rattle.progress.specs.Progress.{progress};
 ghost use Rattle.request.specs.Call.{result, endAt, statusAnswer, statusState};
 ghost use Rattle.fill_tables.specs.Tables.{endOfRun};
-ghost use Rattle.write_changes.specs.Changes.{changeRun, writing, erasingLogical};
-ghost use Rattle.write.specs.Update.{update};
+ghost use Rattle.write_changes.specs.Changes.{writeUpdate, changeRun, writing, erasingLogical};
+ghost use Rattle.write.specs.Update.{update, changeFrom};
 
 fn wide(x: u16) -> usize
     ensures { λ r. ⌜ r ≡ x ⌝ }
@@ -86,6 +86,54 @@ fn stop(outcome: Outcome, state: State, bus: Bus, allowed: u32) -> Returned
     request::end(answer, request::status_state(outcome, state), bus, allowed)
 }
 
+// Writes a page of a logical block, in a call that has come to a bus: the status is read, then the new copy is filled.
+pub fn write_page(
+    state: State,
+    from: Bus,
+    g: Geometry,
+    array: &mut [u8],
+    register: &mut [u8],
+    history: &mut [u8],
+    mask: &[u8],
+    fates: &[u32],
+    allowed: u32,
+    logical: usize,
+    page: usize,
+    bytes: &[u8],
+) -> Returned
+    requires { ⌜ Lent (setting g (now mask) (now fates)) (line from (now array) (now register) (now history)) ⌝ }
+    requires { ⌜ from .left ≤ allowed ⌝ }
+    requires { ⌜ state .last < g .blocks ⌝ }
+    requires { ⌜ logical < g .logical ⌝ }
+    requires { ⌜ length (now bytes) ≡ g .main ⌝ }
+    ensures { λ r. ⌜ ((cs : List Cycle) (os : List ArrayOperation) → result (r .answer) (r .state) (device (r .interface) (now (array .exit)) (now (register .exit)) (now (history .exit))) (r .sent) ≡ endOfRun allowed (changeFrom (setting g (now (mask .entry)) (now (fates .entry))) state (writeUpdate state logical page (now (bytes .entry))) (progress (line from (now (array .entry)) (now (register .entry)) (now (history .entry))) Passed cs os))) ⌝ }
+{
+    let shown = operations::read_status(from, g, array, register, history, mask, fates);
+    let bus = shown.bus;
+    let outcome = shown.outcome;
+    let Outcome::Passed = outcome else {
+        return stop(outcome, state, bus, allowed);
+    };
+    let map = state.map;
+    let old = wide(map[logical]);
+    fill(
+        state,
+        bus,
+        g,
+        array,
+        register,
+        history,
+        mask,
+        fates,
+        allowed,
+        logical,
+        page,
+        1,
+        old,
+        bytes,
+    )
+}
+
 // Writes a page of a logical block.
 pub fn write(
     state: State,
@@ -118,17 +166,9 @@ pub fn write(
         return request_refusals::unchanged(refused, state, interface);
     }
     let from = request::begin(interface, allowed);
-    let shown = operations::read_status(from, g, array, register, history, mask, fates);
-    let bus = shown.bus;
-    let outcome = shown.outcome;
-    let Outcome::Passed = outcome else {
-        return stop(outcome, state, bus, allowed);
-    };
-    let map = state.map;
-    let old = wide(map[logical]);
-    fill(
+    write_page(
         state,
-        bus,
+        from,
         g,
         array,
         register,
@@ -138,8 +178,6 @@ pub fn write(
         allowed,
         logical,
         page,
-        1,
-        old,
         bytes,
     )
 }

@@ -1,0 +1,4 @@
+pub mod PartLaws
+pub mod RanLaws
+pub mod PassLaws
+pub mod SumLaws
