@@ -1,0 +1,127 @@
+-- The cycles of the reads of a request on the journal. Assumes nothing but the laws named.
+use Prim.Native.Nat.{ℕ, zero, suc, _+_, _*_, _%_, _/_, _≤_, _<_}
+use mathlib.Core.Bool.{true}
+use mathlib.Core.List.{List}
+use mathlib.Core.Path.{_≡_}
+use native.Mathlib.Nat.{div-lt-iff-lt-mul, suc-mul, mul-le-mul}
+use native.Mathlib.Omega.{arith}
+use borrow.Table.Steps.{cases}
+use borrow.Author.Tests.{eqb-false, ltb-true}
+use lib.Dec.{eqb, ltb}
+use lib.ListN.{getD}
+use Rattle.geometry.specs.declared.Geometry.{Geometry}
+use Rattle.geometry.specs.Limits.{Valid}
+use Rattle.geometry.specs.Sizes.{rowOf}
+use Rattle.geometry.proofs.SizeLaws.{row-below, row-page-below}
+use Rattle.chip_array.specs.Device.{Device, Setting}
+use Rattle.state.specs.State.{none}
+use Rattle.progress.specs.Progress.{Progress}
+use Rattle.damage.specs.Run.{Spent, readMost}
+use Rattle.damage.proofs.ReadLaws.{read-spends}
+use Rattle.request.specs.Call.{resultOf, sizedFor}
+use Rattle.open_write.specs.Open.{mountedOpen}
+use Rattle.open_journal.specs.Requests.{openTakingsRequest}
+use Rattle.journal.specs.Records.{Pages, room, records}
+use Rattle.journal.specs.Takings.{targets, replacedBy}
+use Rattle.journal.proofs.EndLaws.{records-end, room-most, room-within}
+use Rattle.journal_read.specs.Reads.{blockOf, partOn, pagesOn, readsFor, amountOn, amountsOn}
+use Rattle.journal_requests.specs.Requests.{journalFirst, journalPages, recordsIn, passRun, takingsRun, takingsRequest}
+use Rattle.recovery.specs.Calls.{Lent, Store, stateOf, settingOf, chipOf}
+use Rattle.recovery_proof.specs.Invariant.{Inv}
+use Rattle.recovery_journal.specs.Journal.{takingsOn, AlwaysJournal}
+use Rattle.recovery_journal.specs.Cycles.{takingsMost, TakingsBounded}
+use Rattle.recovery_journal.proofs.PassLaws.{Went, went-first, pages-go, amounts-go}
+use Rattle.recovery_journal.proofs.JournalSteps.{unrefused, called, valid-geometry, below, pass-went, refusedBy, adm, reads-within}
+use Rattle.recovery_journal.proofs.JournalLaws.{by-inv}
+
+module _ (s : Setting) (d : Device) (n : ℕ) (v : Valid (s .geometry)) (map : List ℕ)
+    (below : (i : ℕ) → i < s .geometry .logical → (getD map i 0 ≡ none → ⊥) → getD map i 0 < s .geometry .blocks) where
+  abbrev g : Geometry
+  g = s .geometry
+
+  part-spends : (k column m : ℕ) → k < g .logical * g .pages → column + m ≤ g .main → (p : Progress) → Went s d n p → Spent p (partOn s map k column m p) (readMost m)
+  unfolding partOn
+  part-spends k column m h w p x =
+      cases (eqb (blockOf g map k) none)
+      (λ t. rw t (omega arith))
+      (λ t.
+      let logical = div-lt-iff-lt-mul {k = g .pages} {x = k} {y = g .logical} (omega (arith, v .pages-least)) .1 h in
+      let block = below (k / g .pages) logical (eqb-false (blockOf g map k) none t) in
+      rw t
+      (read-spends s (d .array) (d .history) (rowOf g (blockOf g map k) (k % g .pages)) column m (row-below g v (blockOf g map k) (k % g .pages) block (row-page-below g v k))
+      (omega (arith, w, v .spare-least)) (omega (arith, w)) p (x .unchanged)))
+
+  pub pages-spend : (m : ℕ) → m ≤ g .logical * g .pages → (p : Progress) → Went s d n p → Spent p (pagesOn s map m p) (m * readMost (g .main))
+  unfolding pagesOn
+  pages-spend zero h p x = omega arith
+  pages-spend (suc m) h p x =
+      omega (
+        arith,
+        part-spends m 0 (g .main) h (omega arith) (pagesOn s map m p) (pages-go s d n v map below m (omega (arith, h)) p x),
+        pages-spend m (omega (arith, h)) p x,
+        suc-mul m (readMost (g .main)),
+      )
+
+  amount-spends : (pages : Pages) (e m : ℕ) → m < g .logical * g .pages → (p : Progress) → Went s d n p → Spent p (amountOn s map pages e m p) (readMost 6)
+  unfolding amountOn
+  amount-spends pages e m h p x =
+      cases (replacedBy (targets pages) e (suc m)) (λ t. rw t (omega arith)) (λ t. rw t (part-spends m 3 6 h (omega (arith, v .main-least)) p x))
+
+  pub amounts-spend : (pages : Pages) (e m : ℕ) → m ≤ g .logical * g .pages → (p : Progress) → Went s d n p → Spent p (amountsOn s map pages e m p) (m * readMost 6)
+  unfolding amountsOn
+  amounts-spend pages e zero h p x = omega arith
+  amounts-spend pages e (suc m) h p x =
+      omega (
+        arith,
+        amount-spends pages e m h (amountsOn s map pages e m p) (amounts-go s d n v map below pages e m (omega (arith, h)) p x),
+        amounts-spend pages e m (omega (arith, h)) p x,
+        suc-mul m (readMost 6),
+      )
+
+-- no more than 65,536 pages are read to find the end
+reads-few : (e most : ℕ) → e ≤ most → most ≤ 65535 → readsFor e most ≤ 65536
+reads-few e most h k = cases (ltb e most) (λ t. rw t (omega (arith, ltb-true e most t, k))) (λ t. rw t (omega (arith, k)))
+
+module _ (g : Geometry) (y : Store) (i : Inv g y) (a : Lent) where
+  abbrev s : Setting
+  s = settingOf g a
+
+  abbrev d : Device
+  d = chipOf a (y .chip)
+
+  module _ (fit : sizedFor s d ≡ true) (m : mountedOpen g (stateOf y) ≡ true) where
+    abbrev v : Valid g
+    v = valid-geometry g y i a fit m
+
+    abbrev reach : ℕ
+    reach = readsFor (records (journalPages s d (y .state)) (room g)) (room g)
+
+    within : records (journalPages s d (y .state)) (room g) ≤ room g
+    within = records-end (journalPages s d (y .state)) (room g) .within
+
+    run-spends : a .allowed ≤ takingsRun s d (a .allowed) (y .state) .line .left + (65536 * 4361 + 65535 * 271)
+    unfolding takingsRun
+    run-spends =
+        let few = reads-few (records (journalPages s d (y .state)) (room g)) (room g) within (room-most g) in
+        let pass =
+        pages-spend s d (a .allowed) v (y .state .map) (below g y i a fit m) reach (reads-within (records (journalPages s d (y .state)) (room g)) (room g) (g .logical * g .pages) within (room-within g)) (journalFirst d (a .allowed))
+        (went-first s d (a .allowed) (called g y i a fit m)) in
+        let sums =
+        amounts-spend s d (a .allowed) v (y .state .map) (below g y i a fit m) (journalPages s d (y .state)) (recordsIn s d (y .state)) (recordsIn s d (y .state)) (omega (arith, within, room-within g)) (passRun s d (a .allowed) (y .state)) (pass-went g y i a fit m) in
+        let one : reach * readMost (g .main) ≤ 65536 * 4361 = mul-le-mul {n₂ = 65536} {m₂ = 4361} few (omega (arith, v .main-most)) in
+        let two : recordsIn s d (y .state) * readMost 6 ≤ 65535 * 271 = mul-le-mul {n₂ = 65535} {m₂ = 271} (omega (arith, within, room-most g)) (omega arith) in
+        omega (arith, pass, sums, one, two)
+
+  -- a request for the takings sends no more cycles than that
+  takings-few : takingsOn g a y .returned .sent ≤ takingsMost
+  unfolding resultOf openTakingsRequest takingsRequest
+  takings-few =
+      cases (eqb (refusedBy g y i a) 0)
+      (λ t.
+      let fit = adm g y i a t .sizes-fit in
+      let m = adm g y i a t .is-mounted in
+      rw (t, unrefused g y i a fit m) (omega (arith, run-spends fit m)))
+      (λ t. rw t (omega arith))
+
+pub takings-fits : AlwaysJournal TakingsBounded
+takings-fits = by-inv TakingsBounded (λ g y i a. takings-few g y i a)

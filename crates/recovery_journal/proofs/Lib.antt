@@ -1,0 +1,5 @@
+pub mod PassLaws
+pub mod BookLaws
+pub mod JournalSteps
+pub mod JournalLaws
+pub mod CycleLaws

@@ -1,0 +1,1 @@
+// Lists of calls with requests on the journal among them: laws, no code.
