@@ -93,7 +93,8 @@ impl Both {
         let register = vec![0; geometry.page_bytes()];
         let chip = Chip { interface: vec![0; INTERFACE_WORDS], array, register, history: vec![0; geometry.blocks] };
         let buffer = vec![0x5A; MAIN];
-        let side = Side { state: vec![0; STATE_BYTES], chip, buffer, sent: vec![0], sizes: Vec::new(), finished: Vec::new() };
+        let (sizes, finished) = (Vec::new(), Vec::new());
+        let side = Side { state: vec![0; STATE_BYTES], chip, buffer, sent: vec![0], sizes, finished, told: vec![0] };
         let call = Call { mask: vec![0; geometry.block_bytes()], fates: Vec::new(), allowed: u32::MAX, protected: 0 };
         Both { geometry, call, library: side.clone(), second: side, differs: false }
     }
@@ -102,7 +103,7 @@ impl Both {
     fn parted(&self) -> bool {
         let (a, b) = (&self.library, &self.second);
         let chips = a.chip.interface != b.chip.interface || a.chip.register != b.chip.register || a.chip.history != b.chip.history;
-        chips || a.state != b.state || a.buffer != b.buffer || a.sent != b.sent
+        chips || a.state != b.state || a.buffer != b.buffer || a.sent != b.sent || a.told != b.told
     }
 
     // The calls of each round on both sides, the library first.
@@ -176,6 +177,9 @@ fn requests() -> bool {
     both.row("read of a page with a copy", 10, |_| (0..1000).map(|_| Request::Read { block: 0, page: 3 }).collect());
     both.row("read of a page without a copy", 10, |_| (0..1000).map(|_| Request::Read { block: last, page: 3 }).collect());
     both.row("erase of a logical block", 10, erases);
+    let sale = Request::Append(Sale { selection: 12, count: 2, price: 150, replaces: 0 });
+    both.row("append to a journal of up to 59 records", 3, |_| vec![sale.clone(); 20]);
+    both.row("takings of 60 records", 10, |_| vec![Request::Takings; 10]);
     both.row("mount, most blocks erased", 3, |_| vec![Request::Mount]);
     both.differs
 }

@@ -50,6 +50,10 @@ static void advance(void) { answer = flash_store_do_advance(&store, &call, 99, &
 static void erase(void) { answer = flash_store_do_erase(&store, &call, 0); }
 static void identify(void) { answer = flash_store_do_identify(&store, &call, parameters, sizeof parameters, &sizes); }
 static void dearest(void) { answer = flash_store_do_dearest_write(&store, 1, words, 21, &call.sent); }
+static size_t number;
+static uint64_t told;
+static void append(void) { answer = flash_store_do_append(&store, &call, 12, 2, 150, 0, &number); }
+static void takings(void) { answer = flash_store_do_takings(&store, &call, &told); }
 static void nothing(void) {}
 
 /* The third copy of the parameter page is that of the small chip, with its CRC, E6D5h; the others are blank. */
@@ -88,8 +92,19 @@ static int measure(const char *name, void (*function)(void), size_t cycles) {
     return answer != FLASH_STORE_DONE || call.sent != cycles;
 }
 
+/* An erased chip, formatted for so many logical blocks. */
+static void format_new(size_t logical) {
+    memset(array, 0xff, sizeof array);
+    memset(history, 0, sizeof history);
+    store.logical = logical;
+    call.fates_len = 0;
+    format();
+}
+
 int main(void) {
     static const uint32_t erase_fails[1] = {1 << 16};
+    /* Two reads to the journal's end come before the write. */
+    static const uint32_t third_fails[3] = {[2] = 1 << 16};
     /* Over a table in block 0: 16 reads, the erase of block 1 (fails), 4 reads of its pages, 2 erases, the erase of a fill and its 4
        programs, the erase of block 0 (fails). */
     static const uint32_t failing[29] = {[16] = 1 << 16, [28] = 1 << 16};
@@ -112,13 +127,17 @@ int main(void) {
     differs |= measure("write over a copy, an erase fails", write_page, 605);
     call.fates_len = 0;
     differs |= measure("erase of a logical block", erase, 237);
-    memset(array, 0xff, sizeof array);
-    memset(history, 0, sizeof history);
-    store.logical = 1;
-    format();
+    format_new(1);
     call.fates = failing;
     call.fates_len = 29;
     differs |= measure("format over a table, two erases fail", format, 1663);
+    format_new(2);
+    append();
+    call.fates = third_fails;
+    call.fates_len = 3;
+    differs |= measure("append to a journal, an erase fails", append, 2 * (MAIN + 10) + 605);
+    call.fates_len = 0;
+    differs |= measure("takings", takings, 3 * (MAIN + 10) + 2 * 16);
     printf("\n| Kept by the caller | Bytes |\n|---|---|\n");
     print_row_of("state", sizeof store.state);
     printf(" |\n");

@@ -18,8 +18,8 @@
  *   the line         write_protected of each call tells whether the chip's write-protect line is low
  *
  * Stack that a call takes, measured as docs/BENCHMARKS.md says: format under 110,000 bytes, mount and quick mount under 80,000,
- * read under 65,000, write under 95,000, erase under 85,000, identify under 25,000, the dearest write under 1,000. No call takes
- * memory from a heap, and the library keeps nothing between calls.
+ * read under 65,000, write under 95,000, erase under 85,000, append under 125,000, takings under 70,000, identify under 25,000, the
+ * dearest write under 1,000. No call takes memory from a heap, and the library keeps nothing between calls.
  */
 #ifndef FLASH_STORE_H
 #define FLASH_STORE_H
@@ -35,32 +35,40 @@ _Static_assert(sizeof(size_t) == 8, "the library is built for a size_t of 8 byte
 #endif
 
 /* The version of this header and its archive: docs/CHANGES.md. */
-#define FLASH_STORE_VERSION "4.11"
+#define FLASH_STORE_VERSION "4.12"
 
-/* The answers, in the order in which they are tested; SILENT and CUT come as they happen, CUT first. */
+/*
+ * The answers, in the order in which they are tested; SILENT and CUT come as they happen, CUT first. An append tests 16 and 2 after it has
+ * read the journal: see there.
+ */
 enum flash_store_answer {
     FLASH_STORE_DONE = 0,
-    FLASH_STORE_BAD_BUFFER = 100, /* state, interface, sent, finished, sizes or cycles has the wrong length: no cycle, nothing changed */
+    FLASH_STORE_BAD_BUFFER = 100, /* state, interface, sent, finished, sizes, cycles, number or takings has the wrong length: no cycle,
+                                     nothing changed */
     FLASH_STORE_GEOMETRY = 1,     /* a limit broken, or the chip or the mask has the wrong length: no cycle, nothing changed;
                                      of identify see there */
     FLASH_STORE_MOUNT_FIRST = 7,  /* state not mounted, or stopped by 8 to 11 or 255, or its open write names a block or page that is not
                                      on the chip: no cycle, nothing changed */
-    FLASH_STORE_WRITE_OPEN = 15,  /* write, erase, open_write, format of a mounted state: a write is open; advance: none is. No cycle,
-                                     nothing changed */
-    FLASH_STORE_ADDRESS = 2,      /* no such logical block or page: no cycle, nothing changed; of the dearest write see there */
+    FLASH_STORE_WRITE_OPEN = 15,  /* write, erase, open_write, append, format of a mounted state: a write is open; advance: none is. No
+                                     cycle, nothing changed */
+    FLASH_STORE_NOT_IN_FORCE = 16, /* append: the record to replace is not there, or was replaced before: state, array and history
+                                     unchanged */
+    FLASH_STORE_ADDRESS = 2,      /* no such logical block or page: no cycle, nothing changed; append: no room for one record more, state,
+                                     array and history unchanged; of the dearest write see there */
     FLASH_STORE_LENGTH = 3,       /* page buffer not main bytes long: no cycle, nothing changed; of the dearest write see there */
     FLASH_STORE_NO_TABLE = 4,     /* no complete table: not mounted, chip unchanged */
     FLASH_STORE_WRONG_TABLE = 5,  /* the current table is wrong: not mounted, chip unchanged */
     FLASH_STORE_CLASH = 6,        /* two blocks with one number, or a copy of a logical block >= N: not mounted, chip unchanged */
-    FLASH_STORE_PROTECTED = 13,   /* format, write, erase, open_write: the write-protect line is low. The state is the one handed in, array and
-                                     history are unchanged; only the interface moves on, and the page register of a formatting */
+    FLASH_STORE_PROTECTED = 13,   /* format, write, erase, open_write, append: the write-protect line is low. The state is the one handed in,
+                                     array and history are unchanged; only the interface moves on, and the page register of a formatting
+                                     or an append */
     FLASH_STORE_SPENT = 9,        /* a block is to be filled, and sequence number 18,446,744,073,709,551,615 is taken: stopped */
     FLASH_STORE_WORN = 8,         /* no block left: stopped */
     FLASH_STORE_NO_SIZES = 12,    /* identify: no copy of the parameter page is good: state and chip unchanged */
     FLASH_STORE_SILENT = 10,      /* 256 status reads of one operation all busy: stopped */
     FLASH_STORE_CUT = 11,         /* the allowed cycles are used and another is due: stopped */
-    FLASH_STORE_ILLEGAL = 255     /* a read, write, erase, open_write or advance was handed the interface of a chip that is not ready: stopped
-                                     (docs/DECISIONS.md) */
+    FLASH_STORE_ILLEGAL = 255     /* a read, write, erase, open_write, advance, append or takings was handed the interface of a chip that is
+                                     not ready: stopped (docs/DECISIONS.md) */
 };
 
 /*
@@ -69,6 +77,8 @@ enum flash_store_answer {
  *   1, 2, 3, 100       put the numbers and lengths of the call right
  *   7 MOUNT_FIRST      mount
  *   15 WRITE_OPEN      advance until the write is finished, or mount, which gives it up
+ *   16 NOT_IN_FORCE    replace the record that replaced it, or none
+ *   2 of an append     the journal is full: settle the takings, then format, or take another chip
  *   4 NO_TABLE         the chip was not formatted with this geometry and answer 0: take the right one, or format
  *   5 WRONG_TABLE      the same, or another number of logical blocks
  *   6 CLASH            the chip holds what this store does not leave: format, which gives up all pages
@@ -82,7 +92,8 @@ enum flash_store_answer {
  *   8 WORN             write, erase: mount, read what is to be kept, take another chip. Format: fewer logical blocks, or another chip
  *   12 NO_SIZES        ask again; else take the sizes from the data sheet
  *   10 SILENT          mount; silent again, the chip has no power or is broken. Format: format again
- *   11 CUT             when power returns mount, and read whether the write or erase was stored. Format: format again
+ *   11 CUT             when power returns mount, and read whether the write or erase was stored; of an append see there. Format:
+ *                      format again
  *   255 ILLEGAL        the interface was not what the last call left: mount
  */
 
@@ -126,8 +137,9 @@ enum {
  * state, interface, array, page_register, history and sent are written; mask, fates and the bytes of a write are not. The
  * answer is returned.
  *
- * Format, write and erase look at the write-protect line, by two cycles that read the chip's status: format once it has read every
- * page, write and erase before they take a sequence number. Mount, quick mount, read and identify do not, and work with the line low.
+ * Format, write, erase and append look at the write-protect line, by two cycles that read the chip's status: format once it has read
+ * every page, append once it has read the journal, write and erase before they take a sequence number. Mount, quick mount, read,
+ * takings and identify do not, and work with the line low.
  */
 
 /*
@@ -226,6 +238,51 @@ size_t flash_store_erase(size_t main, size_t spare, size_t pages, size_t blocks,
                          uint8_t *page_register, size_t page_register_len, uint8_t *history, size_t history_len,
                          const uint8_t *mask, size_t mask_len, const uint32_t *fates, size_t fates_len,
                          uint32_t allowed, size_t *sent, size_t sent_len, size_t block);
+
+/*
+ * The journal of sales: a record a page, from page 0 of logical block 0 on, over pages that were erased (a formatting leaves them so) and
+ * that nothing else writes. A record, low bytes first, and FFh in the rest of the page:
+ *   bytes 0, 1          its number, from 1 on
+ *   byte 2              selection
+ *   bytes 3, 4          count
+ *   bytes 5 to 8        price in cents
+ *   bytes 9, 10         the number of an earlier record that it replaces, 0 for none
+ * The journal ends before the first page that is not the next record: one with another number, with a number to replace that is not
+ * below its own, or with another byte behind. It takes at most 65,535 records, and at most logical x pages. A record is in force if no
+ * record replaces it. One that was replaced stays out of force, even where the record that replaced it is replaced in its turn.
+ */
+
+/*
+ * Appends a record; it is one write, stored with answer 0. It replaces the record numbered `replaces`, which must be in force, or none
+ * where that is 0: a refund is a record with count 0 in place of the sale.
+ *   number              1: set to the record's number, with every answer but BAD_BUFFER; 0 unless it is 0
+ * Answers: GEOMETRY, MOUNT_FIRST, WRITE_OPEN; then the journal is read to its end, each page once (SILENT, CUT); then NOT_IN_FORCE and
+ * ADDRESS, which is for a full journal; then as a write: PROTECTED, SPENT, WORN, SILENT, CUT. LENGTH never comes.
+ *   what stands         answered 8 to 11, after the next mount answered 0 the record stands whole or not at all, and no other changes: the
+ *                       takings are those with it or without. The next append's number tells which
+ *   what it costs       main + 10 cycles, unbusied, for each record and the page after them, then a write; never more than 3,851,267,833.
+ *                       8,192 bytes of its stack tell which records are replaced
+ */
+size_t flash_store_append(size_t main, size_t spare, size_t pages, size_t blocks, size_t logical, uint8_t *state,
+                          size_t state_len, size_t *interface, size_t interface_len, uint8_t *array, size_t array_len,
+                          uint8_t *page_register, size_t page_register_len, uint8_t *history, size_t history_len,
+                          const uint8_t *mask, size_t mask_len, const uint32_t *fates, size_t fates_len,
+                          uint32_t allowed, size_t *sent, size_t sent_len, uint8_t selection, uint16_t count,
+                          uint32_t price, uint16_t replaces, size_t *number, size_t number_len);
+
+/*
+ * The takings in cents: the sum of count times price over the records in force. 65,535 of them always fit.
+ *   takings             1: set to the sum, with every answer but BAD_BUFFER; 0 unless it is 0
+ * Answers: GEOMETRY, MOUNT_FIRST, then SILENT and CUT, which stop the state as those of a read do. It is answered while a write is open
+ * and with the line low; array, history and a state that goes on are left as they are. It reads the journal as an append does, then 6
+ * bytes of each record in force, in 16 cycles unbusied; never more than 303,558,120. 8,192 bytes of its stack tell which records are
+ * replaced.
+ */
+size_t flash_store_takings(size_t main, size_t spare, size_t pages, size_t blocks, size_t logical, uint8_t *state,
+                           size_t state_len, size_t *interface, size_t interface_len, uint8_t *array, size_t array_len,
+                           uint8_t *page_register, size_t page_register_len, uint8_t *history, size_t history_len,
+                           const uint8_t *mask, size_t mask_len, const uint32_t *fates, size_t fates_len,
+                           uint32_t allowed, size_t *sent, size_t sent_len, uint64_t *takings, size_t takings_len);
 
 /*
  * Lets the chip tell its size, before it is formatted or mounted: resets it and reads its parameter page, of which the first
@@ -398,6 +455,20 @@ static inline enum flash_store_answer flash_store_do_advance(struct flash_store 
 static inline enum flash_store_answer flash_store_do_erase(struct flash_store *store, struct flash_store_call *call,
                                                            size_t block) {
     return (enum flash_store_answer)flash_store_erase(FLASH_STORE_LENT(store, call), block);
+}
+
+/* Appends a record to the journal of sales, and tells its number; PROTECTED where the call has the write-protect line low. */
+static inline enum flash_store_answer flash_store_do_append(struct flash_store *store, struct flash_store_call *call,
+                                                            uint8_t selection, uint16_t count, uint32_t price,
+                                                            uint16_t replaces, size_t *number) {
+    return (enum flash_store_answer)flash_store_append(FLASH_STORE_LENT(store, call), selection, count, price, replaces,
+                                                       number, 1);
+}
+
+/* The takings of the journal in cents, with the line low too. */
+static inline enum flash_store_answer flash_store_do_takings(struct flash_store *store, struct flash_store_call *call,
+                                                             uint64_t *takings) {
+    return (enum flash_store_answer)flash_store_takings(FLASH_STORE_LENT(store, call), takings, 1);
 }
 
 /* What a chip tells of one logical unit. */

@@ -48,6 +48,8 @@ impl Book {
                     run.fail("a read differs from the book");
                 }
             }
+            Request::Append(sale) => self.step_append(run, world, sale, answer),
+            Request::Takings => self.step_takings(run, world, answer),
             Request::Mount | Request::QuickMount => self.step_mount(run, world, answer),
             _ => {}
         }
@@ -107,6 +109,43 @@ impl Book {
         }
     }
 
+    // The journal as reads show it.
+    fn journal(&self, geometry: &Geometry) -> Account {
+        let places = 0..geometry.logical * geometry.pages;
+        let pages: Vec<Vec<u8>> = places.map(|place| self.shown(geometry, place / geometry.pages, place % geometry.pages)).collect();
+        Account::of(&pages)
+    }
+
+    // An append is the write of its page.
+    fn step_append(&mut self, run: &mut Run, world: &World, sale: &Sale, answer: usize) {
+        let geometry = &world.geometry;
+        let journal = self.journal(geometry);
+        let place = journal.records();
+        let refused = match journal.may_replace(sale.replaces as usize) {
+            false => NOT_IN_FORCE,
+            true if place == geometry.logical * geometry.pages => ADDRESS,
+            true => DONE,
+        };
+        if [DONE, NOT_IN_FORCE, ADDRESS].contains(&answer) && answer != refused
+            || [PROTECTED, SPENT, WORN].contains(&answer) && refused != DONE
+        {
+            run.fail(&format!("an append is answered {answer}, the book says {refused}"));
+        }
+        let number = if answer == DONE { place as u64 + 1 } else { 0 };
+        if answer != BAD_BUFFER && world.own.told[0] != number {
+            run.fail("an append tells another number than the book");
+        }
+        let request = Request::Write { block: place / geometry.pages, page: place % geometry.pages };
+        self.step_change(run, world, &request, answer, &sale.page(geometry.main, place + 1));
+    }
+
+    fn step_takings(&self, run: &Run, world: &World, answer: usize) {
+        let takings = if answer == DONE { self.journal(&world.geometry).takings() } else { 0 };
+        if answer != BAD_BUFFER && world.own.told[0] as u128 != takings {
+            run.fail("the takings differ from the book");
+        }
+    }
+
     fn step_mount(&mut self, run: &mut Run, world: &World, answer: usize) {
         if ![DONE, GEOMETRY, SILENT, CUT, BAD_BUFFER].contains(&answer) {
             run.fail(&format!("a mount within a list is answered {answer}"));
@@ -121,9 +160,12 @@ impl Book {
         }
     }
 
-    // Every page read in a copy of the world, against the book.
+    // Every page read in a copy of the world, and the takings, against the book.
     pub fn compare_all(&self, run: &mut Run, world: &World) {
         let mut world = world.duplicate();
+        if world.takings(run) != (DONE, self.journal(&world.geometry).takings() as u64) {
+            run.fail("the takings after a mount differ from the book");
+        }
         for block in 0..world.geometry.logical {
             for page in 0..world.geometry.pages {
                 if world.read(run, block, page) != DONE {

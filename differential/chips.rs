@@ -71,8 +71,10 @@ fn random_label(random: &mut Random, geometry: &Geometry, drawn: Drawn) -> Label
 // A copy whose pages bear the label, each with its own place.
 pub fn copy_block(random: &mut Random, geometry: &Geometry, label: Label) -> Vec<u8> {
     let mut block = Vec::new();
+    let journal = random.one_in(3);
     for page in 0..geometry.pages {
-        let main = random_main(random, geometry);
+        let place = label.logical as usize * geometry.pages + page;
+        let main = if journal { random_record(random, geometry, place) } else { random_main(random, geometry) };
         block.extend(encode_page(geometry, &main, &Label { page: page as u8, ..label }));
     }
     block
@@ -302,6 +304,8 @@ fn usual_cycles(geometry: &Geometry, request: &Request) -> usize {
         Request::Identify => ASKED as usize,
         Request::Open { .. } => 2,
         Request::Advance { most } => 7 + (*most).min(2 * geometry.pages as u64) as usize * 2 * page,
+        Request::Append(_) => 9 + geometry.pages * 4 * page,
+        Request::Takings => geometry.pages * 2 * page,
         _ => 9 + geometry.pages * 2 * page,
     }
 }
@@ -357,7 +361,7 @@ pub fn other_length(random: &mut Random, right: usize) -> usize {
 }
 
 pub fn random_wrong(random: &mut Random, geometry: &Geometry) -> Wrong {
-    match random.below(9) {
+    match random.below(10) {
         0 => Wrong::State(other_length(random, STATE_BYTES)),
         1 => Wrong::Interface(other_length(random, INTERFACE_WORDS)),
         2 => Wrong::Sent(other_length(random, 1)),
@@ -366,6 +370,7 @@ pub fn random_wrong(random: &mut Random, geometry: &Geometry) -> Wrong {
         5 => Wrong::History(other_length(random, geometry.blocks)),
         6 => Wrong::Sizes(other_length(random, SIZE_WORDS)),
         7 => Wrong::Finished(other_length(random, 1)),
+        8 => Wrong::Told(other_length(random, 1)),
         _ => Wrong::Mask(other_length(random, geometry.block_bytes())),
     }
 }

@@ -11,6 +11,7 @@ mod draws;
 mod fixed;
 mod formattings;
 mod identify;
+mod journals;
 mod library;
 mod lists;
 mod open_writes;
@@ -27,6 +28,7 @@ use dearest_writes::*;
 use fixed::*;
 use formattings::*;
 use identify::*;
+use journals::*;
 use library::*;
 use lists::*;
 use open_writes::*;
@@ -50,7 +52,7 @@ impl Side {
         let (register, history) = (self.chip.register.clone(), self.chip.history.clone());
         let chip = Chip { interface, array, register, history };
         let (sent, sizes, finished) = (self.sent.clone(), self.sizes.clone(), self.finished.clone());
-        Side { state: self.state.clone(), chip, buffer: self.buffer.clone(), sent, sizes, finished }
+        Side { state: self.state.clone(), chip, buffer: self.buffer.clone(), sent, sizes, finished, told: self.told.clone() }
     }
 
     // Whether state, array and history are as before. A chip that was handed in busy may have ended what it was at.
@@ -65,6 +67,7 @@ impl Side {
         restore(&mut self.sent, &kept.sent);
         restore(&mut self.sizes, &kept.sizes);
         restore(&mut self.finished, &kept.finished);
+        restore(&mut self.told, &kept.told);
         restore(&mut self.chip.interface, &kept.chip.interface);
         restore(&mut self.chip.array, &kept.chip.array);
         restore(&mut self.chip.register, &kept.chip.register);
@@ -118,11 +121,11 @@ impl Random {
 
 // ---- counting and reporting ----
 
-const KINDS: [&str; 13] = [
+const KINDS: [&str; 15] = [
     "format", "mount", "read", "write", "erase", "identify", "check", "price", "reconcile", "dearest", "quick mount", "open",
-    "advance",
+    "advance", "append", "takings",
 ];
-const ANSWERS: [usize; 19] = [0, 1, 2, 3, 4, 5, 6, 7, 8, 9, 10, 11, 12, 13, 15, 17, 18, 100, 255];
+const ANSWERS: [usize; 20] = [0, 1, 2, 3, 4, 5, 6, 7, 8, 9, 10, 11, 12, 13, 15, 16, 17, 18, 100, 255];
 
 // Calls that are no requests to the store: the check of price rules, a price, sales held against each other, the dearest write.
 const CHECK: usize = 6;
@@ -141,6 +144,8 @@ fn kind_of(request: &Request) -> usize {
         Request::QuickMount => 10,
         Request::Open { .. } => 11,
         Request::Advance { .. } => 12,
+        Request::Append(_) => 13,
+        Request::Takings => 14,
     }
 }
 
@@ -155,6 +160,9 @@ struct Run {
     entered: usize,
     finished: usize,
     given_up: usize,
+    sold: usize,
+    halved: usize,
+    kept: usize,
     progress: usize,
 }
 
@@ -187,7 +195,9 @@ impl Run {
         line += &format!("; {} lists with a book, {} boxes updated", self.books, self.updated);
         line += &format!(", {} formatted within a list", self.formatted);
         line += &format!(", {} requests entered by a mount", self.entered);
-        line + &format!("; of opened writes {} finished in portions, {} given up", self.finished, self.given_up)
+        line += &format!("; of opened writes {} finished in portions, {} given up", self.finished, self.given_up);
+        line += &format!("; of a year's sales {} acknowledged", self.sold);
+        line + &format!(", {} cut, of which {} stood after a mount", self.halved, self.kept)
     }
 
     fn every_answer(&self) -> bool {
@@ -233,6 +243,7 @@ fn difference(own: &Side, library: &Side) -> Option<String> {
     first_word("sent", &own.sent, &library.sent)
         .or_else(|| first_word("sizes", &own.sizes, &library.sizes))
         .or_else(|| first_word("finished", &own.finished, &library.finished))
+        .or_else(|| first_word("number or takings", &own.told, &library.told))
         .or_else(|| first_word("interface", &own.chip.interface, &library.chip.interface))
         .or_else(|| first_difference("state", &own.state, &library.state))
         .or_else(|| first_difference("history", &own.chip.history, &library.chip.history))
@@ -264,11 +275,13 @@ fn print_arguments(geometry: &Geometry, request: &Request, call: &Call, before: 
 const LARGEST_SHOWN: usize = 200_000;
 
 // A box, and the layout that its store writes: while that is the narrow one, the library takes no part. `left` says that every page
-// of an unmarked block that the table does not list is as this store's programs and erases leave pages.
+// of an unmarked block that the table does not list is as this store's programs and erases leave pages, `sells` that requests are
+// mostly drawn for a journal.
 struct World {
     geometry: Geometry,
     layout: Layout,
     left: bool,
+    sells: bool,
     own: Side,
     library: Side,
     watch: Watch,
@@ -282,6 +295,7 @@ enum Wrong {
     Sent(usize),
     Sizes(usize),
     Finished(usize),
+    Told(usize),
     Array(usize),
     Register(usize),
     History(usize),
@@ -297,8 +311,9 @@ impl World {
             history: vec![0; geometry.blocks],
         };
         let (state, sizes) = (vec![0; STATE_BYTES], vec![0; SIZE_WORDS]);
-        let own = Side { state, chip, buffer: Vec::new(), sent: vec![0], sizes, finished: vec![0] };
-        World { geometry, layout: Layout::Wide, left: false, library: own.clone(), own, watch: Watch::default() }
+        let own = Side { state, chip, buffer: Vec::new(), sent: vec![0], sizes, finished: vec![0], told: vec![0] };
+        let (left, sells) = (false, false);
+        World { geometry, layout: Layout::Wide, left, sells, library: own.clone(), own, watch: Watch::default() }
     }
 
     fn fresh(geometry: Geometry) -> World {
@@ -352,6 +367,7 @@ impl World {
         self.both(|side| side.sent.fill(0xABCD));
         self.both(|side| side.sizes.fill(0xABCD));
         self.both(|side| side.finished.fill(0xABCD));
+        self.both(|side| side.told.fill(0xABCD));
         let before = self.own.shown_part();
         let (mask, fates) = (call.mask.clone(), call.fates.clone());
         let answer = self.own_call(&geometry, request, call);
@@ -436,6 +452,17 @@ impl World {
         self.simple(run, &Request::Erase { block }, &[])
     }
 
+    // The answer, and the number of the record.
+    fn append(&mut self, run: &mut Run, sale: Sale) -> (usize, u64) {
+        let answer = self.simple(run, &Request::Append(sale), &[]);
+        (answer, self.own.told[0])
+    }
+
+    fn takings(&mut self, run: &mut Run) -> (usize, u64) {
+        let answer = self.simple(run, &Request::Takings, &[]);
+        (answer, self.own.told[0])
+    }
+
     // A call in which one buffer may have another length; such a buffer is as before afterwards.
     fn wrong(&mut self, run: &mut Run, request: &Request, call: &Call, buffer: &[u8], wrong: Wrong) -> usize {
         let kept = self.own.clone();
@@ -446,6 +473,7 @@ impl World {
             Wrong::Sent(length) => self.both(|side| side.sent.resize(length, 7)),
             Wrong::Sizes(length) => self.both(|side| side.sizes.resize(length, 7)),
             Wrong::Finished(length) => self.both(|side| side.finished.resize(length, 7)),
+            Wrong::Told(length) => self.both(|side| side.told.resize(length, 7)),
             Wrong::Array(length) => self.both(|side| side.chip.array.resize(length, 0xFF)),
             Wrong::Register(length) => self.both(|side| side.chip.register.resize(length, 0x22)),
             Wrong::History(length) => self.both(|side| side.chip.history.resize(length, 0)),
@@ -457,8 +485,8 @@ impl World {
     }
 
     fn duplicate(&self) -> World {
-        let (own, library) = (self.own.clone(), self.own.clone());
-        World { geometry: self.geometry, layout: self.layout, left: self.left, own, library, watch: self.watch.clone() }
+        let World { geometry, layout, left, sells, .. } = *self;
+        World { geometry, layout, left, sells, own: self.own.clone(), library: self.own.clone(), watch: self.watch.clone() }
     }
 }
 

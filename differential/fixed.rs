@@ -1,7 +1,7 @@
 // The fixed selection: the paper's bench figures, then every cut, failure and silence of requests on small chips, with the
-// write-protect line high and low, writes that are opened and advanced, forged states and interfaces, wrong lengths, formattings of chips that hold a table, chips in both
-// layouts and updated boxes, parameter pages, a chip with rows past sixteen bits, random lists and the dearest writes; and beside the
-// store the draws of the test load, price rules and lists of sales.
+// write-protect line high and low, writes that are opened and advanced, the journal of sales, forged states and interfaces, wrong
+// lengths, formattings of chips that hold a table, chips in both layouts and updated boxes, parameter pages, a chip with rows past
+// sixteen bits, random lists and the dearest writes; and beside the store the draws of the test load, price rules and lists of sales.
 
 use super::*;
 use crate::draws::drawn;
@@ -17,6 +17,7 @@ pub fn fixed_selection(run: &mut Run) {
     unready_chips(run);
     busy_chips(run);
     open_writes(run);
+    journals(run);
     changed_states(run);
     wrong_lengths(run);
     limits(run);
@@ -313,7 +314,7 @@ fn bench_line_first(run: &mut Run, base: &World) {
 
 // ---- every place of a request ----
 
-pub fn requests() -> [Request; 10] {
+pub fn requests() -> [Request; 12] {
     [
         Request::Format,
         Request::Mount,
@@ -325,6 +326,8 @@ pub fn requests() -> [Request; 10] {
         Request::Erase { block: 1 },
         Request::Identify,
         Request::Open { block: 0, page: 1 },
+        Request::Append(Sale { selection: 7, count: 2, price: 150, replaces: 0 }),
+        Request::Takings,
     ]
 }
 
@@ -333,7 +336,7 @@ pub fn masks(world: &World, request: &Request) -> Vec<Vec<u8>> {
     let random = Random::new(77).bytes(world.geometry.block_bytes());
     match request {
         Request::Mount | Request::QuickMount | Request::Read { .. } => vec![random],
-        Request::Identify | Request::Open { .. } => vec![random],
+        Request::Identify | Request::Open { .. } | Request::Takings => vec![random],
         _ => vec![random, world.mask(0xFF), world.mask(0)],
     }
 }
@@ -449,17 +452,21 @@ fn every_cycle_from(geometry: &Geometry, request: &Request) -> u32 {
 fn every_failure(run: &mut Run) {
     for base in [written(), larger()] {
         for request in requests() {
-            let count = operations(&base.0, &request);
-            run.origin = format!("every failure of {request:?} on {:?}", base.0.geometry);
-            for mask in masks(&base.0, &request) {
-                for first in first_change(&base.0, &request)..count.min(80) {
-                    for second in [first, first + 1, first + 2, first + 5, count] {
-                        let mut fates = vec![0; second + 1];
-                        fates[first] = 1 << 16;
-                        fates[second] = 1 << 16;
-                        try_call(run, &base, &request, &Call { mask: mask.clone(), fates, ..base.0.plain() });
-                    }
-                }
+            failures_of(run, &base, &request);
+        }
+    }
+}
+
+pub fn failures_of(run: &mut Run, base: &(World, Book), request: &Request) {
+    let count = operations(&base.0, request);
+    run.origin = format!("every failure of {request:?} on {:?}", base.0.geometry);
+    for mask in masks(&base.0, request) {
+        for first in first_change(&base.0, request)..count.min(80) {
+            for second in [first, first + 1, first + 2, first + 5, count] {
+                let mut fates = vec![0; second + 1];
+                fates[first] = 1 << 16;
+                fates[second] = 1 << 16;
+                try_call(run, base, request, &Call { mask: mask.clone(), fates, ..base.0.plain() });
             }
         }
     }
@@ -468,18 +475,21 @@ fn every_failure(run: &mut Run) {
 fn every_silence(run: &mut Run) {
     let base = written();
     for request in requests() {
-        let count = operations(&base.0, &request);
-        run.origin = format!("every silence of {request:?}");
-        for place in 0..count {
-            for busy in [1, 254, 255, 256, 257, 511, 512, 65535, 0x1_00FF, 0x1_0100, 0xFFFE_0002] {
-                let mut fates = vec![0; place];
-                fates.push(busy);
-                let (sent, _) = usual(&base.0, &request, &fates, 0);
-                let mask = &masks(&base.0, &request)[0];
-                for allowed in [sent as u32 - 1, sent as u32, u32::MAX] {
-                    let call = Call { mask: mask.clone(), fates: fates.clone(), allowed, protected: 0 };
-                    try_call(run, &base, &request, &call);
-                }
+        silences_of(run, &base, &request);
+    }
+}
+
+pub fn silences_of(run: &mut Run, base: &(World, Book), request: &Request) {
+    run.origin = format!("every silence of {request:?}");
+    for place in 0..operations(&base.0, request) {
+        for busy in [1, 254, 255, 256, 257, 511, 512, 65535, 0x1_00FF, 0x1_0100, 0xFFFE_0002] {
+            let mut fates = vec![0; place];
+            fates.push(busy);
+            let (sent, _) = usual(&base.0, request, &fates, 0);
+            let mask = &masks(&base.0, request)[0];
+            for allowed in [sent as u32 - 1, sent as u32, u32::MAX] {
+                let call = Call { mask: mask.clone(), fates: fates.clone(), allowed, protected: 0 };
+                try_call(run, base, request, &call);
             }
         }
     }
@@ -611,7 +621,7 @@ fn wrong_lengths(run: &mut Run) {
     let (mut world, _) = written();
     run.origin = "wrong lengths".to_string();
     for request in requests() {
-        for kind in 0..9 {
+        for kind in 0..10 {
             for place in 0..5 {
                 let call = world.plain();
                 let buffer = buffer_for(&world, &request);
@@ -635,6 +645,7 @@ fn wrong_length(geometry: &Geometry, kind: usize, place: usize) -> Wrong {
         5 => Wrong::History(length(geometry.blocks)),
         6 => Wrong::Sizes(length(SIZE_WORDS)),
         7 => Wrong::Finished(length(1)),
+        8 => Wrong::Told(length(1)),
         _ => Wrong::Mask(length(geometry.block_bytes())),
     }
 }

@@ -1,4 +1,4 @@
-// The library's nine calls from Rust.
+// The library's eleven calls from Rust.
 
 use crate::store::*;
 
@@ -33,6 +33,11 @@ extern "C" {
     request_call!(flash_store_erase, block: usize);
     request_call!(flash_store_open_write, block: usize, page: usize, bytes: *const u8, bytes_len: usize);
     request_call!(flash_store_advance, most: u64, finished: Lent<u64>, finished_len: usize);
+    request_call!(
+        flash_store_append,
+        selection: u8, count: u16, price: u32, replaces: u16, number: Lent<u64>, number_len: usize
+    );
+    request_call!(flash_store_takings, takings: Lent<u64>, takings_len: usize);
     library_call!(
         flash_store_identify(logical),
         parameters: *const u8, parameters_len: usize, sizes: Lent<u64>, sizes_len: usize
@@ -61,7 +66,8 @@ pub fn library(geometry: &Geometry, request: &Request, side: &mut Side, call: &C
     let buffer = side.buffer.as_mut_ptr();
     let length = side.buffer.len();
     let (sizes, words) = (side.sizes.as_mut_ptr(), side.sizes.len());
-    let (finished, told) = (side.finished.as_mut_ptr(), side.finished.len());
+    let (finished, flags) = (side.finished.as_mut_ptr(), side.finished.len());
+    let (told, count) = (side.told.as_mut_ptr(), side.told.len());
     // The buffers are as long as said and none overlaps another.
     unsafe {
         match request {
@@ -78,7 +84,12 @@ pub fn library(geometry: &Geometry, request: &Request, side: &mut Side, call: &C
             Request::Open { block, page } => {
                 lend!(flash_store_open_write, geometry, side, call, *block, *page, buffer as *const u8, length)
             }
-            Request::Advance { most } => lend!(flash_store_advance, geometry, side, call, *most, finished, told),
+            Request::Advance { most } => lend!(flash_store_advance, geometry, side, call, *most, finished, flags),
+            Request::Append(sale) => {
+                let Sale { selection, count: sold, price, replaces } = *sale;
+                lend!(flash_store_append, geometry, side, call, selection, sold, price, replaces, told, count)
+            }
+            Request::Takings => lend!(flash_store_takings, geometry, side, call, told, count),
             Request::Identify => {
                 let logical = geometry.logical;
                 lend!(flash_store_identify(logical), side, call, buffer as *const u8, length, sizes, words)

@@ -8,6 +8,9 @@ fn random_request(random: &mut Random, world: &World) -> Request {
     if world.open_write().is_open() && random.one_in(2) {
         return Request::Advance { most: random_portion(random, geometry) };
     }
+    if world.sells && random.one_in(2) {
+        return random_sale_request(random, world);
+    }
     let odd = random.one_in(30);
     let mut block = random.below(geometry.logical);
     let mut page = random.below(geometry.pages);
@@ -16,7 +19,7 @@ fn random_request(random: &mut Random, world: &World) -> Request {
         block = random.pick(&[block, geometry.logical, geometry.blocks, far, usize::MAX]);
         page = random.pick(&[page, geometry.pages, far, usize::MAX]);
     }
-    match random.below(14) {
+    match random.below(16) {
         0 => Request::Mount,
         1 => Request::QuickMount,
         2 | 3 | 4 => Request::Read { block, page },
@@ -25,6 +28,7 @@ fn random_request(random: &mut Random, world: &World) -> Request {
         9 => Request::Identify,
         10 | 11 => Request::Open { block, page },
         12 => Request::Advance { most: random_portion(random, geometry) },
+        13 | 14 => random_sale_request(random, world),
         _ => Request::Format,
     }
 }
@@ -37,13 +41,20 @@ fn either_mount(random: &mut Random) -> Request {
     }
 }
 
-fn random_buffer(random: &mut Random, geometry: &Geometry, request: &Request) -> Vec<u8> {
+// Every other write of a box that sells is one of a record.
+fn random_buffer(random: &mut Random, world: &World, request: &Request) -> Vec<u8> {
+    let geometry = &world.geometry;
     let mut length = geometry.main;
     if random.one_in(40) {
         length = random.pick(&[0, length - 1, length + 1, geometry.page_bytes()]);
     }
     match request {
         Request::Read { .. } => vec![0x5C; length],
+        Request::Write { block, page } | Request::Open { block, page } if world.sells && random.one_in(2) => {
+            let mut bytes = random_record(random, geometry, block.wrapping_mul(geometry.pages).wrapping_add(*page) & 0xFFFF);
+            bytes.resize(length, 0xFF);
+            bytes
+        }
         Request::Write { .. } | Request::Open { .. } if random.one_in(2) => vec![random.byte(); length],
         Request::Write { .. } | Request::Open { .. } => random.bytes(length),
         Request::Identify => random_parameters(random, geometry),
@@ -55,6 +66,7 @@ fn random_buffer(random: &mut Random, geometry: &Geometry, request: &Request) ->
 fn wild_list(run: &mut Run, random: &mut Random) {
     let geometry = random_geometry(random);
     let mut world = World::new(geometry, random_array(random, &geometry));
+    world.sells = random.one_in(3);
     let history = if random.one_in(2) { vec![0; geometry.blocks] } else { random.bytes(geometry.blocks) };
     let register = random.bytes(geometry.page_bytes());
     world.both(|side| side.chip.history = history.clone());
@@ -88,7 +100,7 @@ pub fn forge(random: &mut Random, world: &mut World) {
 fn wild_call(run: &mut Run, random: &mut Random, world: &mut World) {
     let request = random_request(random, world);
     let call = random_call(random, &world.geometry, &request);
-    let buffer = random_buffer(random, &world.geometry, &request);
+    let buffer = random_buffer(random, world, &request);
     if matches!(request, Request::Format) && random.one_in(2) {
         let logical = other_logical(random, &world.geometry);
         world.call(run, Geometry { logical, ..world.geometry }, &request, &call, &buffer);
@@ -122,6 +134,7 @@ fn book_list(run: &mut Run, random: &mut Random) {
     let layout = random.pick(&[Layout::Narrow, Layout::Wide, Layout::Wide]);
     let mut world = World::new(geometry, used_array(random, &geometry, layout));
     world.layout = layout;
+    world.sells = random.one_in(2);
     world.watch.on = true;
     if !acknowledged_formatting(run, random, &mut world) {
         return;
@@ -229,7 +242,7 @@ fn book_call(run: &mut Run, random: &mut Random, world: &mut World, book: &mut B
         // The line does not change while a write is open.
         call.protected = 0;
     }
-    let buffer = random_buffer(random, &geometry, &request);
+    let buffer = random_buffer(random, world, &request);
     let answer = match random.below(25) {
         0 => {
             let wrong = random_wrong(random, &geometry);

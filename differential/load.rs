@@ -26,7 +26,8 @@ impl Bench {
         };
         let call = Call { mask: vec![0; SMALL.block_bytes()], fates: Vec::new(), allowed: u32::MAX, protected: 0 };
         let buffer = vec![0; SMALL.main];
-        let side = Side { state: vec![0; STATE_BYTES], chip, buffer, sent: vec![0], sizes: Vec::new(), finished: Vec::new() };
+        let (sizes, finished, told) = (Vec::new(), Vec::new(), Vec::new());
+        let side = Side { state: vec![0; STATE_BYTES], chip, buffer, sent: vec![0], sizes, finished, told };
         Bench { side, call }
     }
 

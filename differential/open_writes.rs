@@ -81,6 +81,9 @@ fn bench_open_failed(run: &mut Run) {
 // Barred while a write is open, with wrong addresses and lengths too; each with its buffer's length.
 fn barred() -> Vec<(Request, usize)> {
     let mut barred = vec![(Request::Format, 0), (Request::Erase { block: 0 }, 0), (Request::Erase { block: 2 }, 0)];
+    for replaces in [0, 1, 65_535] {
+        barred.push((Request::Append(Sale { selection: 1, count: 1, price: 100, replaces }), 0));
+    }
     for (block, page, length) in [(0, 0, 32), (2, 0, 32), (0, 4, 32), (1, 1, 31), (9, 9, 33)] {
         barred.push((Request::Write { block, page }, length));
         barred.push((Request::Open { block, page }, length));
@@ -101,7 +104,7 @@ fn refusals(run: &mut Run) {
     for (request, length) in barred() {
         let buffer = vec![7; length];
         let answer = world.simple(run, &request, &buffer);
-        expect(run, "15 before 2 and 3", (answer, world.own.sent[0]), (WRITE_OPEN, 0));
+        expect(run, "15 before 2, 3 and 16", (answer, world.own.sent[0]), (WRITE_OPEN, 0));
         let call = world.plain();
         let answer = world.call(run, broken, &request, &call, &buffer);
         expect(run, "1 before 15", (answer, world.own.sent[0]), (GEOMETRY, 0));
@@ -132,6 +135,8 @@ fn not_mounted(run: &mut Run, base: &World) {
     expect(run, "an advance", answer, MOUNT_FIRST);
     let answer = world.read(run, 0, 0);
     expect(run, "a read", answer, MOUNT_FIRST);
+    let found = world.takings(run);
+    expect(run, "takings", found, (MOUNT_FIRST, 0));
 }
 
 // The logical block, its page, the block being filled and its page: at its limit and beyond each counts as not mounted.

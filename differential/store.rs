@@ -1,5 +1,5 @@
-// A second implementation of the flash store: chip model, page layout, mounted state, the write that is open on it and the nine
-// requests.
+// A second implementation of the flash store: chip model, page layout, mounted state, the write that is open on it, the journal of
+// sales and the eleven requests.
 
 #[path = "parameters.rs"]
 pub mod parameters;
@@ -33,6 +33,7 @@ pub const CUT: usize = 11;
 pub const NO_SIZES: usize = 12;
 pub const PROTECTED: usize = 13;
 pub const WRITE_OPEN: usize = 15;
+pub const NOT_IN_FORCE: usize = 16;
 pub const BAD_BUFFER: usize = 100;
 pub const ILLEGAL: usize = 255;
 
@@ -133,7 +134,8 @@ pub struct Call {
     pub protected: u64,
 }
 
-// What one side holds before and after a call. The buffer is a reader's place, a writer's bytes or the chip's parameter page.
+// What one side holds before and after a call. The buffer is a reader's place, a writer's bytes or the chip's parameter page; told is
+// the number of a record appended, or the takings.
 #[derive(Clone, PartialEq, Eq)]
 pub struct Side {
     pub state: Vec<u8>,
@@ -142,6 +144,7 @@ pub struct Side {
     pub sent: Vec<u64>,
     pub sizes: Vec<u64>,
     pub finished: Vec<u64>,
+    pub told: Vec<u64>,
 }
 
 // A program or erase whose confirm cycle was taken, and whether it passed; `forbidden` says that its block was marked, listed or had
@@ -1244,6 +1247,61 @@ impl<'a> Store<'a> {
         Ok(false)
     }
 
+    // ---- the journal ----
+
+    // Bytes of the page at a place of the journal, counted from 0.
+    fn journal_bytes(&mut self, place: usize, column: usize, count: usize) -> Result<Vec<u8>, Stop> {
+        let pages = self.geometry().pages;
+        match self.state.map[place / pages] {
+            EMPTY => Ok(vec![0xFF; count]),
+            copy => self.bus.read(copy as usize, place % pages, column, count),
+        }
+    }
+
+    // Page after page, until one is not the next record.
+    fn read_journal(&mut self) -> Result<Journal, Stop> {
+        let geometry = self.geometry();
+        let mut journal = Journal { records: 0, replaced: vec![false; MOST_RECORDS + 1] };
+        while journal.records < journal_room(&geometry) {
+            let page = self.journal_bytes(journal.records, 0, geometry.main)?;
+            let Some(replaces) = replaced_by(&page, journal.records + 1) else { break };
+            journal.replaced[replaces] = true;
+            journal.records += 1;
+        }
+        Ok(journal)
+    }
+
+    // The answer, and the number of the record where it is stored.
+    fn append(&mut self, sale: &Sale, number: &mut u64) -> Result<usize, Stop> {
+        let geometry = self.geometry();
+        let journal = self.read_journal()?;
+        if sale.replaces != 0 && !journal.in_force(sale.replaces as usize) {
+            return Ok(NOT_IN_FORCE);
+        }
+        if journal.records == journal_room(&geometry) {
+            return Ok(ADDRESS);
+        }
+        let page = sale.page(geometry.main, journal.records + 1);
+        let place = (journal.records % geometry.pages, &page[..]);
+        let copy = self.copy_of(journal.records / geometry.pages, Some(place));
+        self.replace(&copy)?;
+        *number = journal.records as u64 + 1;
+        Ok(DONE)
+    }
+
+    // Count and price of each record in force are read once more.
+    fn takings(&mut self) -> Result<u64, Stop> {
+        let journal = self.read_journal()?;
+        let mut sum = 0;
+        for number in 1..=journal.records {
+            if journal.in_force(number) {
+                let bytes = self.journal_bytes(number - 1, COUNT_AT, 6)?;
+                sum += u16_at(&bytes, 0) as u64 * u32_at(&bytes, 2) as u64;
+            }
+        }
+        Ok(sum)
+    }
+
     // ---- formatting ----
 
     fn format(&mut self) -> Result<(), Stop> {
@@ -1341,6 +1399,63 @@ impl<'a> Store<'a> {
     }
 }
 
+// ---- records of the journal ----
+
+pub const MOST_RECORDS: usize = 65_535;
+
+// Where a record's parts begin, behind its number.
+const SELECTION_AT: usize = 2;
+const COUNT_AT: usize = 3;
+const PRICE_AT: usize = 5;
+const REPLACES_AT: usize = 9;
+const RECORD_BYTES: usize = 11;
+
+#[derive(Clone, Copy, PartialEq, Eq, Debug)]
+pub struct Sale {
+    pub selection: u8,
+    pub count: u16,
+    pub price: u32,
+    pub replaces: u16,
+}
+
+impl Sale {
+    // The main bytes of its page, under this number.
+    pub fn page(&self, main: usize, number: usize) -> Vec<u8> {
+        let mut page = vec![0xFF; main];
+        page[..SELECTION_AT].copy_from_slice(&(number as u16).to_le_bytes());
+        page[SELECTION_AT] = self.selection;
+        page[COUNT_AT..PRICE_AT].copy_from_slice(&self.count.to_le_bytes());
+        page[PRICE_AT..REPLACES_AT].copy_from_slice(&self.price.to_le_bytes());
+        page[REPLACES_AT..RECORD_BYTES].copy_from_slice(&self.replaces.to_le_bytes());
+        page
+    }
+}
+
+// The number that the record with this number replaces, 0 for none; none where the page is not that record.
+fn replaced_by(page: &[u8], number: usize) -> Option<usize> {
+    let replaces = u16_at(page, REPLACES_AT) as usize;
+    let blank = page[RECORD_BYTES..].iter().all(|byte| *byte == 0xFF);
+    (u16_at(page, 0) as usize == number && replaces < number && blank).then_some(replaces)
+}
+
+pub fn journal_room(geometry: &Geometry) -> usize {
+    (geometry.logical * geometry.pages).min(MOST_RECORDS)
+}
+
+// How many records there are, and whether one of them replaces a number.
+struct Journal {
+    records: usize,
+    replaced: Vec<bool>,
+}
+
+impl Journal {
+    fn in_force(&self, number: usize) -> bool {
+        number != 0 && number <= self.records && !self.replaced[number]
+    }
+}
+
+// ---- what a scan found ----
+
 // What was found on each block, and the pages of the current table.
 struct Scan {
     summaries: Vec<Summary>,
@@ -1433,9 +1548,16 @@ pub enum Request {
     Identify,
     Open { block: usize, page: usize },
     Advance { most: u64 },
+    Append(Sale),
+    Takings,
 }
 
 impl Request {
+    // Whether it tells a number: that of a record, or the takings.
+    pub fn tells(&self) -> bool {
+        matches!(self, Request::Append(_) | Request::Takings)
+    }
+
     pub fn mounts(&self) -> bool {
         matches!(self, Request::Mount | Request::QuickMount)
     }
@@ -1463,6 +1585,7 @@ impl Request {
     fn barred(&self, write: &OpenWrite) -> bool {
         match self {
             Request::Write { .. } | Request::Erase { .. } | Request::Open { .. } | Request::Format => write.is_open(),
+            Request::Append(_) => write.is_open(),
             Request::Advance { .. } => !write.is_open(),
             _ => false,
         }
@@ -1546,13 +1669,15 @@ fn refusal(geometry: &Geometry, request: &Request, chip: &Chip, call: &Call, han
     }
 }
 
-// State, interface, the cycles sent and, where the chip is to tell its size, the sizes; of an advance also whether it is finished.
+// State, interface, the cycles sent and, where the chip is to tell its size, the sizes; of an advance also whether it is finished, and
+// of a request on the journal what it tells.
 fn lent_rightly(request: &Request, side: &Side) -> bool {
     side.state.len() == STATE_BYTES
         && side.chip.interface.len() == INTERFACE_WORDS
         && side.sent.len() == 1
         && (side.sizes.len() == SIZE_WORDS || !matches!(request, Request::Identify))
         && (side.finished.len() == 1 || !matches!(request, Request::Advance { .. }))
+        && (side.told.len() == 1 || !request.tells())
 }
 
 // One call of a store that writes this layout; the answer.
@@ -1568,7 +1693,7 @@ pub fn call(
     if !lent_rightly(request, side) {
         return BAD_BUFFER;
     }
-    let Side { state, chip, buffer, sent, sizes, finished } = side;
+    let Side { state, chip, buffer, sent, sizes, finished, told } = side;
     sent[0] = 0;
     let mut parameters = Vec::new();
     match request {
@@ -1577,6 +1702,7 @@ pub fn call(
             parameters = buffer.clone();
         }
         Request::Advance { .. } => finished.fill(0),
+        _ if request.tells() => told.fill(0),
         _ => {}
     }
     let mut handed = Handed::from_bytes(state);
@@ -1590,7 +1716,7 @@ pub fn call(
     }
     let bus = Bus { geometry: *geometry, chip, parameters, call, watch, sent: 0 };
     let mut store = Store { layout, bus, state: handed.state.clone(), held: Vec::new(), failed: false };
-    let answer = match carry_out(&mut store, request, &mut handed, buffer, sizes, finished) {
+    let answer = match carry_out(&mut store, request, &mut handed, buffer, sizes, finished, told) {
         Ok(answer) => answer,
         Err(stop) => {
             store.state = State::blank(STOPPED);
@@ -1630,6 +1756,7 @@ fn carry_out(
     buffer: &mut Vec<u8>,
     sizes: &mut [u64],
     finished: &mut [u64],
+    told: &mut [u64],
 ) -> Result<usize, Stop> {
     match request {
         Request::Format => store.format()?,
@@ -1656,6 +1783,8 @@ fn carry_out(
                 handed.close();
             }
         }
+        Request::Append(sale) => return store.append(sale, &mut told[0]),
+        Request::Takings => told[0] = store.takings()?,
     }
     Ok(DONE)
 }

@@ -63,7 +63,7 @@ pub fn new_store(logical: usize) -> Store
 }
 
 // What a request returned and left of the chip, put together.
-fn put_together(
+pub fn put_together(
     returned: Returned,
     geometry: Geometry,
     array: [u8; 768],

@@ -30,10 +30,13 @@ use Rattle.write_changes.specs.Changes.{eraseRefusal, writeRequest, eraseReques
 use Rattle.identify.specs.Identify.{identifyRequest}
 use Rattle.open_write.specs.Open.{isOpened}
 use Rattle.open_write.specs.Requests.{OpenResult, openResult, stops, openRefusal, openReadRequest, openWriteRequest, openEraseRequest, openFormatRequest, openMountRequest, openIdentifyRequest, openRequest, advanceRequest}
+use Rattle.journal.specs.declared.Sale.{Sale}
+use Rattle.open_journal.specs.Requests.{openAppendRequest, openTakingsRequest}
 use Rattle.c_buffers.specs.Buffers.{Lent, lent, stateOf, chipOf, rightly, handed, putBack, answered}
 use Rattle.c_buffers.proofs.BufferLaws.{right-long}
 use Rattle.c_buffers.proofs.InterfaceLaws.{interface-read, interface-kept}
 use Rattle.flash_store.specs.Identify.{identifyHanded, identifyingLent}
+use Rattle.flash_store.specs.Ledger.{toldHanded, toldLent, appendingLent, takingsLent}
 use Rattle.flash_store.specs.Library.{formattingLent, mountingLent, readHanded, readingLent, writingLent, erasingLent}
 use Rattle.flash_store.specs.Opened.{openingLent, advanceHanded, advancingLent}
 
@@ -153,6 +156,20 @@ module _ (s : Setting) (l : Lent) (n : ℕ) (right : rightly l ≡ true) (bytes 
   advance-refused most finished one x =
       let long = right-long (length (l .state)) (length (l .interface)) (length (l .sent)) right in
       rw (right, eq-eqb (length finished) 1 one, ne-eqb (held (eqb (stateOf l .write .opened) 0)) 0 x, stored-again (l .state) (long .state-long) bytes, interface-kept (l .interface) (long .interface-long))
+
+  -- 1, 7, and 15 while one is open, with 0 for the number
+  pub append-held : (sale : Sale) (number : List ℕ) → length number ≡ 1 → (held (isOpened (stateOf l)) ≡ 0 → ⊥) → appendingLent s l n sale number ≡ toldHanded (handed (held (isOpened (stateOf l))) (noneSent l)) (0 ∷ [])
+  unfolding resultOf toldLent openAppendRequest answered
+  append-held sale number one x =
+      let long = right-long (length (l .state)) (length (l .interface)) (length (l .sent)) right in
+      rw (right, eq-eqb (length number) 1 one, ne-eqb (held (isOpened (stateOf l))) 0 x, stored-again (l .state) (long .state-long) bytes, interface-kept (l .interface) (long .interface-long))
+
+  -- 1 and 7, with 0 for the takings
+  pub takings-held : (takings : List ℕ) → length takings ≡ 1 → (held false ≡ 0 → ⊥) → takingsLent s l n takings ≡ toldHanded (handed (held false) (noneSent l)) (0 ∷ [])
+  unfolding resultOf toldLent openTakingsRequest answered
+  takings-held takings one x =
+      let long = right-long (length (l .state)) (length (l .interface)) (length (l .sent)) right in
+      rw (right, eq-eqb (length takings) 1 one, ne-eqb (held false) 0 x, stored-again (l .state) (long .state-long) bytes, interface-kept (l .interface) (long .interface-long))
 
 -- 1 where the parameter page has another length, with four zeros for the sizes
 pub identify-refused : (mask fates : List ℕ) (l : Lent) (n : ℕ) (page : List ℕ) (logical : ℕ) (sizes : List ℕ) → rightly l ≡ true → Bytes (l .state)

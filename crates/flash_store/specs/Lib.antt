@@ -1,4 +1,5 @@
 pub mod Dearest
 pub mod Identify
+pub mod Ledger
 pub mod Library
 pub mod Opened

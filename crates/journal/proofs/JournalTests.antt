@@ -100,6 +100,11 @@ wrong-tail : records (holding (first ∷ set second 31 0 ∷ [])) 5 ≡ 1
 unfolding records isNext numberIn replacesIn numberOf saleBytes bytesOf allOnes
 wrong-tail = refl
 
+-- what lies past the end is no record, whatever number it bears
+past-end : records (holding (first ∷ erased ∷ saleBytes 32 3 (sale 3 1 1000 0) ∷ [])) 5 ≡ 1
+unfolding records isNext numberIn replacesIn numberOf saleBytes bytesOf allOnes
+past-end = refl
+
 -- no more are counted than there is room for
 room-used : records three 2 ≡ 2
 unfolding records isNext numberIn replacesIn numberOf saleBytes bytesOf allOnes

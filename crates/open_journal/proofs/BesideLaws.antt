@@ -1,16 +1,16 @@
 -- Requests on the journal beside an open write, by the tests that a caller makes first: it lies outside the geometry, or one is open. Assumes
 -- nothing.
 use Prim.Native.Nat.{ℕ}
-use mathlib.Core.Bool.{true, false}
-use mathlib.Core.Path.{_≡_, refl, ap}
+use mathlib.Core.Bool.{Bool, true, false}
+use mathlib.Core.Path.{_≡_, refl, sym, ap, _∙_}
 use borrow.Author.Tests.{eq-eqb, ne-eqb}
 use Rattle.chip_array.specs.Device.{Device, Setting}
 use Rattle.state.specs.State.{mounted}
 use Rattle.request.specs.Call.{Performed, resultOf, sizedFor}
 use Rattle.journal.specs.declared.Sale.{Sale}
 use Rattle.journal_requests.specs.Requests.{journalRefusal, appendRequest, appending, takingsRequest, tellingTakings}
-use Rattle.open_write.specs.Open.{OpenState, openFits}
-use Rattle.open_write.specs.Requests.{OpenResult, openResult, stops, openRefusal}
+use Rattle.open_write.specs.Open.{OpenState, isOpened, openFits}
+use Rattle.open_write.specs.Requests.{OpenResult, openResult, stops, openRefusal, through}
 use Rattle.open_write.proofs.BesideLaws.{refused-beside, by-held, held-some, barred-some}
 use Rattle.open_journal.specs.Requests.{OpenTold, openTold, appendBeside, takingsBeside, tellsUnless, openAppendRequest, openTakingsRequest, appendingOpen, takingsOpen}
 
@@ -49,7 +49,10 @@ module _ (s : Setting) (d : Device) (n : ℕ) (x : OpenState) where
   pub append-held : (sale : Sale) → (x .write .opened ≡ 0 → ⊥) → (k : ℕ) → k ≡ openRefusal (s .geometry) (sizedFor s d) x true → openTold (openResult k x d 0) 0 ≡ appendingOpen s d n x sale
   unfolding openAppendRequest
   append-held sale some k e =
-      rw (ne-eqb (x .write .opened) 0 some) (told-refused s d x _ _ k (barred-some (s .geometry) (sizedFor s d) x) e)
+      let run = through (appendBeside x) (appendRequest s d n (x .state) sale) in
+      let opened : isOpened x ≡ true = rw (ne-eqb (x .write .opened) 0 some) refl in
+      told-refused s d x run (openRefusal (s .geometry) (sizedFor s d) x true) k (barred-some (s .geometry) (sizedFor s d) x) e
+      ∙ ap (λ (barred : Bool). resultOf (tellsUnless (openRefusal (s .geometry) (sizedFor s d) x barred) x d run)) (sym opened)
 
   pub takings-beside : openFits (s .geometry) x ≡ true → takingsBeside x (tellingTakings s d n (x .state)) ≡ takingsOpen s d n x
   unfolding openTakingsRequest takingsRequest journalRefusal resultOf

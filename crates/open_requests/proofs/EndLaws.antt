@@ -36,6 +36,11 @@ use Rattle.open_write.specs.Open.{OpenState, openState, isOpened, cursorOf, wor
 use Rattle.open_write.specs.Requests.{OpenResult, openResult, stops, openRefusal, openEnd, openRequest, openingWrite, Advanced, advanced, advanceRun, advanceEnd, advanceRequest, advancingWrite}
 use Rattle.open_requests.specs.Opening.{openingRefusal}
 
+-- 15 while one is open, whatever the address and the length
+pub opened-first : (g : Geometry) (x : OpenState) (logical page long : ℕ) → mounted (x .state) (g .blocks) (g .logical) ≡ true → openFits g x ≡ true → isOpened x ≡ true → openingRefusal g true x logical page long ≡ 15
+unfolding openingRefusal openRefusal
+opened-first g x logical page long m f o = rw (m, f, o) refl
+
 -- the refusals, by the tests that the code makes
 module _ (g : Geometry) (fits : Bool) (x : OpenState) (barred : Bool) where
   pub refused-geometry : fits ≡ false → 1 ≡ openRefusal g fits x barred

@@ -21,7 +21,7 @@ use Rattle.damage.proofs.ReadLaws.{read-spends}
 use Rattle.request.specs.Call.{resultOf, sizedFor}
 use Rattle.open_write.specs.Open.{mountedOpen}
 use Rattle.open_journal.specs.Requests.{openTakingsRequest}
-use Rattle.journal.specs.Records.{Pages, room, records}
+use Rattle.journal.specs.Records.{Pages, room}
 use Rattle.journal.specs.Takings.{targets, replacedBy}
 use Rattle.journal.proofs.EndLaws.{records-end, room-most, room-within}
 use Rattle.journal_read.specs.Reads.{blockOf, partOn, pagesOn, readsFor, amountOn, amountsOn}
@@ -78,9 +78,9 @@ module _ (s : Setting) (d : Device) (n : ℕ) (v : Valid (s .geometry)) (map : L
         suc-mul m (readMost 6),
       )
 
--- no more than 65,536 pages are read to find the end
-reads-few : (e most : ℕ) → e ≤ most → most ≤ 65535 → readsFor e most ≤ 65536
-reads-few e most h k = cases (ltb e most) (λ t. rw t (omega (arith, ltb-true e most t, k))) (λ t. rw t (omega (arith, k)))
+-- no page is read twice to find the end
+pub reads-few : (e most : ℕ) → e ≤ most → readsFor e most ≤ most
+reads-few e most h = cases (ltb e most) (λ t. rw t (omega (arith, ltb-true e most t))) (λ t. rw t (omega (arith, h)))
 
 module _ (g : Geometry) (y : Store) (i : Inv g y) (a : Lent) where
   abbrev s : Setting
@@ -94,23 +94,27 @@ module _ (g : Geometry) (y : Store) (i : Inv g y) (a : Lent) where
     v = valid-geometry g y i a fit m
 
     abbrev reach : ℕ
-    reach = readsFor (records (journalPages s d (y .state)) (room g)) (room g)
+    reach = readsFor (recordsIn s d (y .state)) (room g)
 
-    within : records (journalPages s d (y .state)) (room g) ≤ room g
+    within : recordsIn s d (y .state) ≤ room g
     within = records-end (journalPages s d (y .state)) (room g) .within
 
-    run-spends : a .allowed ≤ takingsRun s d (a .allowed) (y .state) .line .left + (65536 * 4361 + 65535 * 271)
+    pub pass-spends : a .allowed ≤ passRun s d (a .allowed) (y .state) .line .left + 65535 * 4361
+    pass-spends =
+        let few = reads-few (recordsIn s d (y .state)) (room g) within in
+        let pass =
+        pages-spend s d (a .allowed) v (y .state .map) (below g y i a fit m) reach (reads-within (recordsIn s d (y .state)) (room g) (g .logical * g .pages) within (room-within g)) (journalFirst d (a .allowed))
+        (went-first s d (a .allowed) (called g y i a fit m)) in
+        let pages : reach * readMost (g .main) ≤ 65535 * 4361 = mul-le-mul {n₂ = 65535} {m₂ = 4361} (omega (arith, few, room-most g)) (omega (arith, v .main-most)) in
+        omega (arith, pass, pages)
+
+    run-spends : a .allowed ≤ takingsRun s d (a .allowed) (y .state) .line .left + (65535 * 4361 + 65535 * 271)
     unfolding takingsRun
     run-spends =
-        let few = reads-few (records (journalPages s d (y .state)) (room g)) (room g) within (room-most g) in
-        let pass =
-        pages-spend s d (a .allowed) v (y .state .map) (below g y i a fit m) reach (reads-within (records (journalPages s d (y .state)) (room g)) (room g) (g .logical * g .pages) within (room-within g)) (journalFirst d (a .allowed))
-        (went-first s d (a .allowed) (called g y i a fit m)) in
         let sums =
         amounts-spend s d (a .allowed) v (y .state .map) (below g y i a fit m) (journalPages s d (y .state)) (recordsIn s d (y .state)) (recordsIn s d (y .state)) (omega (arith, within, room-within g)) (passRun s d (a .allowed) (y .state)) (pass-went g y i a fit m) in
-        let one : reach * readMost (g .main) ≤ 65536 * 4361 = mul-le-mul {n₂ = 65536} {m₂ = 4361} few (omega (arith, v .main-most)) in
-        let two : recordsIn s d (y .state) * readMost 6 ≤ 65535 * 271 = mul-le-mul {n₂ = 65535} {m₂ = 271} (omega (arith, within, room-most g)) (omega arith) in
-        omega (arith, pass, sums, one, two)
+        let amounts : recordsIn s d (y .state) * readMost 6 ≤ 65535 * 271 = mul-le-mul {n₂ = 65535} {m₂ = 271} (omega (arith, within, room-most g)) (omega arith) in
+        omega (arith, pass-spends, sums, amounts)
 
   -- a request for the takings sends no more cycles than that
   takings-few : takingsOn g a y .returned .sent ≤ takingsMost

@@ -39,12 +39,12 @@ use Rattle.recovery_journal.proofs.BookLaws.{records-book, takings-book
 use Rattle.recovery_journal.proofs.JournalSteps.{shown-quiet, unrefused, entries, valid-geometry, refusedBy, adm, barredBy, allowed-in, up, unheld, append-step, takings-step}
 
 -- one event keeps the invariant, and so does a list
-happens-inv : (g : Geometry) (e : JournalEvent) (y : Store) → PossibleJournal g e y → Inv g y → Inv g (happensJournal g e y)
+pub happens-inv : (g : Geometry) (e : JournalEvent) (y : Store) → PossibleJournal g e y → Inv g y → Inv g (happensJournal g e y)
 happens-inv g (other e) y t i = event-inv g e y t i
 happens-inv g (toAppend a sale) y t i = append-step g y i a (t .0) sale (t .1)
 happens-inv g (toTakings a) y t i = takings-step g y i a
 
-after-inv : (g : Geometry) (es : List JournalEvent) (y : Store) → AllPossibleJournal g es y → Inv g y → Inv g (afterJournal g es y)
+pub after-inv : (g : Geometry) (es : List JournalEvent) (y : Store) → AllPossibleJournal g es y → Inv g y → Inv g (afterJournal g es y)
 unfolding afterJournal AllPossibleJournal
 after-inv g [] y t i = i
 after-inv g (e ∷ es) y t i = after-inv g es (happensJournal g e y) (t .1) (happens-inv g e y (t .0) i)

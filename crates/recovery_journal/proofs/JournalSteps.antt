@@ -273,10 +273,10 @@ module _ (g : Geometry) (y : Store) (i : Inv g y) (a : Lent) where
     pub unheld : eqb (journalRefusalOf s d st) 0 ≡ true
     unheld = unrefused (allowed-in .sizes-fit) (allowed-in .is-mounted)
 
-    valid : Valid g
+    pub valid : Valid g
     valid = valid-geometry (allowed-in .sizes-fit) (allowed-in .is-mounted)
 
-    went : Went s d n (passRun s d n st)
+    pub went : Went s d n (passRun s d n st)
     went = pass-went (allowed-in .sizes-fit) (allowed-in .is-mounted)
 
     -- it comes to its write
@@ -293,10 +293,10 @@ module _ (g : Geometry) (y : Store) (i : Inv g y) (a : Lent) where
       abbrev change : Change
       change = saleChange g e sale
 
-      ready-line : Called s line
+      pub ready-line : Called s line
       ready-line = went .unchanged .sound .called (passed-answered (passRun s d n st .outcome) q)
 
-      proper : Proper g change
+      pub proper : Proper g change
       proper =
           let small : suc e < 65536 = omega (arith, room-left, room-most g) in (
             div-lt-iff-lt-mul {k = g .pages} {x = e} {y = g .logical} (omega (arith, valid .pages-least)) .1 (omega (arith, room-left, room-within g)),

@@ -3,3 +3,4 @@ pub mod BookLaws
 pub mod JournalSteps
 pub mod JournalLaws
 pub mod CycleLaws
+pub mod SentLaws

@@ -34,7 +34,7 @@ use Rattle.recovery_proof.proofs.SentLaws.{calls-sent}
 use Rattle.recovery_proof.proofs.RecoveryLaws.{always, event-inv}
 
 -- the array stays bytes: cycles change it as programs and erases do
-sent-bytes : (s : Setting) → Bytes (s .mask) → (d : Device) (n : ℕ) (cs : List Cycle) (left : Device) (sent : ℕ) → Sends s d n cs left sent → Bytes (d .array) → Bytes (left .array)
+pub sent-bytes : (s : Setting) → Bytes (s .mask) → (d : Device) (n : ℕ) (cs : List Cycle) (left : Device) (sent : ℕ) → Sends s d n cs left sent → Bytes (d .array) → Bytes (left .array)
 sent-bytes s mask-bytes d n cs left sent w h =
     ⊎-elim
     (λ e. subst (λ (x : Device). Bytes (x .array)) (sym (e .1)) h)
@@ -57,7 +57,7 @@ step-bytes g (toOpen a logical page bytes) y t i h =
 step-bytes g (toAdvance a most) y t i h =
     sent-bytes (settingOf g a) (t .0) _ _ _ _ _ (calls-sent g y i (toAdvance a most) t) h
 
-event-bytes : (g : Geometry) (e : Event) (y : Store) → Possible g e y → Inv g y → Bytes (y .chip .array) → Bytes (happens g e y .chip .array)
+pub event-bytes : (g : Geometry) (e : Event) (y : Store) → Possible g e y → Inv g y → Bytes (y .chip .array) → Bytes (happens g e y .chip .array)
 unfolding unpowered
 event-bytes g (called c) y t i h = step-bytes g c y t i h
 event-bytes g (powerLost x register) y t i h = h
@@ -67,7 +67,7 @@ unfolding after AllPossible
 after-bytes g [] y t i h = h
 after-bytes g (e ∷ es) y t i h = after-bytes g es (happens g e y) (t .1) (event-inv g e y (t .0) i) (event-bytes g e y (t .0) i h)
 
-begun-bytes : (g : Geometry) (a : Lent) (d : Device) (x : OpenState) → Bytes (a .mask) → Bytes (d .array) → length (x .page) ≡ keptBytes → formatOn g a d x .answer ≡ 0 → Bytes (begun g a d x .chip .array)
+pub begun-bytes : (g : Geometry) (a : Lent) (d : Device) (x : OpenState) → Bytes (a .mask) → Bytes (d .array) → length (x .page) ≡ keptBytes → formatOn g a d x .answer ≡ 0 → Bytes (begun g a d x .chip .array)
 begun-bytes g a d x mask-bytes h kept z =
     let s = settingOf g a in
     let e = chipOf a d in
@@ -76,7 +76,7 @@ begun-bytes g a d x mask-bytes h kept z =
     (subst (λ (y : Device). Bytes (y .array)) (format-ends s e (a .allowed) mask-bytes h t (x .state) .replayed .leads) (run-bytes s mask-bytes (callLine e (a .allowed) .chip) _ h))
 
 -- a mounted store is as the types of the code have it
-ranged : (g : Geometry) (y : Store) → Up g y → Bytes (y .chip .array) → (a : Lent) → Bytes (a .mask) → InRange (settingOf g a) (chipOf a (y .chip)) (y .state)
+pub ranged : (g : Geometry) (y : Store) → Up g y → Bytes (y .chip .array) → (a : Lent) → Bytes (a .mask) → InRange (settingOf g a) (chipOf a (y .chip)) (y .state)
 ranged g y u h a mask-bytes =
     let bits = knows-bits g (y .chip .array) (y .state) (u .agrees .stored) (u .agrees .knows) in
     record {

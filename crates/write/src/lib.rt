@@ -166,9 +166,17 @@ pub fn write(
         return request_refusals::unchanged(refused, state, interface);
     }
     let from = request::begin(interface, allowed);
-    write_page(
+    let shown = operations::read_status(from, g, array, register, history, mask, fates);
+    let bus = shown.bus;
+    let outcome = shown.outcome;
+    let Outcome::Passed = outcome else {
+        return stop(outcome, state, bus, allowed);
+    };
+    let map = state.map;
+    let old = wide(map[logical]);
+    fill(
         state,
-        from,
+        bus,
         g,
         array,
         register,
@@ -178,6 +186,8 @@ pub fn write(
         allowed,
         logical,
         page,
+        1,
+        old,
         bytes,
     )
 }
