@@ -27,7 +27,7 @@ fn library_draw(last: u32) -> u32 {
 }
 
 fn second(geometry: &Geometry, request: &Request, side: &mut Side, call: &Call) -> usize {
-    store::call(Layout::Wide, geometry, request, side, call, &mut Watch::default())
+    store::call(Version::White, geometry, request, side, call, &mut Watch::default())
 }
 
 // ---- one chip under both ----
@@ -58,13 +58,13 @@ fn whole_pages(geometry: &Geometry, array: &mut [u8]) {
     for (row, page) in array.chunks_exact_mut(geometry.page_bytes()).enumerate() {
         let (block, place) = (row / PAGES, row % PAGES);
         let mut main = vec![0xFF; MAIN];
-        let mut label = table_label(Layout::Wide, place, 1);
+        let mut label = table_label(Version::White, place, 1);
         if block > 0 {
             for part in main.chunks_exact_mut(8) {
                 random = random.wrapping_mul(6364136223846793005).wrapping_add(1442695040888963407);
                 part.copy_from_slice(&random.to_le_bytes());
             }
-            label = data_label(Layout::Wide, (block - 1) % geometry.logical, place, block as u64 + 1);
+            label = data_label(Version::White, (block - 1) % geometry.logical, place, block as u64 + 1);
         } else if place == 0 {
             main.copy_from_slice(&table);
         }

@@ -1,6 +1,6 @@
 /*
- * Times an append and the takings of the 002 part as the journal grows to 65,535 records. Its pages are laid out in the array; the last
- * record is appended. Every eighth record replaces the one before it.
+ * Times an append and the takings of the 002 part as the journal grows to 65,535 records. Its pages are laid out in the array, whitened;
+ * the last record is appended. Every eighth record replaces the one before it.
  */
 #include <stdio.h>
 #include <stdlib.h>
@@ -12,8 +12,8 @@
 
 enum { MAIN = 2048, SPARE = 128, PAGE = MAIN + SPARE, PAGES = 64, BLOCK = PAGE * PAGES, BLOCKS = 4096, REPEATS = 3 };
 
-/* Cycles: a page read to find the journal's end, count and price of a record, a write of a page without an old copy. */
-enum { READ = MAIN + 10, AMOUNT = 6 + 10, WRITE = 2 + 7 + PAGES * (PAGE + 9) };
+/* Cycles: a page read to find the journal's end, a record up to its price, a write of a page without an old copy. */
+enum { READ = MAIN + 10, AMOUNT = 9 + 10, WRITE = 2 + 7 + PAGES * (PAGE + 9) };
 
 /* The most records, and what each amounts to. */
 enum { MOST = 65535, COUNT = 3 };
@@ -63,6 +63,25 @@ static void finish(uint8_t *page, uint8_t kind, size_t logical, size_t place, si
     put_number(spare + 13, 2, zeros);
 }
 
+/* The streams that whiten the pages of a block (docs/FORMAT.md). */
+static uint8_t streams[PAGES][MAIN];
+
+static void make_streams(void) {
+    for (size_t p = 0; p < PAGES; p++) {
+        unsigned bits = p + 1;
+        for (size_t i = 0; i < 8 * MAIN; i++) {
+            streams[p][i / 8] |= (bits >> 14) << (7 - i % 8);
+            bits = (bits << 1 & 0x7fff) | ((bits >> 14 ^ bits >> 13) & 1);
+        }
+    }
+}
+
+static void whiten(uint8_t *page, size_t place) {
+    for (size_t i = 0; i < MAIN; i++) {
+        page[i] ^= streams[place][i];
+    }
+}
+
 static size_t replaces(size_t number) { return number % 8 ? 0 : number - 1; }
 
 /* Block 0 holds the table, the next ones the copies of as many logical blocks as these records need; the others are erased. */
@@ -88,7 +107,8 @@ static void lay_out(size_t records) {
             put_number(page + 5, 4, PRICE);
             put_number(page + 9, 2, replaces(k + 1));
         }
-        finish(page, 0x64, k / PAGES, k % PAGES, k / PAGES + 2);
+        whiten(page, k % PAGES);
+        finish(page, 0x6c, k / PAGES, k % PAGES, k / PAGES + 2);
     }
 }
 
@@ -142,6 +162,7 @@ int main(void) {
     if (!store.array) {
         return 1;
     }
+    make_streams();
     printf("\n| Request | Record | Page reads | Reads of count and price | Cycles | Time |\n|---|---|---|---|---|---|\n");
     for (size_t i = 0; i < sizeof sizes / sizeof sizes[0]; i++) {
         lay_out(sizes[i]);

@@ -77,7 +77,7 @@ static void fill(uint8_t *array, size_t blocks, size_t filled) {
                 put_number(page + 6, 2, 8);
                 memset(page + 8, 0, (blocks + 7) / 8);
             }
-            finish(page, b > 0 ? 0x64 : 0x74, b > 0 ? (b - 1) % (blocks - 2) : 0, p, b + 1);
+            finish(page, b > 0 ? 0x6c : 0x74, b > 0 ? (b - 1) % (blocks - 2) : 0, p, b + 1);
         }
     }
 }

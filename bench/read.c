@@ -18,10 +18,13 @@ enum {
     ROUNDS = 20,
     CALLS = 2000,
     MAP = 1056,    /* where the map stands in the state (docs/FORMAT.md), */
-    OPENED = 9248, /* and the words of the open write */
+    OPENED = 9248, /* the words of the open write */
     STEP = 9264,
     OLD = 9288,
-    FILLED = 9296
+    FILLED = 9296,
+    KINDS = 13424, /* and the kinds of the copies: */
+    WHITE = 0x6c,  /* whitened */
+    PLAIN = 0x64   /* or plain */
 };
 
 static uint8_t page_register[PAGE], history[BLOCKS], mask[BLOCK], page[MAIN];
@@ -34,8 +37,8 @@ static double now(void) {
     return t.tv_sec + t.tv_nsec * 1e-9;
 }
 
-/* A state with the table in block 0 and logical block l in block l + 1, the last one without a copy. */
-static void make_state(size_t logical, uint8_t status) {
+/* A state with the table in block 0 and logical block l in block l + 1, in copies of this kind, the last one without a copy. */
+static void make_state(size_t logical, uint8_t status, uint8_t kind) {
     store.logical = logical;
     memset(store.state, 0, MAP);
     memset(store.state + MAP, 0xff, OPENED - MAP);
@@ -45,6 +48,7 @@ static void make_state(size_t logical, uint8_t status) {
     for (size_t l = 0; l + 1 < logical; l++) {
         store.state[MAP + 2 * l] = (l + 1) & 0xff;
         store.state[MAP + 2 * l + 1] = (l + 1) >> 8;
+        store.state[KINDS + l] = kind;
     }
 }
 
@@ -59,11 +63,11 @@ static void open_write(void) {
 }
 
 /* One row: the best round, in microseconds a call; 1 where an answer or the cycles are not the expected ones. */
-static int measure(const char *name, size_t logical, uint8_t status, int opened, size_t block, size_t expected,
-                   size_t cycles) {
+static int measure(const char *name, size_t logical, uint8_t status, uint8_t kind, int opened, size_t block,
+                   size_t expected, size_t cycles) {
     double best = 1e9;
     int differs = 0;
-    make_state(logical, status);
+    make_state(logical, status, kind);
     if (opened) {
         open_write();
     }
@@ -88,7 +92,7 @@ static int measure_advances(size_t logical) {
     double best = 1e9;
     int differs = 0;
     for (int r = 0; r < ROUNDS; r++) {
-        make_state(logical, 1);
+        make_state(logical, 1, WHITE);
         open_write();
         history[BLOCKS - 1] = 0;
         double t = now();
@@ -122,11 +126,12 @@ int main(void) {
     printf("\n| Call | Logical blocks | Answer | Cycles | Time |\n|---|---|---|---|---|\n");
     for (int i = 0; i < 2; i++) {
         size_t n = logical[i];
-        differs |= measure("read with a copy", n, 1, 0, 0, FLASH_STORE_DONE, MAIN + 10);
-        differs |= measure("the same beside an open write", n, 1, 1, 0, FLASH_STORE_DONE, MAIN + 10);
-        differs |= measure("read without a copy", n, 1, 0, n - 1, FLASH_STORE_DONE, 0);
-        differs |= measure("no such logical block", n, 1, 0, n, FLASH_STORE_ADDRESS, 0);
-        differs |= measure("state not mounted", n, 0, 0, 0, FLASH_STORE_MOUNT_FIRST, 0);
+        differs |= measure("read with a copy", n, 1, WHITE, 0, 0, FLASH_STORE_DONE, MAIN + 10);
+        differs |= measure("the same beside an open write", n, 1, WHITE, 1, 0, FLASH_STORE_DONE, MAIN + 10);
+        differs |= measure("read with a copy of kind 64h", n, 1, PLAIN, 0, 0, FLASH_STORE_DONE, MAIN + 10);
+        differs |= measure("read without a copy", n, 1, WHITE, 0, n - 1, FLASH_STORE_DONE, 0);
+        differs |= measure("no such logical block", n, 1, WHITE, 0, n, FLASH_STORE_ADDRESS, 0);
+        differs |= measure("state not mounted", n, 0, WHITE, 0, 0, FLASH_STORE_MOUNT_FIRST, 0);
         differs |= measure_advances(n);
     }
     free(store.array);

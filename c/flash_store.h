@@ -11,14 +11,18 @@
  *   power returns    interface and state all 0, page_register any bytes; array and history as they were left; then mount, or
  *                    quick mount: either brings back the same pages
  *   a used chip      to be given to another box: as where power returns, then format, which keeps its list of bad blocks
- *   an update        a chip that a version up to 4.6 wrote, with sequence numbers of 32 bits: as where power returns. The mount keeps
- *                    every page, and nothing is converted. An older version cannot read what a newer one wrote
+ *   an update        a chip that an older version wrote, up to 4.6 with sequence numbers of 32 bits, up to 4.12 with plain pages: as
+ *                    where power returns. The mount keeps every page, and nothing is converted: a logical block is stored in the new
+ *                    way when it is next written or erased, and its other pages go along. No way back: an older version cannot read
+ *                    what a newer one wrote, and may write over it
  *   a call           a product passes no mask, no fate words and FLASH_STORE_UNCUT; mask, fates and allowance are for tests,
  *                    which make the model fail, fall silent or lose power by them
  *   the line         write_protected of each call tells whether the chip's write-protect line is low
+ *   the cells        hold the main bytes of data pages whitened, XORed with a bit stream of the page's place in its block
+ *                    (docs/FORMAT.md): look at pages by a read, not in the array
  *
- * Stack that a call takes, measured as docs/BENCHMARKS.md says: format under 110,000 bytes, mount and quick mount under 80,000,
- * read under 65,000, write under 95,000, erase under 85,000, append under 125,000, takings under 70,000, identify under 25,000, the
+ * Stack that a call takes, measured as docs/BENCHMARKS.md says: format under 165,000 bytes, mount and quick mount under 85,000,
+ * read under 86,000, write under 145,000, erase under 135,000, append under 185,000, takings under 90,000, identify under 30,000, the
  * dearest write under 1,000. No call takes memory from a heap, and the library keeps nothing between calls.
  */
 #ifndef FLASH_STORE_H
@@ -35,7 +39,7 @@ _Static_assert(sizeof(size_t) == 8, "the library is built for a size_t of 8 byte
 #endif
 
 /* The version of this header and its archive: docs/CHANGES.md. */
-#define FLASH_STORE_VERSION "4.12"
+#define FLASH_STORE_VERSION "4.13"
 
 /*
  * The answers, in the order in which they are tested; SILENT and CUT come as they happen, CUT first. An append tests 16 and 2 after it has
@@ -98,7 +102,7 @@ enum flash_store_answer {
  */
 
 enum {
-    FLASH_STORE_STATE_BYTES = 13424,  /* the mounted state with its open write, laid out as docs/FORMAT.md says. Bytes 24 to 31, low byte first, are one
+    FLASH_STORE_STATE_BYTES = 17520,  /* the mounted state with its open write, laid out as docs/FORMAT.md says. Bytes 24 to 31, low byte first, are one
                                          less than the next sequence number: the greatest found or taken, 0 for none */
     FLASH_STORE_INTERFACE_WORDS = 12, /* the chip's command interface, laid out as docs/FORMAT.md says; all 0 at power on */
     FLASH_STORE_PROTECTED_WORD = 11,  /* which of them is the write-protect line: not 0 where it is low */
@@ -274,9 +278,9 @@ size_t flash_store_append(size_t main, size_t spare, size_t pages, size_t blocks
  * The takings in cents: the sum of count times price over the records in force. 65,535 of them always fit.
  *   takings             1: set to the sum, with every answer but BAD_BUFFER; 0 unless it is 0
  * Answers: GEOMETRY, MOUNT_FIRST, then SILENT and CUT, which stop the state as those of a read do. It is answered while a write is open
- * and with the line low; array, history and a state that goes on are left as they are. It reads the journal as an append does, then 6
- * bytes of each record in force, in 16 cycles unbusied; never more than 303,558,120. 8,192 bytes of its stack tell which records are
- * replaced.
+ * and with the line low; array, history and a state that goes on are left as they are. It reads the journal as an append does, then the
+ * first 9 bytes of each record in force, in 19 cycles unbusied; never more than 303,754,725. 8,192 bytes of its stack tell which records
+ * are replaced.
  */
 size_t flash_store_takings(size_t main, size_t spare, size_t pages, size_t blocks, size_t logical, uint8_t *state,
                            size_t state_len, size_t *interface, size_t interface_len, uint8_t *array, size_t array_len,

@@ -1,4 +1,4 @@
-// Random chips of pages in either layout, states, interfaces, masks, fates and lengths.
+// Random chips of pages of every kind, states, interfaces, masks, fates and lengths.
 
 use super::*;
 
@@ -20,34 +20,45 @@ pub fn random_geometry(random: &mut Random) -> Geometry {
     Geometry { main, spare, pages, blocks, logical }
 }
 
-// Layouts that the pages of a chip may have: one, or both side by side.
-const NARROW: &[Layout] = &[Layout::Narrow];
-const WIDE: &[Layout] = &[Layout::Wide];
-const BOTH: &[Layout] = &[Layout::Narrow, Layout::Wide];
+// Versions that the pages of a chip may be from: one, or several side by side.
+const NARROW: &[Version] = &[Version::Narrow];
+const WIDE: &[Version] = &[Version::Wide];
+const WHITE: &[Version] = &[Version::White];
+const OLD: &[Version] = &[Version::Narrow, Version::Wide];
+pub const ALL: &[Version] = &[Version::Narrow, Version::Wide, Version::White];
+
+// Of a chip that a store of this version finds.
+fn random_versions(random: &mut Random, store: Version) -> &'static [Version] {
+    match store {
+        Version::Narrow => NARROW,
+        Version::Wide => random.pick(&[NARROW, WIDE, OLD]),
+        Version::White => random.pick(&[NARROW, WIDE, WHITE, OLD, ALL, ALL]),
+    }
+}
 
 // Small ones, any, and those where the layouts end.
 pub fn random_number(random: &mut Random) -> u64 {
     match random.below(12) {
         0 => u64::MAX,
         1 => u64::MAX - random.below(3) as u64,
-        2 => Layout::Narrow.last_number() - 2 + random.below(5) as u64,
+        2 => Version::Narrow.last_number() - 2 + random.below(5) as u64,
         3 => random.next() >> random.below(64),
         4 => random.below(12) as u64 | 1 << (32 + random.below(32)),
         _ => random.below(12) as u64,
     }
 }
 
-// What the pages of a chip are drawn from: their layouts and the greatest number.
+// What the pages of a chip are drawn from: their versions and the greatest number.
 #[derive(Clone, Copy)]
 struct Drawn {
-    layouts: &'static [Layout],
+    versions: &'static [Version],
     most: u64,
 }
 
-// One of the layouts, and the number as far as there is room for it.
-fn in_layout(random: &mut Random, drawn: Drawn, number: u64) -> (Layout, u64) {
-    let layout = random.pick(drawn.layouts);
-    (layout, (number & layout.last_number()).min(drawn.most))
+// One of the versions, and the number as far as there is room for it.
+fn in_version(random: &mut Random, drawn: Drawn, number: u64) -> (Version, u64) {
+    let version = random.pick(drawn.versions);
+    (version, (number & version.last_number()).min(drawn.most))
 }
 
 fn random_main(random: &mut Random, geometry: &Geometry) -> Vec<u8> {
@@ -61,11 +72,11 @@ fn random_main(random: &mut Random, geometry: &Geometry) -> Vec<u8> {
 fn random_label(random: &mut Random, geometry: &Geometry, drawn: Drawn) -> Label {
     let page = random.below(geometry.pages + 1);
     let number = random_number(random);
-    let (layout, number) = in_layout(random, drawn, number);
+    let (version, number) = in_version(random, drawn, number);
     if random.one_in(3) {
-        return table_label(layout, page, number);
+        return table_label(version, page, number);
     }
-    data_label(layout, random.below(geometry.logical + 2), page, number)
+    data_label(version, random.below(geometry.logical + 2), page, number)
 }
 
 // A copy whose pages bear the label, each with its own place.
@@ -134,28 +145,28 @@ fn mixed_block(random: &mut Random, geometry: &Geometry, drawn: Drawn) -> Vec<u8
 
 fn random_block(random: &mut Random, geometry: &Geometry, drawn: Drawn, own: usize, number: u64) -> Vec<u8> {
     let size = geometry.block_bytes();
-    let (layout, number) = in_layout(random, drawn, number);
+    let (version, number) = in_version(random, drawn, number);
     let mut block = match random.below(12) {
         0 | 1 => vec![0xFF; size],
         2 => random.bytes(size),
-        3 | 4 => table_block(random, geometry, own, table_label(layout, 0, number)),
+        3 | 4 => table_block(random, geometry, own, table_label(version, 0, number)),
         5 => mixed_block(random, geometry, drawn),
-        6 => copy_block(random, geometry, data_label(layout, geometry.logical, 0, number)),
+        6 => copy_block(random, geometry, data_label(version, geometry.logical, 0, number)),
         _ => {
             let logical = random.below(geometry.logical);
-            copy_block(random, geometry, data_label(layout, logical, 0, number))
+            copy_block(random, geometry, data_label(version, logical, 0, number))
         }
     };
     if random.one_in(4) {
         damage(random, geometry, &mut block);
     }
-    if drawn.layouts.len() > 1 && random.one_in(10) {
-        relay_page(random, geometry, &mut block);
+    if drawn.versions.len() > 1 && random.one_in(10) {
+        relay_page(random, geometry, drawn, &mut block);
     }
     block
 }
 
-// Bits raised or cleared, a kind raised to one of the wide layout, a missing tail, a mark, or a wrong byte past the number.
+// Bits raised or cleared, a kind raised to a later one, a missing tail, a mark, or a wrong byte past the number.
 fn damage(random: &mut Random, geometry: &Geometry, block: &mut [u8]) {
     let size = geometry.page_bytes();
     let page = random.below(geometry.pages) * size;
@@ -166,39 +177,42 @@ fn damage(random: &mut Random, geometry: &Geometry, block: &mut [u8]) {
         3 => block[random.below(geometry.block_bytes())] &= !(1 << random.below(8)),
         4 => block[random.below(2) * size + geometry.main] = random.byte(),
         5 => block[page + geometry.main] = random.byte(),
-        6 => (0..geometry.pages).for_each(|page| raise_kind(&mut block[page * size + geometry.main..])),
+        6 => {
+            let bits = random.pick(&KIND_BITS);
+            (0..geometry.pages).for_each(|page| block[page * size + geometry.main + 1] |= bits);
+        }
         7 => {
-            raise_kind(&mut block[page + geometry.main..]);
+            block[page + geometry.main + 1] |= random.pick(&KIND_BITS);
             (page..page + size).for_each(|place| block[place] |= random.byte() & random.byte() & random.byte());
         }
         _ => block[page + geometry.main + 11 + random.below(geometry.spare - 11)] = random.byte(),
     }
 }
 
-// The bit that the kinds of the wide layout have and those of the narrow one have not.
-pub const WIDE_BIT: u8 = 0x20;
+// Bits that the kinds of later versions have and those of earlier ones have not: from the narrow layout to the wide one, from plain pages
+// to whitened ones, and both.
+pub const KIND_BITS: [u8; 3] = [0x20, 0x08, 0x28];
 
-fn raise_kind(spare: &mut [u8]) {
-    spare[1] |= WIDE_BIT;
+// The whole page as another version writes it, with the same meaning and as much of its number as there is room for.
+pub fn relaid(geometry: &Geometry, page: &[u8], version: Version) -> Option<Vec<u8>> {
+    let label = whole_page(geometry, page)?;
+    let main = formed(label.kind, label.page as usize, &page[..geometry.main]);
+    let kind = if label.is_data() { version.data_kind() } else { version.table_kind() };
+    Some(encode_page(geometry, &main, &Label { kind, ..label }))
 }
 
-// The page in the other layout under the same label, with as much of its number as there is room for.
-pub fn relaid(geometry: &Geometry, page: &[u8], label: Label) -> Vec<u8> {
-    encode_page(geometry, &page[..geometry.main], &Label { kind: label.kind ^ WIDE_BIT, ..label })
-}
-
-// One whole page in the other layout.
-fn relay_page(random: &mut Random, geometry: &Geometry, block: &mut [u8]) {
+// One whole page as of another version.
+fn relay_page(random: &mut Random, geometry: &Geometry, drawn: Drawn, block: &mut [u8]) {
     let from = geometry.page_start(0, random.below(geometry.pages));
     let page = &mut block[from..from + geometry.page_bytes()];
-    if let Some(label) = whole_page(geometry, page) {
-        page.copy_from_slice(&relaid(geometry, page, label));
+    if let Some(relaid) = relaid(geometry, page, random.pick(drawn.versions)) {
+        page.copy_from_slice(&relaid);
     }
 }
 
 pub fn random_array(random: &mut Random, geometry: &Geometry) -> Vec<u8> {
-    let layouts = random.pick(&[NARROW, WIDE, BOTH]);
-    array_of(random, geometry, Drawn { layouts, most: u64::MAX })
+    let versions = random_versions(random, Version::White);
+    array_of(random, geometry, Drawn { versions, most: u64::MAX })
 }
 
 fn array_of(random: &mut Random, geometry: &Geometry, drawn: Drawn) -> Vec<u8> {
@@ -219,7 +233,7 @@ fn array_of(random: &mut Random, geometry: &Geometry, drawn: Drawn) -> Vec<u8> {
 fn random_numbers(random: &mut Random, count: usize) -> Vec<u64> {
     let few = [random_number(random), random_number(random)];
     let often = random.pick(&[2, 5, 1000]);
-    let (count, narrow_last) = (count as u64, Layout::Narrow.last_number());
+    let (count, narrow_last) = (count as u64, Version::Narrow.last_number());
     let start = random.pick(&[1, 20, narrow_last - count, narrow_last - count / 2, u64::MAX - count]);
     let mut numbers: Vec<u64> = (1..=count).map(|place| start + place).collect();
     for place in (1..numbers.len()).rev() {
@@ -235,12 +249,12 @@ fn random_numbers(random: &mut Random, count: usize) -> Vec<u64> {
     numbers
 }
 
-// A chip of which few blocks are marked and few hold one of the last numbers, so that a formatting mostly succeeds; for a store that
-// writes the narrow layout one whose pages are in that layout.
-pub fn used_array(random: &mut Random, geometry: &Geometry, store: Layout) -> Vec<u8> {
-    let layouts = if store == Layout::Narrow { NARROW } else { random.pick(&[NARROW, WIDE, BOTH]) };
+// A chip of which few blocks are marked and few hold one of the last numbers, so that a formatting mostly succeeds; its pages
+// are of no later version than the store.
+pub fn used_array(random: &mut Random, geometry: &Geometry, store: Version) -> Vec<u8> {
+    let versions = random_versions(random, store);
     let room = if random.one_in(8) { 0 } else { 100 };
-    let mut array = array_of(random, geometry, Drawn { layouts, most: store.last_number() - room });
+    let mut array = array_of(random, geometry, Drawn { versions, most: store.last_number() - room });
     let size = geometry.page_bytes();
     for block in 0..geometry.blocks {
         let from = geometry.page_start(block, 0) + geometry.main;
@@ -433,6 +447,13 @@ fn random_word(random: &mut Random) -> u64 {
     }
 }
 
+// Those of copies, those near the whitened one, and any.
+pub fn random_kind(random: &mut Random) -> u8 {
+    let near = WHITE_KIND ^ 1 << random.below(8);
+    let any = random.byte();
+    random.pick(&[0, 0x44, 0x64, WHITE_KIND, WHITE_KIND, WHITE_KIND, near, any])
+}
+
 // A mounted state of one's own making, which any chip may belie.
 pub fn made_state(random: &mut Random, geometry: &Geometry) -> State {
     let mut state = State::from_bytes(&vec![0; STATE_BYTES]);
@@ -449,6 +470,7 @@ pub fn made_state(random: &mut Random, geometry: &Geometry) -> State {
         if random.one_in(2) {
             state.map[logical] = blocks.pop().unwrap() as u16;
         }
+        state.kinds[logical] = random_kind(random);
     }
     for block in blocks {
         match random.below(8) {
@@ -465,7 +487,7 @@ pub fn change_state(random: &mut Random, geometry: &Geometry, state: &mut State)
     let block = random.below(geometry.blocks + 2);
     let place = if random.one_in(3) { random.below(4096) } else { block };
     let word = random_word(random);
-    match random.below(9) {
+    match random.below(11) {
         0 => state.status = word,
         1 => state.table = random.pick(&[block as u64, word]),
         2 => state.last = random.pick(&[block as u64, word]),
@@ -474,6 +496,8 @@ pub fn change_state(random: &mut Random, geometry: &Geometry, state: &mut State)
         5 => state.invalid[place / 8] ^= 1 << (place % 8),
         6 => state.map[random.below(geometry.logical)] = random.pick(&[block as u16, word as u16]),
         7 => state.map[geometry.logical] = random.pick(&[0xFFFF, block as u16, 0]),
+        8 => state.kinds[random.below(geometry.logical)] = random_kind(random),
+        9 => state.kinds[random.below(4096)] = random_kind(random),
         _ => state.map[random.below(4096)] = word as u16,
     }
 }
@@ -530,7 +554,7 @@ pub fn with_open(random: &mut Random, state: &[u8], write: &OpenWrite) -> Vec<u8
     let mut state = state.to_vec();
     write.put(&mut state);
     let page = if random.one_in(4) { vec![random.byte(); MOST_MAIN] } else { random.bytes(MOST_MAIN) };
-    state[PAGE_AT..].copy_from_slice(&page);
+    state[PAGE_AT..KINDS_AT].copy_from_slice(&page);
     state
 }
 

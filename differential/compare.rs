@@ -274,12 +274,12 @@ fn print_arguments(geometry: &Geometry, request: &Request, call: &Call, before: 
 
 const LARGEST_SHOWN: usize = 200_000;
 
-// A box, and the layout that its store writes: while that is the narrow one, the library takes no part. `left` says that every page
+// A box, and the version of its store: while that is an earlier one, the library takes no part. `left` says that every page
 // of an unmarked block that the table does not list is as this store's programs and erases leave pages, `sells` that requests are
 // mostly drawn for a journal.
 struct World {
     geometry: Geometry,
-    layout: Layout,
+    version: Version,
     left: bool,
     sells: bool,
     own: Side,
@@ -313,7 +313,7 @@ impl World {
         let (state, sizes) = (vec![0; STATE_BYTES], vec![0; SIZE_WORDS]);
         let own = Side { state, chip, buffer: Vec::new(), sent: vec![0], sizes, finished: vec![0], told: vec![0] };
         let (left, sells) = (false, false);
-        World { geometry, layout: Layout::Wide, left, sells, library: own.clone(), own, watch: Watch::default() }
+        World { geometry, version: Version::White, left, sells, library: own.clone(), own, watch: Watch::default() }
     }
 
     fn fresh(geometry: Geometry) -> World {
@@ -347,14 +347,15 @@ impl World {
         Call { mask: self.mask(0), fates: Vec::new(), allowed: u32::MAX, protected: 0 }
     }
 
-    // The box is updated, with the power off: every page on its chip is one of the narrow layout, or not whole.
-    fn update(&mut self, run: &mut Run) {
+    // The box is updated to a later version, with the power off: every page on its chip is of a kind that its store wrote so far, or not
+    // whole.
+    fn update(&mut self, run: &mut Run, version: Version) {
         let pages = self.own.chip.array.chunks(self.geometry.page_bytes());
-        let kinds = pages.filter_map(|page| Some(whole_page(&self.geometry, page)?.kind));
-        if kinds.map(Layout::of).any(|layout| layout != Some(Layout::Narrow)) {
-            run.fail("a page of the narrow layout passes as one of the wide layout");
+        let mut kinds = pages.filter_map(|page| Some(whole_page(&self.geometry, page)?.kind));
+        if kinds.any(|kind| !self.version.knows(kind)) {
+            run.fail("a page of an earlier version passes as one of a later version");
         }
-        self.layout = Layout::Wide;
+        self.version = version;
         self.own.state.fill(0);
         self.own.chip.interface.fill(0);
         self.library = self.own.clone();
@@ -374,7 +375,7 @@ impl World {
         if matches!(request, Request::Format) && ![GEOMETRY, BAD_BUFFER].contains(&answer) {
             keeps_carried(run, &geometry, &before.chip, &self.own.chip, self.left);
         }
-        if self.layout == Layout::Narrow {
+        if self.version != Version::White {
             return answer;
         }
         run.count(kind_of(request), answer);
@@ -393,7 +394,7 @@ impl World {
 
     fn own_call(&mut self, geometry: &Geometry, request: &Request, call: &Call) -> usize {
         self.watch.confirmed.clear();
-        store::call(self.layout, geometry, request, &mut self.own, call, &mut self.watch)
+        store::call(self.version, geometry, request, &mut self.own, call, &mut self.watch)
     }
 
     fn right(&mut self, run: &mut Run, request: &Request, call: &Call, buffer: &[u8]) -> usize {
@@ -485,8 +486,8 @@ impl World {
     }
 
     fn duplicate(&self) -> World {
-        let World { geometry, layout, left, sells, .. } = *self;
-        World { geometry, layout, left, sells, own: self.own.clone(), library: self.own.clone(), watch: self.watch.clone() }
+        let World { geometry, version, left, sells, .. } = *self;
+        World { geometry, version, left, sells, own: self.own.clone(), library: self.own.clone(), watch: self.watch.clone() }
     }
 }
 

@@ -1,7 +1,8 @@
 // The fixed selection: the paper's bench figures, then every cut, failure and silence of requests on small chips, with the
 // write-protect line high and low, writes that are opened and advanced, the journal of sales, forged states and interfaces, wrong
-// lengths, formattings of chips that hold a table, chips in both layouts and updated boxes, parameter pages, a chip with rows past
-// sixteen bits, random lists and the dearest writes; and beside the store the draws of the test load, price rules and lists of sales.
+// lengths, pages of many lengths, formattings of chips that hold a table, chips with pages of every version and updated boxes,
+// parameter pages, a chip with rows past sixteen bits, random lists and the dearest writes; and beside the store the draws of the test
+// load, price rules and lists of sales.
 
 use super::*;
 use crate::draws::drawn;
@@ -19,8 +20,10 @@ pub fn fixed_selection(run: &mut Run) {
     open_writes(run);
     journals(run);
     changed_states(run);
+    changed_kinds(run);
     wrong_lengths(run);
     limits(run);
+    every_length(run);
     every_bit(run);
     every_table(run);
     every_arrangement(run);
@@ -76,6 +79,8 @@ pub fn bench_figures(run: &mut Run) {
     run.origin = "the bench figures".to_string();
     bench_program(run);
     bench_pages(run);
+    bench_streams(run);
+    bench_whitened(run);
     bench_limits(run);
     bench_silence(run);
     bench_replacement(run);
@@ -83,6 +88,7 @@ pub fn bench_figures(run: &mut Run) {
     bench_column(run);
     bench_line(run);
     bench_open(run);
+    bench_kept(run);
 }
 
 fn bench_program(run: &mut Run) {
@@ -106,17 +112,86 @@ fn bench_program(run: &mut Run) {
 }
 
 fn bench_pages(run: &mut Run) {
-    for (layout, place, check) in [(Layout::Narrow, 41, 61), (Layout::Wide, 45, 92)] {
-        let label = data_label(layout, 0, 0, 2);
+    for (version, place, check) in [(Version::Narrow, 41, 61), (Version::Wide, 45, 92), (Version::White, 45, 172)] {
+        let label = data_label(version, 0, 0, 2);
         let mut page = encode_page(&SMALL, &[0xFF; 32], &label);
         expect(run, "check of a data page", (page[place], page[place + 1]), (check, 0));
         expect(run, "a data page", whole_page(&SMALL, &page), Some(label));
         page[32 + 4] = 1;
         expect(run, "a raised page", whole_page(&SMALL, &page), None);
     }
-    let table = encode_page(&SMALL, &table_main(&SMALL, &[0; 512]), &table_label(Layout::Narrow, 0, 1));
+    let table = encode_page(&SMALL, &table_main(&SMALL, &[0; 512]), &table_label(Version::Narrow, 0, 1));
     expect(run, "check of a table with a 32-bit number", (table[41], table[42]), (129, 0));
     expect(run, "an erased page", whole_page(&SMALL, &[0xFF; 48]), None);
+}
+
+// The first sixteen bytes of the streams of some pages.
+pub const STREAMS: [(usize, u128); 4] = [
+    (0, 0x0002_000c_0028_00f0_0220_0cc0_2a80_ff02),
+    (1, 0x0004_0018_0050_01e0_0440_1980_5501_fe04),
+    (2, 0x0006_0014_0078_0110_0660_1540_7f81_0106),
+    (63, 0x0080_0300_0a00_3c00_8803_300a_a03f_c080),
+];
+
+// The first sixteen bytes of a page on the chip.
+pub fn begins(world: &World, block: usize, page: usize) -> u128 {
+    let from = world.geometry.page_start(block, page);
+    u128::from_be_bytes(world.own.chip.array[from..from + 16].try_into().unwrap())
+}
+
+// Pages of zeros are stored as their streams.
+fn bench_streams(run: &mut Run) {
+    let mut world = World::fresh(Geometry { pages: 64, ..SMALL });
+    world.format(run);
+    for (page, wanted) in STREAMS {
+        let answer = world.write(run, 0, page, 0);
+        let found = begins(&world, world.state().map[0] as usize, page);
+        expect(run, &format!("the stream of page {page}"), (answer, found), (DONE, wanted));
+    }
+    let block = world.state().map[0] as usize;
+    for (page, wanted) in STREAMS {
+        expect(run, &format!("the stream of page {page}, kept"), begins(&world, block, page), wanted);
+    }
+}
+
+// Page 0 of logical block 0 after W 0 0 A5, under number 2, and after E 0, under number 3.
+const A5_WHITENED: [u8; 48] = [
+    0xA5, 0xA7, 0xA5, 0xA9, 0xA5, 0x8D, 0xA5, 0x55, 0xA7, 0x85, 0xA9, 0x65, 0x8F, 0x25, 0x5A, 0xA7, //
+    0xA7, 0xA9, 0xA9, 0x8D, 0x8D, 0x55, 0x57, 0x87, 0x89, 0x69, 0x4F, 0x0F, 0xDA, 0x58, 0xA5, 0xAB, //
+    0xFF, 0x6C, 0x00, 0x00, 0x00, 0x02, 0x00, 0x00, 0x00, 0x00, 0x00, 0x00, 0x00, 0xD6, 0x00, 0xFF,
+];
+const FF_WHITENED: [u8; 48] = [
+    0xFF, 0xFD, 0xFF, 0xF3, 0xFF, 0xD7, 0xFF, 0x0F, 0xFD, 0xDF, 0xF3, 0x3F, 0xD5, 0x7F, 0x00, 0xFD, //
+    0xFD, 0xF3, 0xF3, 0xD7, 0xD7, 0x0F, 0x0D, 0xDD, 0xD3, 0x33, 0x15, 0x55, 0x80, 0x02, 0xFF, 0xF1, //
+    0xFF, 0x6C, 0x00, 0x00, 0x00, 0x03, 0x00, 0x00, 0x00, 0x00, 0x00, 0x00, 0x00, 0xAB, 0x00, 0xFF,
+];
+
+// Pages of the chip as they are stored, and the kinds that the state has of them.
+fn bench_whitened(run: &mut Run) {
+    let mut world = World::fresh(SMALL);
+    world.format(run);
+    expect(run, "the table is plain", begins(&world, 0, 0), 0x0400_0200_0000_0800_00ff_ffff_ffff_ffff);
+    expect(run, "its other pages are plain", begins(&world, 0, 3), u128::MAX);
+    expect(run, "no kinds after F", world.state().kinds == [0; 4096], true);
+    world.write(run, 0, 0, 0xA5);
+    let from = SMALL.page_start(1, 0);
+    expect(run, "W 0 0 A5, stored", &world.own.chip.array[from..from + 48], &A5_WHITENED[..]);
+    expect(run, "its page 2, stored", begins(&world, 1, 2), !STREAMS[2].1);
+    expect(run, "its kind", (world.state().kinds[0], world.state().kinds[1]), (0x6C, 0));
+    world.erase(run, 0);
+    let from = SMALL.page_start(2, 0);
+    expect(run, "E 0, stored", &world.own.chip.array[from..from + 48], &FF_WHITENED[..]);
+    let read = |world: &mut World, run: &mut Run, wanted: u8| {
+        world.read(run, 0, 0);
+        expect(run, "what it means", world.own.buffer == [wanted; 32], true);
+    };
+    read(&mut world, run, 0xFF);
+    world.mount(run);
+    read(&mut world, run, 0xFF);
+    expect(run, "kinds after a mount", (world.state().kinds[0], world.state().kinds[1]), (0x6C, 0));
+    world.both(|side| side.chip.array[0] ^= 1);
+    let answer = world.mount(run);
+    expect(run, "a mount without a table", (answer, world.own.state == [0; STATE_BYTES]), (NO_TABLE, true));
 }
 
 fn bench_limits(run: &mut Run) {
@@ -135,19 +210,19 @@ fn bench_limits(run: &mut Run) {
 
 // A formatted small chip with one page written to each logical block.
 pub fn written() -> (World, Book) {
-    written_in(Layout::Wide)
+    written_by(Version::White)
 }
 
-// The same by a store that writes this layout.
-pub fn written_in(layout: Layout) -> (World, Book) {
-    written_on(SMALL, layout)
+// The same by a store of this version.
+pub fn written_by(version: Version) -> (World, Book) {
+    written_on(SMALL, version)
 }
 
 // The same on a chip that is like the small one.
-pub fn written_on(geometry: Geometry, layout: Layout) -> (World, Book) {
+pub fn written_on(geometry: Geometry, version: Version) -> (World, Book) {
     let mut run = Run::of_setting();
     let mut world = World::fresh(geometry);
-    world.layout = layout;
+    world.version = version;
     world.watch.on = true;
     let mut book = Book::new(&geometry);
     let call = world.plain();
@@ -214,7 +289,7 @@ fn bench_replacement(run: &mut Run) {
 }
 
 fn bench_numbers(run: &mut Run) {
-    let last = Layout::Wide.last_number();
+    let last = Version::White.last_number();
     let (mut world, _) = written();
     let state = State { number: last - 1, ..world.state() };
     world.both(|side| side.state = state.to_bytes());
@@ -232,7 +307,7 @@ fn bench_numbers(run: &mut Run) {
 
 // A formatting of a chip whose table bears the last number, and of which an erase fails: it counts its blocks before it takes a number.
 fn bench_formatting(run: &mut Run, logical: usize, wanted: Line) {
-    let label = table_label(Layout::Wide, 0, Layout::Wide.last_number());
+    let label = table_label(Version::White, 0, Version::White.last_number());
     let mut array = table_with(&table_main(&SMALL, &[0; 512]), &[0xFF; 32], label);
     array.resize(SMALL.chip_bytes(), 0xFF);
     let mut world = World::new(Geometry { logical, ..SMALL }, array);
@@ -604,6 +679,44 @@ fn changed_states(run: &mut Run) {
     }
 }
 
+// Any kind in a state only tells whether bytes are undone: those of copies, those near the whitened one, and others.
+pub const FORGED_KINDS: [u8; 14] = [0, 1, 0x44, 0x4C, 0x54, 0x64, 0x6C, 0x6D, 0x6E, 0x74, 0x7C, 0x2C, 0xEC, 0xFF];
+
+// Logical block 2 has no copy, and there is no logical block 3.
+fn changed_kinds(run: &mut Run) {
+    for version in [Version::Narrow, Version::White] {
+        let base = updated(run, written_on(Geometry { blocks: 6, logical: 3, ..SMALL }, version)).0;
+        for kind in FORGED_KINDS {
+            for logical in [0, 1, 2, 3, 4095] {
+                run.origin = format!("kind {kind:02X} forged for logical block {logical}, {version:?}");
+                let mut state = base.state();
+                state.kinds[logical] = kind;
+                calls_with_state(run, &base, &state);
+                first_copy(run, &base, &state);
+            }
+        }
+    }
+}
+
+// Logical block 2 is read, and gets its first copy by a write and by one that is opened.
+fn first_copy(run: &mut Run, base: &World, state: &State) {
+    let mut world = base.duplicate();
+    world.both(|side| side.state = state.to_bytes());
+    let mut opened = world.duplicate();
+    world.read(run, 2, 0);
+    expect(run, "a block without a copy", world.own.buffer == [0xFF; 32], true);
+    world.write(run, 2, 1, 0x6B);
+    opened.open(run, 2, 1, 0x6B);
+    opened.advance(run, 9);
+    expect(run, "the state after both", opened.own.state == world.own.state, true);
+    for page in 0..SMALL.pages {
+        world.read(run, 2, page);
+        opened.read(run, 2, page);
+        let wanted = if page == 1 { 0x6B } else { 0xFF };
+        expect(run, "its pages", (world.own.buffer[31], opened.own.buffer[31]), (wanted, wanted));
+    }
+}
+
 fn calls_with_state(run: &mut Run, base: &World, state: &State) {
     for request in requests() {
         for (fates, protected) in [(vec![], 0), (vec![], 1), (vec![1 << 16], 0), (vec![0, 1 << 16, 1 << 16], 0)] {
@@ -612,6 +725,7 @@ fn calls_with_state(run: &mut Run, base: &World, state: &State) {
             let call = Call { fates, protected, ..world.plain() };
             let buffer = buffer_for(&world, &request);
             world.right(run, &request, &call, &buffer);
+            world.read(run, 0, 0);
             world.mount(run);
         }
     }
@@ -686,6 +800,36 @@ fn at_limit(run: &mut Run, geometry: Geometry) {
     }
 }
 
+// ---- lengths of a page ----
+
+// Pages of many lengths, in blocks of 4 pages and of 64: the stream repeats after 32,767 bits, within the longest page.
+fn every_length(run: &mut Run) {
+    let long = [119, 120, 121, 127, 128, 129, 135, 136, 239, 240, 241, 255, 256, 257, 511, 520, 1023, 2048, 4094, 4095, 4096];
+    for main in (32..80).chain(long) {
+        written_and_read(run, Geometry { main, ..SMALL });
+    }
+    for main in [32, 135, 2048, 4095, 4096] {
+        written_and_read(run, Geometry { main, pages: 64, ..SMALL });
+    }
+}
+
+// A page written, read, kept by another write, mounted, kept by an open write and read.
+fn written_and_read(run: &mut Run, geometry: Geometry) {
+    run.origin = format!("pages of {geometry:?}");
+    let mut world = World::fresh(geometry);
+    let last = geometry.pages - 1;
+    let bytes = Random::new(geometry.main as u64).bytes(geometry.main);
+    world.format(run);
+    let answer = world.simple(run, &Request::Write { block: 1, page: last }, &bytes);
+    expect(run, "a write", answer, DONE);
+    world.write(run, 1, 0, 0x5A);
+    world.quick_mount(run);
+    world.open(run, 1, 1, 0xC3);
+    world.advance(run, u64::MAX);
+    let answer = world.read(run, 1, last);
+    expect(run, "a page kept twice", (answer, world.own.buffer == bytes), (DONE, true));
+}
+
 // ---- chips for a mount ----
 
 fn mount_array(run: &mut Run, array: Vec<u8>) {
@@ -698,13 +842,13 @@ fn mount_array(run: &mut Run, array: Vec<u8>) {
     }
 }
 
-// Of a chip in either layout.
+// Of a chip of each version.
 fn every_bit(run: &mut Run) {
-    for layout in [Layout::Narrow, Layout::Wide] {
-        let (world, _) = written_in(layout);
+    for version in ALL {
+        let (world, _) = written_by(*version);
         for place in 0..SMALL.chip_bytes() {
             for bit in 0..8 {
-                run.origin = format!("bit {bit} of byte {place} changed, {layout:?}");
+                run.origin = format!("bit {bit} of byte {place} changed, {version:?}");
                 let mut array = world.own.chip.array.clone();
                 array[place] ^= 1 << bit;
                 mount_array(run, array);
@@ -729,23 +873,23 @@ fn mount_table(run: &mut Run, table: &[u8]) {
 }
 
 fn every_table(run: &mut Run) {
-    for layout in [Layout::Narrow, Layout::Wide] {
-        every_table_in(run, layout);
+    for version in [Version::Narrow, Version::White] {
+        every_table_by(run, version);
     }
 }
 
-fn every_table_in(run: &mut Run, layout: Layout) {
+fn every_table_by(run: &mut Run, version: Version) {
     let blank = [0xFF; 32];
     let right = table_main(&SMALL, &[0; 512]);
-    let label = table_label(layout, 0, 9);
+    let label = table_label(version, 0, 9);
     for bitmap in 0..=255 {
-        run.origin = format!("a table with bitmap {bitmap:02X}, {layout:?}");
+        run.origin = format!("a table with bitmap {bitmap:02X}, {version:?}");
         let mut invalid = [0; 512];
         invalid[0] = bitmap;
         mount_table(run, &table_with(&table_main(&SMALL, &invalid), &blank, label));
     }
     for bit in 0..256 {
-        run.origin = format!("a table with bit {bit} changed, {layout:?}");
+        run.origin = format!("a table with bit {bit} changed, {version:?}");
         let (mut first, mut others) = (right.clone(), blank);
         first[bit / 8] ^= 1 << (bit % 8);
         others[bit / 8] ^= 1 << (bit % 8);
@@ -753,28 +897,28 @@ fn every_table_in(run: &mut Run, layout: Layout) {
         mount_table(run, &table_with(&right, &others, label));
     }
     for bit in 0..16 {
-        run.origin = format!("a table with bit {bit} of its logical block, {layout:?}");
+        run.origin = format!("a table with bit {bit} of its logical block, {version:?}");
         mount_table(run, &table_with(&right, &blank, Label { logical: 1 << bit, ..label }));
     }
 }
 
-// What a block may hold where all arrangements are tried: tables and copies in either layout under few numbers.
+// What a block may hold where all arrangements are tried: tables and copies of every version under few numbers.
 fn contents() -> Vec<Vec<u8>> {
-    let (narrow, wide) = (Layout::Narrow, Layout::Wide);
+    let (narrow, wide, white) = (Version::Narrow, Version::Wide, Version::White);
     let mut random = Random::new(5);
-    let table = |layout, bitmap: u8, number| {
+    let table = |version, bitmap: u8, number| {
         let mut invalid = [0; 512];
         invalid[0] = bitmap;
-        table_with(&table_main(&SMALL, &invalid), &[0xFF; 32], table_label(layout, 0, number))
+        table_with(&table_main(&SMALL, &invalid), &[0xFF; 32], table_label(version, 0, number))
     };
     let mut marked = table(wide, 0, 3);
     marked[SMALL.page_bytes() + SMALL.main] = 0xFE;
     let mut contents = vec![vec![0xFF; SMALL.block_bytes()], marked];
-    for (layout, bitmap, number) in [(wide, 0, 1), (wide, 0, 2), (narrow, 0, 2), (narrow, 2, 2), (wide, 12, 2)] {
-        contents.push(table(layout, bitmap, number));
+    for (version, bitmap, number) in [(wide, 0, 1), (wide, 0, 2), (narrow, 0, 2), (narrow, 2, 2), (wide, 12, 2)] {
+        contents.push(table(version, bitmap, number));
     }
-    for (layout, logical, number) in [(narrow, 0, 1), (wide, 0, 2), (narrow, 0, 2), (wide, 1, 2), (narrow, 2, 3)] {
-        contents.push(copy_block(&mut random, &SMALL, data_label(layout, logical, 0, number)));
+    for (version, logical, number) in [(narrow, 0, 1), (white, 0, 2), (wide, 0, 2), (white, 1, 2), (white, 2, 3)] {
+        contents.push(copy_block(&mut random, &SMALL, data_label(version, logical, 0, number)));
     }
     contents
 }

@@ -47,13 +47,13 @@ const ONE: Geometry = Geometry { logical: 1, ..SMALL };
 fn table(geometry: &Geometry, listed: u8, number: u64) -> Vec<u8> {
     let mut invalid = [0; 512];
     invalid[0] = listed;
-    table_with(&table_main(geometry, &invalid), &[0xFF; 32], table_label(Layout::Wide, 0, number))
+    table_with(&table_main(geometry, &invalid), &[0xFF; 32], table_label(Version::Wide, 0, number))
 }
 
 // The small chip with this table in block 0, its other blocks with copies.
 fn chip_with(table: Vec<u8>) -> World {
     let copies = [(0, 3), (1, 4), (0, 5)].map(|(logical, number)| {
-        copy_block(&mut Random::new(number), &SMALL, data_label(Layout::Wide, logical, 0, number))
+        copy_block(&mut Random::new(number), &SMALL, data_label(Version::White, logical, 0, number))
     });
     World::new(ONE, [table, copies.concat()].concat())
 }
@@ -161,7 +161,7 @@ fn every_carried(run: &mut Run) {
         let (right, blank) = (first.clone(), others);
         first[bit / 8] ^= 1 << (bit % 8);
         others[bit / 8] ^= 1 << (bit % 8);
-        let label = table_label(Layout::Wide, 0, 7);
+        let label = table_label(Version::Wide, 0, 7);
         format_over(run, table_with(&first, &blank, label));
         format_over(run, table_with(&right, &others, label));
         format_over(run, table_with(&right, &blank, Label { logical: 1 << (bit % 16), ..label }));
@@ -185,7 +185,7 @@ fn format_over(run: &mut Run, table: Vec<u8>) {
 // there also on a page that is whole only before the erase, or only after it.
 fn numbers_go_on(run: &mut Run) {
     let geometry = Geometry { blocks: 6, ..ONE };
-    let page = encode_page(&geometry, &[0x0E; 32], &data_label(Layout::Wide, 0, 1, 90));
+    let page = encode_page(&geometry, &[0x0E; 32], &data_label(Version::Wide, 0, 1, 90));
     let mut half = page.clone();
     half[0] = 0x0A;
     for (block, bytes, raised) in [(2, &page, 0), (5, &page, 0), (4, &page, 0), (4, &page, 0xFF), (4, &half, 0x04)] {

@@ -60,14 +60,15 @@ impl Account {
 // The logical pages of a world whose state names blocks of the chip, as far as it does.
 fn pages_of(world: &World) -> Vec<Vec<u8>> {
     let geometry = &world.geometry;
+    let state = world.state();
     let mut pages = Vec::new();
-    for entry in &world.state().map[..geometry.logical] {
+    for (entry, kind) in state.map[..geometry.logical].iter().zip(state.kinds) {
         for page in 0..geometry.pages {
             match *entry as usize {
                 0xFFFF => pages.push(vec![0xFF; geometry.main]),
                 block if block < geometry.blocks => {
                     let from = geometry.page_start(block, page);
-                    pages.push(world.own.chip.array[from..from + geometry.main].to_vec());
+                    pages.push(formed(kind, page, &world.own.chip.array[from..from + geometry.main]));
                 }
                 _ => return pages,
             }
@@ -116,12 +117,12 @@ const fn sale(selection: u8, count: u16, price: u32, replaces: u16) -> Sale {
     Sale { selection, count, price, replaces }
 }
 
-// Cycles of a page read for the journal's end, and of count and price of one record.
+// Cycles of a page read for the journal's end, and of a record read once more up to its price.
 fn cycles_of_page(geometry: &Geometry) -> u64 {
     10 + geometry.main as u64
 }
 
-const AMOUNT_CYCLES: u64 = 16;
+const AMOUNT_CYCLES: u64 = 10 + 9;
 
 // Cycles of a write without an old copy on the small chip, and over one.
 const FIRST: u64 = 237;
@@ -158,9 +159,15 @@ fn sale_figures(run: &mut Run) {
 
 // So many sales, of which the third replaces the first, with the book kept; the chip has one block more than its logical blocks need.
 fn sold_on(logical: usize, count: usize) -> (World, Book) {
+    sold_by(Version::White, logical, count)
+}
+
+// The same by a store of this version.
+pub fn sold_by(version: Version, logical: usize, count: usize) -> (World, Book) {
     let geometry = Geometry { blocks: logical + 3, logical, ..SMALL };
     let mut run = Run::of_setting();
     let mut world = World::fresh(geometry);
+    world.version = version;
     world.watch.on = true;
     let mut book = Book::new(&geometry);
     let call = world.plain();
@@ -329,7 +336,7 @@ fn beside_open_write(run: &mut Run) {
 
 // A journal within its first block, one that ends with it, one that uses up its room; each cut, failed and silent anywhere.
 fn every_place(run: &mut Run) {
-    for base in [sold_on(2, 3), sold_on(2, 4), sold_on(1, 4)] {
+    for base in [sold_on(2, 3), sold_on(2, 4), sold_on(1, 4), updated(run, sold_by(Version::Wide, 2, 3))] {
         let requests = [sale(5, 1, 90, 0), sale(5, 1, 90, 2), sale(5, 1, 90, 1)].map(Request::Append);
         for request in requests.into_iter().chain([Request::Takings]) {
             for mask in masks(&base.0, &request) {
@@ -503,18 +510,19 @@ fn after_cut(run: &mut Run, world: &mut World, till: &mut Till, sold: &Sale, ref
 // A chip whose logical blocks offer 65,536 pages.
 const LONG: Geometry = Geometry { main: 137, spare: 16, pages: 64, blocks: 1026, logical: 1024 };
 
-// Copies of all logical blocks with so many records of the greatest amount, behind them the table, then an erased block.
+// Copies of all logical blocks, from each version in turn, with so many records of the greatest amount, behind them the table, then an
+// erased block.
 fn long_journal(records: usize) -> World {
     let (blank, greatest) = (vec![0xFF; LONG.main], sale(1, u16::MAX, u32::MAX, 0));
     let mut array = Vec::with_capacity(LONG.chip_bytes());
     for place in 0..LONG.logical * LONG.pages {
         let main = if place < records { greatest.page(LONG.main, place + 1) } else { blank.clone() };
         let (block, page) = (place / LONG.pages, place % LONG.pages);
-        array.extend(encode_page(&LONG, &main, &data_label(Layout::Wide, block, page, block as u64 + 1)));
+        array.extend(encode_page(&LONG, &main, &data_label(ALL[block % 3], block, page, block as u64 + 1)));
     }
     for page in 0..LONG.pages {
         let main = if page == 0 { table_main(&LONG, &[0; 512]) } else { blank.clone() };
-        array.extend(encode_page(&LONG, &main, &table_label(Layout::Wide, page, 1 << 16)));
+        array.extend(encode_page(&LONG, &main, &table_label(Version::White, page, 1 << 16)));
     }
     array.resize(LONG.chip_bytes(), 0xFF);
     World::new(LONG, array)

@@ -128,12 +128,12 @@ fn wild_call(run: &mut Run, random: &mut Random, world: &mut World) {
     }
 }
 
-// A list after an acknowledged formatting, with the book kept. One box of three is updated in the middle of it.
+// A list after an acknowledged formatting, with the book kept. Every other box is updated in the middle of it, some of them twice.
 fn book_list(run: &mut Run, random: &mut Random) {
     let geometry = random_geometry(random);
-    let layout = random.pick(&[Layout::Narrow, Layout::Wide, Layout::Wide]);
-    let mut world = World::new(geometry, used_array(random, &geometry, layout));
-    world.layout = layout;
+    let version = random.pick(&[Version::Narrow, Version::Wide, Version::White, Version::White]);
+    let mut world = World::new(geometry, used_array(random, &geometry, version));
+    world.version = version;
     world.sells = random.one_in(2);
     world.watch.on = true;
     if !acknowledged_formatting(run, random, &mut world) {
@@ -143,8 +143,10 @@ fn book_list(run: &mut Run, random: &mut Random) {
     run.books += 1;
     let mut book = Book::new(&world.geometry);
     let mut stands = book_calls(run, random, &mut world, &mut book);
-    if stands && layout == Layout::Narrow {
-        world.update(run);
+    while stands && world.version != Version::White {
+        let middle = world.version == Version::Narrow && random.one_in(2);
+        world.update(run, if middle { Version::Wide } else { Version::White });
+        book.give_up(run);
         stands = book_calls(run, random, &mut world, &mut book);
     }
     if stands {
@@ -153,11 +155,11 @@ fn book_list(run: &mut Run, random: &mut Random) {
     }
 }
 
-// As if many writes had taken numbers: few are left in the layout, or in the narrow one.
+// As if many writes had taken numbers: few are left, or few of 32 bits.
 fn skip_numbers(random: &mut Random, world: &mut World) {
     let last = match random.below(8) {
-        0 => world.layout.last_number(),
-        1 => Layout::Narrow.last_number(),
+        0 => world.version.last_number(),
+        1 => Version::Narrow.last_number(),
         _ => return,
     };
     let mut state = world.state();
@@ -234,7 +236,7 @@ fn book_call(run: &mut Run, random: &mut Random, world: &mut World, book: &mut B
         request = either_mount(random);
     }
     let opens = matches!(request, Request::Open { .. } | Request::Advance { .. });
-    if opens && world.layout == Layout::Narrow {
+    if opens && world.version == Version::Narrow {
         request = Request::Erase { block: random.below(geometry.logical) };
     }
     let mut call = random_call(random, &geometry, &request);

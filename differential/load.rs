@@ -33,7 +33,7 @@ impl Bench {
 
     // Answer, cycles sent, and the valid unmarked blocks that hold nothing current.
     fn line(&mut self, request: &Request) -> String {
-        let answer = store::call(Layout::Wide, &SMALL, request, &mut self.side, &self.call, &mut Watch::default());
+        let answer = store::call(Version::White, &SMALL, request, &mut self.side, &self.call, &mut Watch::default());
         let free = State::from_bytes(&self.side.state).free_blocks(&SMALL);
         format!("{answer} {} {free}", self.side.sent[0])
     }

@@ -13,6 +13,7 @@ pub fn open_writes(run: &mut Run) {
     line_low(run);
     every_advance_cut(run);
     every_word(run);
+    every_kind(run);
     advances_in_phase(run);
     for seed in 0..FORGED {
         run.origin = format!("an open write forged from {seed}");
@@ -167,7 +168,7 @@ fn outside_geometry(run: &mut Run) {
 
 // As the small chip with one page in each logical block, and one block more: a block may fail.
 fn roomy() -> (World, Book) {
-    written_on(Geometry { blocks: 5, ..SMALL }, Layout::Wide)
+    written_on(Geometry { blocks: 5, ..SMALL }, Version::White)
 }
 
 // The write opened and advanced so far, with these words for its operations; none where it is finished by then.
@@ -196,7 +197,7 @@ fn call_while_open(run: &mut Run, base: &(World, Book), request: &Request, call:
     let open = !(stopped || finished || request.mounts());
     expect(run, "whether it is still open", world.open_write().is_open(), open);
     if !open {
-        expect(run, "words and page are 0", world.own.state[WORDS_AT..].iter().all(|byte| *byte == 0), true);
+        expect(run, "words and page are 0", world.own.state[WORDS_AT..KINDS_AT].iter().all(|byte| *byte == 0), true);
     }
     if stopped {
         let next = world.duplicate().advance(run, 1);
@@ -265,7 +266,11 @@ fn line_low(run: &mut Run) {
 // ---- cuts ----
 
 fn every_advance_cut(run: &mut Run) {
-    for (base, fates) in [(written(), vec![]), (roomy(), vec![1 << 16]), (roomy(), vec![0, 0, 1 << 16])] {
+    let mut bases = vec![(written(), vec![]), (roomy(), vec![1 << 16]), (roomy(), vec![0, 0, 1 << 16])];
+    for version in [Version::Narrow, Version::Wide] {
+        bases.push((updated(run, written_by(version)), vec![]));
+    }
+    for (base, fates) in bases {
         for write in [(0, 1), (1, 3)] {
             for done in 0..12 {
                 let Some(opened) = advanced(&base, write, &fates, done) else { break };
@@ -301,6 +306,22 @@ fn every_word(run: &mut Run) {
                 words[place] = value;
                 let mut world = opened.duplicate();
                 world.both(|side| OpenWrite::from_words(words).put(&mut side.state));
+                calls_on_words(run, &world);
+            }
+        }
+    }
+}
+
+// The kind of the old copy, and of another, forged while a write is open: over whitened pages and plain ones.
+fn every_kind(run: &mut Run) {
+    for (version, logical) in [(Version::White, 0), (Version::Wide, 0), (Version::Wide, 1)] {
+        let base = updated(run, written_on(Geometry { blocks: 5, ..SMALL }, version));
+        for most in [0, 1, 3] {
+            let Some((opened, _)) = advanced(&base, (0, 1), &[], most) else { continue };
+            for kind in FORGED_KINDS {
+                run.origin = format!("kind {kind:02X} forged for logical block {logical} after {most} pages, {version:?}");
+                let mut world = opened.duplicate();
+                world.both(|side| side.state[KINDS_AT + logical] = kind);
                 calls_on_words(run, &world);
             }
         }
@@ -388,7 +409,7 @@ fn advance_calls(run: &mut Run, base: &World) {
 
 // ---- portions beside the plain write ----
 
-// A chip that was formatted and written a few times, or any chip with a state of one's own making.
+// A chip that was formatted and written a few times, by an earlier version too, or any chip with a state of one's own making.
 fn drawn_chip(run: &mut Run, random: &mut Random, wild: bool) -> World {
     let geometry = random_geometry(random);
     if wild {
@@ -398,15 +419,26 @@ fn drawn_chip(run: &mut Run, random: &mut Random, wild: bool) -> World {
         return world;
     }
     let mut world = World::fresh(geometry);
+    world.version = random.pick(ALL);
     world.format(run);
-    for _ in 0..random.below(2 * geometry.logical) {
-        world.write(run, random.below(geometry.logical), random.below(geometry.pages), random.byte());
+    few_writes(run, random, &mut world);
+    if world.version != Version::White {
+        world.update(run, Version::White);
+        world.mount(run);
+        few_writes(run, random, &mut world);
     }
     if random.one_in(12) {
         let state = State { number: u64::MAX - random.below(4) as u64, ..world.state() };
         world.both(|side| side.state = state.to_bytes());
     }
     world
+}
+
+fn few_writes(run: &mut Run, random: &mut Random, world: &mut World) {
+    let geometry = world.geometry;
+    for _ in 0..random.below(2 * geometry.logical) {
+        world.write(run, random.below(geometry.logical), random.below(geometry.pages), random.byte());
+    }
 }
 
 // The same write plain and in portions, each operation with the same word and mask, and power lost at the same cycle, if at all.

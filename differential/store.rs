@@ -6,10 +6,11 @@ pub mod parameters;
 
 use parameters::PARAMETER_BYTES;
 
-// The base state, then the words of the open write, then its page.
+// The base state but for its kinds, then the words of the open write, its page, and the kinds.
 pub const WORDS_AT: usize = 9248;
 pub const PAGE_AT: usize = WORDS_AT + 8 * OPEN_WORDS;
-pub const STATE_BYTES: usize = PAGE_AT + MOST_MAIN;
+pub const KINDS_AT: usize = PAGE_AT + MOST_MAIN;
+pub const STATE_BYTES: usize = KINDS_AT + MOST_BLOCKS;
 pub const OPEN_WORDS: usize = 10;
 pub const INTERFACE_WORDS: usize = 12;
 pub const SIZE_WORDS: usize = 4;
@@ -653,8 +654,7 @@ fn u64_at(bytes: &[u8], place: usize) -> u64 {
     u64::from_le_bytes(bytes[place..place + 8].try_into().unwrap())
 }
 
-// The layouts of a page: narrow with a number of 32 bits, wide with one of 64. Both are read; the store writes the wide one, and
-// a box that was not updated yet the narrow one.
+// The layouts of a page: narrow with a number of 32 bits, wide with one of 64.
 #[derive(Clone, Copy, PartialEq, Eq, Debug)]
 pub enum Layout {
     Narrow,
@@ -666,26 +666,12 @@ impl Layout {
     pub fn of(kind: u8) -> Option<Layout> {
         match kind {
             0x44 | 0x54 => Some(Layout::Narrow),
-            0x64 | 0x74 => Some(Layout::Wide),
+            0x64 | 0x6C | 0x74 => Some(Layout::Wide),
             _ => None,
         }
     }
 
-    fn data_kind(self) -> u8 {
-        match self {
-            Layout::Narrow => 0x44,
-            Layout::Wide => 0x64,
-        }
-    }
-
-    fn table_kind(self) -> u8 {
-        match self {
-            Layout::Narrow => 0x54,
-            Layout::Wide => 0x74,
-        }
-    }
-
-    pub fn last_number(self) -> u64 {
+    fn last_number(self) -> u64 {
         match self {
             Layout::Narrow => 4_294_967_295,
             Layout::Wide => 18_446_744_073_709_551_615,
@@ -701,6 +687,82 @@ impl Layout {
     }
 }
 
+// What versions of the store write: the first the narrow layout, the second the wide one, the present one the wide one with the main
+// bytes of data whitened. Each reads what those before it wrote.
+#[derive(Clone, Copy, PartialEq, Eq, Debug)]
+pub enum Version {
+    Narrow,
+    Wide,
+    White,
+}
+
+impl Version {
+    pub fn data_kind(self) -> u8 {
+        match self {
+            Version::Narrow => 0x44,
+            Version::Wide => 0x64,
+            Version::White => WHITE_KIND,
+        }
+    }
+
+    pub fn table_kind(self) -> u8 {
+        match self {
+            Version::Narrow => 0x54,
+            _ => 0x74,
+        }
+    }
+
+    // Whether a store of this version reads pages of this kind.
+    pub fn knows(self, kind: u8) -> bool {
+        match kind {
+            0x44 | 0x54 => true,
+            0x64 | 0x74 => self != Version::Narrow,
+            _ => self == Version::White && kind == WHITE_KIND,
+        }
+    }
+
+    pub fn last_number(self) -> u64 {
+        match self {
+            Version::Narrow => Layout::Narrow.last_number(),
+            _ => Layout::Wide.last_number(),
+        }
+    }
+}
+
+// ---- whitened pages ----
+
+pub const WHITE_KIND: u8 = 0x6C;
+
+// One step of the register of fifteen bits: the bit that it gives, and the register after it.
+fn step(register: u16) -> (u8, u16) {
+    let (given, next) = (register >> 14 & 1, register >> 13 & 1);
+    (given as u8, register << 1 & 0x7FFF | (given ^ next))
+}
+
+// So many bytes of the stream of a page, the first bit given the most significant of the first byte.
+pub fn stream(page: usize, length: usize) -> Vec<u8> {
+    let mut register = page as u16 + 1;
+    let mut bytes = vec![0; length];
+    for byte in &mut bytes {
+        for _ in 0..8 {
+            let (given, next) = step(register);
+            *byte = *byte << 1 | given;
+            register = next;
+        }
+    }
+    bytes
+}
+
+// The main bytes of a page as a copy of this kind stores them, or what such bytes mean: the one undoes the other. They may end early.
+pub fn formed(kind: u8, page: usize, main: &[u8]) -> Vec<u8> {
+    if kind != WHITE_KIND {
+        return main.to_vec();
+    }
+    main.iter().zip(stream(page, main.len())).map(|(byte, white)| byte ^ white).collect()
+}
+
+// ---- labels ----
+
 #[derive(Clone, Copy, PartialEq, Eq, Debug)]
 pub struct Label {
     pub kind: u8,
@@ -711,7 +773,7 @@ pub struct Label {
 
 impl Label {
     pub fn is_data(&self) -> bool {
-        matches!(self.kind, 0x44 | 0x64)
+        matches!(self.kind, 0x44 | 0x64 | WHITE_KIND)
     }
 
     fn is_table(&self) -> bool {
@@ -719,22 +781,23 @@ impl Label {
     }
 }
 
-pub fn data_label(layout: Layout, logical: usize, page: usize, number: u64) -> Label {
-    Label { kind: layout.data_kind(), logical: logical as u16, page: page as u8, number }
+pub fn data_label(version: Version, logical: usize, page: usize, number: u64) -> Label {
+    Label { kind: version.data_kind(), logical: logical as u16, page: page as u8, number }
 }
 
-pub fn table_label(layout: Layout, page: usize, number: u64) -> Label {
-    Label { kind: layout.table_kind(), logical: 0, page: page as u8, number }
+pub fn table_label(version: Version, page: usize, number: u64) -> Label {
+    Label { kind: version.table_kind(), logical: 0, page: page as u8, number }
 }
 
 pub fn zero_bits(bytes: &[u8]) -> u32 {
     bytes.iter().map(|byte| byte.count_zeros()).sum()
 }
 
-// The page of a label whose kind is one of the four, with as much of its number as the layout holds.
+// The page of a label whose kind is one of the five, with as much of its number as the layout holds. The main bytes are what they
+// mean, at the place that the label tells.
 pub fn encode_page(geometry: &Geometry, main: &[u8], label: &Label) -> Vec<u8> {
     let layout = Layout::of(label.kind).unwrap();
-    let mut page = main.to_vec();
+    let mut page = formed(label.kind, label.page as usize, main);
     page.push(0xFF);
     page.push(label.kind);
     page.extend(label.logical.to_le_bytes());
@@ -901,7 +964,8 @@ fn forbidden_block(geometry: &Geometry, array: &[u8], block: usize) -> bool {
 
 // ---- the mounted state ----
 
-// `number` is one less than the next number: the greatest one found or taken, 0 for none.
+// `number` is one less than the next number: the greatest one found or taken, 0 for none. `kinds` are those of the current copies, 0
+// for a logical block without one.
 #[derive(Clone, PartialEq, Eq)]
 pub struct State {
     pub status: u64,
@@ -911,6 +975,7 @@ pub struct State {
     pub marks: Vec<u8>,
     pub invalid: Vec<u8>,
     pub map: Vec<u16>,
+    pub kinds: Vec<u8>,
 }
 
 const MOUNTED: u64 = 1;
@@ -920,8 +985,8 @@ impl State {
     // Status and 0 in all other fields.
     fn blank(status: u64) -> State {
         let bitmap = vec![0; MOST_BLOCKS / 8];
-        let map = vec![0; MOST_BLOCKS];
-        State { status, table: 0, last: 0, number: 0, marks: bitmap.clone(), invalid: bitmap, map }
+        let (map, kinds) = (vec![0; MOST_BLOCKS], vec![0; MOST_BLOCKS]);
+        State { status, table: 0, last: 0, number: 0, marks: bitmap.clone(), invalid: bitmap, map, kinds }
     }
 
     pub fn from_bytes(bytes: &[u8]) -> State {
@@ -937,6 +1002,7 @@ impl State {
             marks: bytes[32..544].to_vec(),
             invalid: bytes[544..1056].to_vec(),
             map,
+            kinds: bytes[KINDS_AT..].to_vec(),
         }
     }
 
@@ -951,6 +1017,7 @@ impl State {
         for (place, entry) in bytes[1056..].chunks_exact_mut(2).zip(&self.map) {
             place.copy_from_slice(&entry.to_le_bytes());
         }
+        bytes[KINDS_AT..].copy_from_slice(&self.kinds);
         bytes
     }
 
@@ -994,8 +1061,8 @@ impl State {
         !bit(&self.marks, block) && !bit(&self.invalid, block)
     }
 
-    fn take_number(&mut self, layout: Layout) -> Result<u64, Stop> {
-        if self.number >= layout.last_number() {
+    fn take_number(&mut self, version: Version) -> Result<u64, Stop> {
+        if self.number >= version.last_number() {
             return Err(Stop::Spent);
         }
         self.number += 1;
@@ -1091,7 +1158,7 @@ enum Filling<'a> {
 }
 
 struct Store<'a> {
-    layout: Layout,
+    version: Version,
     bus: Bus<'a>,
     state: State,
     held: Vec<u64>,
@@ -1115,7 +1182,7 @@ impl<'a> Store<'a> {
     // Fills block after block until one passes.
     fn fill(&mut self, what: &Filling) -> Result<(), Stop> {
         loop {
-            let number = self.state.take_number(self.layout)?;
+            let number = self.state.take_number(self.version)?;
             let block = self.choose_block()?;
             if self.fill_block(what, block, number)? {
                 self.record(what, block);
@@ -1141,32 +1208,49 @@ impl<'a> Store<'a> {
 
     fn page_to_fill(&mut self, what: &Filling, page: usize, number: u64) -> Result<Vec<u8>, Stop> {
         let geometry = self.geometry();
-        let layout = self.layout;
+        let version = self.version;
         let blank = vec![0xFF; geometry.main];
         let (main, label) = match what {
-            Filling::Table if page == 0 => (table_main(&geometry, &self.state.invalid), table_label(layout, 0, number)),
-            Filling::Table => (blank, table_label(layout, page, number)),
+            Filling::Table if page == 0 => (table_main(&geometry, &self.state.invalid), table_label(version, 0, number)),
+            Filling::Table => (blank, table_label(version, page, number)),
             Filling::Copy { logical, old, page: new } => {
-                (self.copy_main(*old, page, *new)?, data_label(layout, *logical, page, number))
+                let old = old.map(|block| (block, self.state.kinds[*logical]));
+                (self.copy_main(old, page, *new)?, data_label(version, *logical, page, number))
             }
         };
         Ok(encode_page(&geometry, &main, &label))
     }
 
-    // Main bytes of one page of a new copy; without a new page the whole copy is FFh.
-    fn copy_main(&mut self, old: Option<usize>, page: usize, new: Option<(usize, &[u8])>) -> Result<Vec<u8>, Stop> {
-        let blank = vec![0xFF; self.geometry().main];
+    // What the main bytes of one page of a new copy mean; without a new page the whole copy is FFh. The old copy is a block and a kind.
+    fn copy_main(&mut self, old: Option<(usize, u8)>, page: usize, new: Option<(usize, &[u8])>) -> Result<Vec<u8>, Stop> {
+        let main = self.geometry().main;
         match (new, old) {
             (Some((place, bytes)), _) if place == page => Ok(bytes.to_vec()),
-            (Some(_), Some(old)) => self.bus.read(old, page, 0, blank.len()),
-            _ => Ok(blank),
+            (Some(_), Some((block, kind))) => self.read_main(block, kind, page, main),
+            _ => Ok(vec![0xFF; main]),
+        }
+    }
+
+    // What the first main bytes of a page mean that a copy of this kind holds.
+    fn read_main(&mut self, block: usize, kind: u8, page: usize, count: usize) -> Result<Vec<u8>, Stop> {
+        Ok(formed(kind, page, &self.bus.read(block, page, 0, count)?))
+    }
+
+    // Of a page of a logical block; FFh where it has no copy.
+    fn read_logical(&mut self, logical: usize, page: usize, count: usize) -> Result<Vec<u8>, Stop> {
+        match self.state.map[logical] {
+            EMPTY => Ok(vec![0xFF; count]),
+            copy => self.read_main(copy as usize, self.state.kinds[logical], page, count),
         }
     }
 
     fn record(&mut self, what: &Filling, block: usize) {
         match what {
             Filling::Table => self.state.table = block as u64,
-            Filling::Copy { logical, .. } => self.state.map[*logical] = block as u16,
+            Filling::Copy { logical, .. } => {
+                self.state.map[*logical] = block as u16;
+                self.state.kinds[*logical] = self.version.data_kind();
+            }
         }
         self.state.last = block as u64;
         self.held = self.state.current(&self.geometry());
@@ -1207,7 +1291,7 @@ impl<'a> Store<'a> {
 
     // A number, a block and its erase.
     fn begin_block(&mut self, write: &mut OpenWrite) -> Result<(), Stop> {
-        let number = self.state.take_number(self.layout)?;
+        let number = self.state.take_number(self.version)?;
         let block = self.choose_block()?;
         if self.bus.erase(block)? {
             *write = OpenWrite { filling: PAGE_DUE, block: block as u64, number, page: 0, ..*write };
@@ -1249,13 +1333,10 @@ impl<'a> Store<'a> {
 
     // ---- the journal ----
 
-    // Bytes of the page at a place of the journal, counted from 0.
-    fn journal_bytes(&mut self, place: usize, column: usize, count: usize) -> Result<Vec<u8>, Stop> {
+    // The first bytes of the page at a place of the journal, counted from 0.
+    fn journal_bytes(&mut self, place: usize, count: usize) -> Result<Vec<u8>, Stop> {
         let pages = self.geometry().pages;
-        match self.state.map[place / pages] {
-            EMPTY => Ok(vec![0xFF; count]),
-            copy => self.bus.read(copy as usize, place % pages, column, count),
-        }
+        self.read_logical(place / pages, place % pages, count)
     }
 
     // Page after page, until one is not the next record.
@@ -1263,7 +1344,7 @@ impl<'a> Store<'a> {
         let geometry = self.geometry();
         let mut journal = Journal { records: 0, replaced: vec![false; MOST_RECORDS + 1] };
         while journal.records < journal_room(&geometry) {
-            let page = self.journal_bytes(journal.records, 0, geometry.main)?;
+            let page = self.journal_bytes(journal.records, geometry.main)?;
             let Some(replaces) = replaced_by(&page, journal.records + 1) else { break };
             journal.replaced[replaces] = true;
             journal.records += 1;
@@ -1289,14 +1370,14 @@ impl<'a> Store<'a> {
         Ok(DONE)
     }
 
-    // Count and price of each record in force are read once more.
+    // Each record in force is read once more up to its price.
     fn takings(&mut self) -> Result<u64, Stop> {
         let journal = self.read_journal()?;
         let mut sum = 0;
         for number in 1..=journal.records {
             if journal.in_force(number) {
-                let bytes = self.journal_bytes(number - 1, COUNT_AT, 6)?;
-                sum += u16_at(&bytes, 0) as u64 * u32_at(&bytes, 2) as u64;
+                let bytes = self.journal_bytes(number - 1, REPLACES_AT)?;
+                sum += u16_at(&bytes, COUNT_AT) as u64 * u32_at(&bytes, PRICE_AT) as u64;
             }
         }
         Ok(sum)
@@ -1490,7 +1571,7 @@ impl Scan {
         let mut state = State { table: table as u64, marks, invalid, ..State::blank(MOUNTED) };
         state.last = last as u64;
         state.number = number;
-        state.map = current_copies(geometry, &copies);
+        (state.map, state.kinds) = current_copies(geometry, &copies);
         Ok(state)
     }
 
@@ -1522,17 +1603,19 @@ fn clash(geometry: &Geometry, copies: &[(usize, Label)]) -> bool {
     twice || copies.iter().any(|(_, label)| beyond(label))
 }
 
-fn current_copies(geometry: &Geometry, copies: &[(usize, Label)]) -> Vec<u16> {
-    let mut map = vec![EMPTY; MOST_BLOCKS];
+// The map and its kinds.
+fn current_copies(geometry: &Geometry, copies: &[(usize, Label)]) -> (Vec<u16>, Vec<u8>) {
+    let (mut map, mut kinds) = (vec![EMPTY; MOST_BLOCKS], vec![0; MOST_BLOCKS]);
     let mut numbers = vec![None; geometry.logical];
     for (block, label) in copies.iter().filter(|(_, label)| label.is_data()) {
         let logical = label.logical as usize;
         if numbers[logical].map_or(true, |number| label.number > number) {
             numbers[logical] = Some(label.number);
             map[logical] = *block as u16;
+            kinds[logical] = label.kind;
         }
     }
-    map
+    (map, kinds)
 }
 
 // ---- requests ----
@@ -1623,13 +1706,13 @@ struct Handed {
 impl Handed {
     fn from_bytes(bytes: &[u8]) -> Handed {
         let (state, write) = (State::from_bytes(bytes), OpenWrite::from_bytes(bytes));
-        Handed { state, write, page: bytes[PAGE_AT..].to_vec() }
+        Handed { state, write, page: bytes[PAGE_AT..KINDS_AT].to_vec() }
     }
 
     fn to_bytes(&self) -> Vec<u8> {
         let mut bytes = self.state.to_bytes();
         self.write.put(&mut bytes);
-        bytes[PAGE_AT..].copy_from_slice(&self.page);
+        bytes[PAGE_AT..KINDS_AT].copy_from_slice(&self.page);
         bytes
     }
 
@@ -1680,9 +1763,9 @@ fn lent_rightly(request: &Request, side: &Side) -> bool {
         && (side.told.len() == 1 || !request.tells())
 }
 
-// One call of a store that writes this layout; the answer.
+// One call of a store of this version; the answer.
 pub fn call(
-    layout: Layout,
+    version: Version,
     geometry: &Geometry,
     request: &Request,
     side: &mut Side,
@@ -1715,7 +1798,7 @@ pub fn call(
         chip.interface[ILLEGAL_SEEN] = 0;
     }
     let bus = Bus { geometry: *geometry, chip, parameters, call, watch, sent: 0 };
-    let mut store = Store { layout, bus, state: handed.state.clone(), held: Vec::new(), failed: false };
+    let mut store = Store { version, bus, state: handed.state.clone(), held: Vec::new(), failed: false };
     let answer = match carry_out(&mut store, request, &mut handed, buffer, sizes, finished, told) {
         Ok(answer) => answer,
         Err(stop) => {
@@ -1762,7 +1845,7 @@ fn carry_out(
         Request::Format => store.format()?,
         Request::Mount => return mount(store, false),
         Request::QuickMount => return mount(store, true),
-        Request::Read { block, page } => *buffer = read(store, *block, *page)?,
+        Request::Read { block, page } => *buffer = store.read_logical(*block, *page, store.geometry().main)?,
         Request::Write { block, page } => {
             let copy = store.copy_of(*block, Some((*page, buffer)));
             store.replace(&copy)?
@@ -1815,13 +1898,5 @@ fn mount(store: &mut Store, quick: bool) -> Result<usize, Stop> {
             store.state = State::blank(0);
             Ok(answer)
         }
-    }
-}
-
-fn read(store: &mut Store, block: usize, page: usize) -> Result<Vec<u8>, Stop> {
-    let main = store.geometry().main;
-    match store.state.map[block] {
-        EMPTY => Ok(vec![0xFF; main]),
-        copy => store.bus.read(copy as usize, page, 0, main),
     }
 }

@@ -141,7 +141,7 @@ pub fn held(
     open_requests::refusal(
         before,
         write,
-        &state[c_open::PAGE..c_open::LENGTH],
+        &state[c_open::PAGE..c_open::KINDS],
         g,
         array,
         register,

@@ -1,10 +1,10 @@
 -- The words of an open write within the bytes of a state, written and read; a state handed from call to call. Assumes nothing.
 use Prim.Native.Nat.{ℕ, _+_, _-_, _≤_}
 use mathlib.Core.List.{List, _++_, append-assoc, append-nil}
-use mathlib.Core.Path.{_≡_, refl, ap, ap₂, _∙_}
+use mathlib.Core.Path.{_≡_, refl, sym, ap, ap₂, _∙_}
 use native.Mathlib.Omega.{arith}
-use lib.ListN.{length, take, drop, replicate, length-append, length-replicate, length-drop, drop-of-length-le}
-use lib.Seq.{drop-at, take-all, length-take-le}
+use lib.ListN.{length, take, drop, replicate, length-append, length-replicate, length-drop, drop-of-length-le, take-append-drop}
+use lib.Seq.{take-at, drop-at, length-take-le}
 use Rattle.cells.specs.Part.{put}
 use Rattle.pages.specs.Layout.{bytesOf}
 use Rattle.pages.proofs.ByteLaws.{put-next}
@@ -56,29 +56,41 @@ words-long w = refl
 pub first-long : (xs : List ℕ) → length xs ≡ openLength → length (take (9248 - 0) (drop 0 xs)) ≡ 9248
 first-long xs long = length-take-le 9248 xs (omega (arith, long))
 
--- a base state and the words of a write, written one after the other: the page stays
-pub stored-open : (st : State) (w : OpenWrite) (xs p q : List ℕ) → length xs ≡ openLength → length (stateBytes st) ≡ stateLength → p ≡ put 0 (stateBytes st) xs → q ≡ put 9248 (writeBytes w) p
-    → q ≡ openBytes (openState st w (bytesPage xs))
+-- a base state, the words of a write and the kinds, written one after the other: the page stays
+pub stored-open : (st : State) (w : OpenWrite) (xs p q r : List ℕ) → length xs ≡ openLength → length (stateBytes st) ≡ stateLength → length (st .kinds) ≡ 4096
+    → p ≡ put 0 (stateBytes st) xs → q ≡ put 9248 (writeBytes w) p → r ≡ put 13424 (st .kinds) q → r ≡ openBytes (openState st w (bytesPage xs))
 unfolding openBytes put
-stored-open st w xs p q long k e f =
-    let all : length (stateBytes st ++ writeBytes w) ≡ 9328 = length-append (stateBytes st) (writeBytes w) ∙ ap₂ _+_ k (words-long w) in
+stored-open st w xs p q r long k j e f h =
+    let head : List ℕ = stateBytes st ++ writeBytes w in
+    let page : List ℕ = bytesPage xs in
+    let rest : List ℕ = drop 4096 (drop 9328 xs) in
+    let all : length head ≡ 9328 = length-append (stateBytes st) (writeBytes w) ∙ ap₂ _+_ k (words-long w) in
+    let page-long : length page ≡ 4096 = length-take-le 4096 (drop 9328 xs) (omega (arith, length-drop 9328 xs, long)) in
+    let before : length (head ++ page) ≡ 13424 = length-append head page ∙ ap₂ _+_ all page-long in
+    let rest-long : length rest ≤ length (st .kinds) = omega (arith, length-drop 4096 (drop 9328 xs), length-drop 9328 xs, long, j) in
+    let there : q ≡ (head ++ page) ++ rest =
     f ∙ ap (put 9248 (writeBytes w)) e ∙ put-next 0 9248 (writeBytes w) (stateBytes st) xs k (omega arith)
-    ∙ ap (λ (n : ℕ). (stateBytes st ++ writeBytes w) ++ drop n xs) all
-    ∙ append-assoc (stateBytes st) (writeBytes w) (drop 9328 xs)
+    ∙ ap (λ (n : ℕ). head ++ drop n xs) all
+    ∙ ap (λ (ys : List ℕ). head ++ ys) (sym (take-append-drop 4096 (drop 9328 xs)))
+    ∙ sym (append-assoc head page rest) in
+    h ∙ ap (put 13424 (st .kinds)) there
+    ∙ ap₂ (λ (x y : List ℕ). x ++ (st .kinds ++ drop (length (st .kinds)) y)) (take-at (head ++ page) rest 13424 before) (drop-at (head ++ page) rest 13424 before)
+    ∙ ap (λ (y : List ℕ). (head ++ page) ++ (st .kinds ++ y)) (drop-of-length-le rest {i = length (st .kinds)} rest-long)
+    ∙ simp (append-assoc, append-nil)
 
 -- the page of bytes that are lent in part
 pub page-lent : (xs : List ℕ) → length xs ≡ openLength → take (13424 - 9328) (drop 9328 xs) ≡ bytesPage xs
-page-lent xs long = take-all (13424 - 9328) (drop 9328 xs) (omega (arith, length-drop 9328 xs, long))
+page-lent xs long = refl
 
 -- a page that was written in part of the bytes
 pub page-put : (xs ys : List ℕ) → length xs ≡ openLength → length ys ≡ length (take (13424 - 9328) (drop 9328 xs)) → bytesPage (take 9328 xs ++ (ys ++ drop (13424 - 9328) (drop 9328 xs))) ≡ ys
 page-put xs ys long e =
-    drop-at (take 9328 xs) (ys ++ drop (13424 - 9328) (drop 9328 xs)) 9328 (length-take-le 9328 xs (omega (arith, long)))
-    ∙ ap (λ (r : List ℕ). ys ++ r) (drop-of-length-le (drop 9328 xs) {i = 13424 - 9328} (omega (arith, length-drop 9328 xs, long)))
-    ∙ append-nil ys
+    let rest : List ℕ = drop (13424 - 9328) (drop 9328 xs) in
+    ap (take 4096) (drop-at (take 9328 xs) (ys ++ rest) 9328 (length-take-le 9328 xs (omega (arith, long))))
+    ∙ take-at ys rest 4096 (e ∙ length-take-le 4096 (drop 9328 xs) (omega (arith, length-drop 9328 xs, long)))
 
 -- a page that was cleared
 pub page-cleared : (xs zs ys : List ℕ) → length xs ≡ openLength → zs ≡ replicate (length (take (13424 - 9328) (drop 9328 xs))) 0 → ys ≡ take 9328 xs ++ (zs ++ drop (13424 - 9328) (drop 9328 xs)) → bytesPage ys ≡ replicate (length (bytesPage xs)) 0
 page-cleared xs zs ys long e f =
     let same : length zs ≡ length (take (13424 - 9328) (drop 9328 xs)) = ap length e ∙ length-replicate _ 0 in
-    ap (drop 9328) f ∙ page-put xs zs long same ∙ e ∙ ap (λ (r : List ℕ). replicate (length r) 0) (page-lent xs long)
+    ap bytesPage f ∙ page-put xs zs long same ∙ e ∙ ap (λ (r : List ℕ). replicate (length r) 0) (page-lent xs long)

@@ -2,10 +2,10 @@
 use Prim.Native.Nat.{ℕ, _<_, _^_}
 use mathlib.Core.Bool.{Bool, true, false}
 use mathlib.Core.List.{List, _++_, append-assoc}
-use mathlib.Core.Path.{_≡_, ap, _∙_}
+use mathlib.Core.Path.{_≡_, ap, ap₂, _∙_}
 use native.Mathlib.Omega.{arith}
-use lib.ListN.{length, drop, replicate}
-use lib.Seq.{take-at, drop-at}
+use lib.ListN.{length, take, drop, replicate, length-replicate}
+use lib.Seq.{take-at, drop-at, take-all}
 use Rattle.cells.specs.Part.{part}
 use Rattle.pages.specs.Layout.{bytesOf, numberOf}
 use Rattle.pages.proofs.LayoutLaws.{numberOf-bytesOf, length-bytesOf}
@@ -16,14 +16,15 @@ use Rattle.open_write.specs.declared.OpenWrite.{OpenWrite}
 use Rattle.open_write.specs.Open.{OpenState, openState, noWrite}
 use Rattle.c_open.specs.OpenBytes.{writeBytes, openBytes, bytesWrite, bytesOpen, leftOpen, WordsRanged}
 
-pub load-open : (x : OpenState) → Ranged (x .state) → WordsRanged (x .write) → bytesOpen (openBytes x) ≡ x
+pub load-open : (x : OpenState) → Ranged (x .state) → WordsRanged (x .write) → length (x .page) ≡ 4096 → bytesOpen (openBytes x) ≡ x
 unfolding openBytes writeBytes bytesWrite
-load-open x r f =
+load-open x r f page-long =
     let w = x .write in
     let xs : List ℕ = openBytes x in
     let base : List ℕ = stateBytes (x .state) in
     let long = stored-long (x .state) r in
-    let t10 : List ℕ = x .page in
+    let kinds : List ℕ = x .state .kinds in
+    let t10 : List ℕ = x .page ++ kinds in
     let t9 : List ℕ = bytesOf 8 (w .failed) ++ t10 in
     let t8 : List ℕ = bytesOf 8 (w .page) ++ t9 in
     let t7 : List ℕ = bytesOf 8 (w .number) ++ t8 in
@@ -34,8 +35,8 @@ load-open x r f =
     let t2 : List ℕ = bytesOf 8 (w .step) ++ t3 in
     let t1 : List ℕ = bytesOf 8 (w .phase) ++ t2 in
     let t0 : List ℕ = bytesOf 8 (w .opened) ++ t1 in
-    let words : writeBytes w ++ x .page ≡ t0 = simp append-assoc in
-    let rest : drop 9248 xs ≡ t0 = drop-at base (writeBytes w ++ x .page) 9248 long ∙ words in
+    let words : writeBytes w ++ t10 ≡ t0 = simp append-assoc in
+    let rest : drop 9248 xs ≡ t0 = drop-at base (writeBytes w ++ t10) 9248 long ∙ words in
     let number : (n : ℕ) (k : ℕ) → n < 2 ^ 64 → part k 8 xs ≡ bytesOf 8 n → numberOf (part k 8 xs) ≡ n = λ n k h e. ap numberOf e ∙ numberOf-bytesOf 8 n h in
     let p1 = piece 9248 8 (bytesOf 8 (w .opened)) t1 xs (length-bytesOf 8 (w .opened)) rest in
     let p2 = piece 9256 8 (bytesOf 8 (w .phase)) t2 xs (length-bytesOf 8 (w .phase)) (p1 .1) in
@@ -47,7 +48,9 @@ load-open x r f =
     let p8 = piece 9304 8 (bytesOf 8 (w .number)) t8 xs (length-bytesOf 8 (w .number)) (p7 .1) in
     let p9 = piece 9312 8 (bytesOf 8 (w .page)) t9 xs (length-bytesOf 8 (w .page)) (p8 .1) in
     let p10 = piece 9320 8 (bytesOf 8 (w .failed)) t10 xs (length-bytesOf 8 (w .failed)) (p9 .1) in
-    let state = ap bytesState (take-at base (writeBytes w ++ x .page) stateLength long) ∙ load-stored (x .state) r in
+    let p11 = piece 9328 4096 (x .page) kinds xs page-long (p10 .1) in
+    let last : part 13424 4096 xs ≡ kinds = ap (take 4096) (p11 .1) ∙ take-all 4096 kinds (omega (arith, r .kinds-long)) in
+    let state = ap₂ bytesState (take-at base (writeBytes w ++ t10) stateLength long) last ∙ load-stored (x .state) r in
     λ i. openState (state i) (record {
       opened = number (w .opened) 9248 (f .opened-fits) (p1 .0) i;
       phase = number (w .phase) 9256 (f .phase-fits) (p2 .0) i;
@@ -59,13 +62,13 @@ load-open x r f =
       number = number (w .number) 9304 (f .number-fits) (p8 .0) i;
       page = number (w .page) 9312 (f .page-fits) (p9 .0) i;
       failed = number (w .failed) 9320 (f .failed-fits) (p10 .0) i;
-    }) (p10 .1 i)
+    }) (p11 .0 i)
 
 -- one that stays, or that is given up
 none-ranged : WordsRanged noWrite
 none-ranged =
     record { opened-fits = omega arith; phase-fits = omega arith; step-fits = omega arith; logical-fits = omega arith; first-fits = omega arith; old-fits = omega arith; block-fits = omega arith; number-fits = omega arith; page-fits = omega arith; failed-fits = omega arith }
 
-pub load-left : (gone : Bool) (st : State) (w : OpenWrite) (page : List ℕ) → Ranged st → WordsRanged w → bytesOpen (openBytes (leftOpen gone st w page)) ≡ leftOpen gone st w page
-load-left true st w page r f = load-open (openState st noWrite (replicate (length page) 0)) r none-ranged
-load-left false st w page r f = load-open (openState st w page) r f
+pub load-left : (gone : Bool) (st : State) (w : OpenWrite) (page : List ℕ) → Ranged st → WordsRanged w → length page ≡ 4096 → bytesOpen (openBytes (leftOpen gone st w page)) ≡ leftOpen gone st w page
+load-left true st w page r f long = load-open (openState st noWrite (replicate (length page) 0)) r none-ranged (length-replicate (length page) 0 ∙ long)
+load-left false st w page r f long = load-open (openState st w page) r f long

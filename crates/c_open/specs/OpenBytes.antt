@@ -2,7 +2,7 @@
 use Prim.Native.Nat.{ℕ, _<_, _^_}
 use mathlib.Core.Bool.{Bool, cond}
 use mathlib.Core.List.{List, _++_}
-use lib.ListN.{length, take, drop, replicate}
+use lib.ListN.{length, take, replicate}
 use Rattle.cells.specs.Part.{part}
 use Rattle.pages.specs.Layout.{bytesOf, numberOf}
 use Rattle.c_state.specs.StateBytes.{stateLength, stateBytes, bytesState}
@@ -10,9 +10,9 @@ use Rattle.state.specs.declared.State.{State}
 use Rattle.open_write.specs.declared.OpenWrite.{OpenWrite}
 use Rattle.open_write.specs.Open.{OpenState, openState, noWrite}
 
--- 13,424 bytes: the base state, ten words of eight bytes, and the page kept
+-- 17,520 bytes: the base state without its kinds, ten words of eight bytes, the page kept, and the kinds
 abbrev pub openLength : ℕ
-openLength = 13424
+openLength = 17520
 
 unfoldable pub writeBytes : OpenWrite → List ℕ
 writeBytes w =
@@ -28,7 +28,7 @@ writeBytes w =
     ++ bytesOf 8 (w .failed)))))))))
 
 unfoldable pub openBytes : OpenState → List ℕ
-openBytes x = stateBytes (x .state) ++ (writeBytes (x .write) ++ x .page)
+openBytes x = stateBytes (x .state) ++ (writeBytes (x .write) ++ (x .page ++ x .state .kinds))
 
 -- the words, from where the base state ends
 unfoldable pub bytesWrite : List ℕ → OpenWrite
@@ -47,10 +47,14 @@ bytesWrite xs =
     }
 
 abbrev pub bytesPage : List ℕ → List ℕ
-bytesPage xs = drop 9328 xs
+bytesPage xs = part 9328 4096 xs
+
+-- the base state, whose kinds stand last
+abbrev pub bytesBase : List ℕ → State
+bytesBase xs = bytesState (take stateLength xs) (part 13424 4096 xs)
 
 abbrev pub bytesOpen : List ℕ → OpenState
-bytesOpen xs = openState (bytesState (take stateLength xs)) (bytesWrite xs) (bytesPage xs)
+bytesOpen xs = openState (bytesBase xs) (bytesWrite xs) (bytesPage xs)
 
 -- a base state beside a write that stays, or that is given up
 abbrev pub leftOpen : Bool → State → OpenWrite → List ℕ → OpenState

@@ -168,9 +168,9 @@ stored s xs p₁ p₂ p₃ p₄ p₅ p₆ long k₅ k₆ k₇ e₁ e₂ e₃ e�
     q₇ .1 ∙ put-whole _ xs (omega (arith, long, q₇ .0)) ∙ simp append-assoc
 
 -- the pieces of a state, read
-pub loaded : (xs : List ℕ) {status table last number : ℕ} {marked invalid map : List ℕ}
+pub loaded : (xs : List ℕ) {status table last number : ℕ} {marked invalid map kinds kept : List ℕ}
     → status ≡ numberOf (part 0 8 xs) → table ≡ numberOf (part 8 8 xs) → last ≡ numberOf (part 16 8 xs) → number ≡ numberOf (part 24 8 xs)
-    → marked ≡ part 32 512 xs → invalid ≡ part 544 512 xs → map ≡ entries 4096 (drop 1056 xs)
-    → _≡_ {A = State} (record { status = status; table = table; last = last; number = number; marked = marked; invalid = invalid; map = map }) (bytesState xs)
+    → marked ≡ part 32 512 xs → invalid ≡ part 544 512 xs → map ≡ entries 4096 (drop 1056 xs) → kinds ≡ kept
+    → _≡_ {A = State} (record { status = status; table = table; last = last; number = number; marked = marked; invalid = invalid; map = map; kinds = kinds }) (bytesState xs kept)
 unfolding bytesState
-loaded xs e₁ e₂ e₃ e₄ e₅ e₆ e₇ = rw (e₁, e₂, e₃, e₄, e₅, e₆, e₇)
+loaded xs e₁ e₂ e₃ e₄ e₅ e₆ e₇ e₈ = rw (e₁, e₂, e₃, e₄, e₅, e₆, e₇, e₈)

@@ -1,4 +1,4 @@
--- Every state in the range of its types is a buffer of 9,248 bytes, and every such buffer a state. Assumes nothing.
+-- Every state in the range of its types is a buffer of 9,248 bytes and its kinds, and every such buffer with kinds a state. Assumes nothing.
 use Prim.Native.Nat.{ℕ, zero, suc, _+_, _*_, _/_, _%_, _≤_, _<_, _^_}
 use mathlib.Core.List.{List, [], _∷_, _++_}
 use mathlib.Core.Path.{_≡_, refl, sym, ap, ap₂, subst, _∙_}
@@ -34,7 +34,7 @@ entries-pairs (x ∷ xs) h =
     (ap (entries (length xs)) (drop-at b (pairs xs) 2 (length-bytesOf 2 x)) ∙ entries-pairs xs (λ i. h (suc i)))
 
 -- a state that was stored is loaded as it was
-pub load-stored : (s : State) → Ranged s → bytesState (stateBytes s) ≡ s
+pub load-stored : (s : State) → Ranged s → bytesState (stateBytes s) (s .kinds) ≡ s
 unfolding stateBytes
 load-stored s r =
     let xs : List ℕ = stateBytes s in
@@ -58,7 +58,7 @@ load-stored s r =
     (number (s .table) 8 (r .table-fits) (p₂ .0))
     (number (s .last) 16 (r .last-fits) (p₃ .0))
     (number (s .number) 24 (r .number-fits) (p₄ .0))
-    (sym (p₅ .0)) (sym (p₆ .0)) map)
+    (sym (p₅ .0)) (sym (p₆ .0)) map refl)
 
 -- the number of some bytes is stored as these bytes
 pub bytesOf-numberOf : (xs : List ℕ) → Bytes xs → bytesOf (length xs) (numberOf xs) ≡ xs
@@ -87,9 +87,9 @@ stored-piece : (k n : ℕ) (ys zs xs : List ℕ) → ys ≡ part k n xs → zs �
 stored-piece k n ys zs xs e f = ap₂ _++_ e (f ∙ sym (drop-drop n k xs)) ∙ take-append-drop n (drop k xs)
 
 -- a buffer that was loaded is stored as it was
-pub store-loaded : (xs : List ℕ) → length xs ≡ stateLength → Bytes xs → stateBytes (bytesState xs) ≡ xs
+pub store-loaded : (xs kinds : List ℕ) → length xs ≡ stateLength → Bytes xs → stateBytes (bytesState xs kinds) ≡ xs
 unfolding stateBytes bytesState
-store-loaded xs long b =
+store-loaded xs kinds long b =
     let number : (k : ℕ) → k + 8 ≤ length xs → bytesOf 8 (numberOf (part k 8 xs)) ≡ part k 8 xs = λ k h. part-stored k 8 xs b h in
     let q₇ : pairs (entries 4096 (drop 1056 xs)) ≡ drop 1056 xs =
     pairs-entries 4096 (drop 1056 xs) (length-drop 1056 xs ∙ omega (arith, long)) (bytes-drop 1056 xs b) in
@@ -140,9 +140,9 @@ entries-fit (suc n) xs h b zero = part-fits 0 2 xs b (omega (arith, h))
 entries-fit (suc n) xs h b (suc i) = entries-fit n (drop 2 xs) (length-drop 2 xs ∙ omega (arith, h)) (bytes-drop 2 xs b) i
 
 -- what is loaded is in the range of its types
-pub loaded-ranged : (xs : List ℕ) → length xs ≡ stateLength → Bytes xs → Ranged (bytesState xs)
+pub loaded-ranged : (xs kinds : List ℕ) → length xs ≡ stateLength → Bytes xs → length kinds ≡ 4096 → Bytes kinds → Ranged (bytesState xs kinds)
 unfolding bytesState
-loaded-ranged xs long b =
+loaded-ranged xs kinds long b kinds-long kinds-bytes =
     record {
       status-fits = part-fits 0 8 xs b (omega (arith, long));
       table-fits = part-fits 8 8 xs b (omega (arith, long));
@@ -154,4 +154,6 @@ loaded-ranged xs long b =
       invalid-bytes = bytes-part 544 512 xs b;
       map-long = length-entries 4096 (drop 1056 xs);
       map-fits = entries-fit 4096 (drop 1056 xs) (length-drop 1056 xs ∙ omega (arith, long)) (bytes-drop 1056 xs b);
+      kinds-long = kinds-long;
+      kinds-bytes = kinds-bytes;
     }

@@ -1,4 +1,4 @@
--- The mounted state as bytes, and the state that such bytes are.
+-- The mounted state as bytes, and the state that such bytes are. The kinds of its copies, a byte each, stand apart from the others.
 use Prim.Native.Nat.{ℕ, zero, suc, _<_, _^_}
 use mathlib.Core.List.{List, [], _∷_, _++_}
 use mathlib.Core.Path.{_≡_}
@@ -8,7 +8,7 @@ use Rattle.cells.specs.Part.{part}
 use Rattle.pages.specs.Layout.{bytesOf, numberOf}
 use Rattle.state.specs.declared.State.{State}
 
--- a state has 9,248 bytes: four numbers of eight bytes, two bitmaps, and a map of two bytes an entry
+-- a state without its kinds has 9,248 bytes: four numbers of eight bytes, two bitmaps, and a map of two bytes an entry
 abbrev pub stateLength : ℕ
 stateLength = 9248
 
@@ -22,6 +22,7 @@ unfoldable pub entries : ℕ → List ℕ → List ℕ
 entries zero xs = []
 entries (suc n) xs = numberOf (take 2 xs) ∷ entries n (drop 2 xs)
 
+-- all but the kinds
 unfoldable pub stateBytes : State → List ℕ
 stateBytes s =
     bytesOf 8 (s .status)
@@ -32,8 +33,9 @@ stateBytes s =
     ++ (s .invalid
     ++ pairs (s .map))))))
 
-unfoldable pub bytesState : List ℕ → State
-bytesState xs =
+-- the state of these bytes and kinds
+unfoldable pub bytesState : List ℕ → List ℕ → State
+bytesState xs kinds =
     record {
       status = numberOf (part 0 8 xs);
       table = numberOf (part 8 8 xs);
@@ -42,6 +44,7 @@ bytesState xs =
       marked = part 32 512 xs;
       invalid = part 544 512 xs;
       map = entries 4096 (drop 1056 xs);
+      kinds = kinds;
     }
 
 -- each field is in the range of its type
@@ -56,3 +59,5 @@ pub record Ranged (s : State) : Type 0 where
   pub invalid-bytes : Bytes (s .invalid)
   pub map-long : length (s .map) ≡ 4096
   pub map-fits : (i : ℕ) → getD (s .map) i 0 < 65536
+  pub kinds-long : length (s .kinds) ≡ 4096
+  pub kinds-bytes : Bytes (s .kinds)

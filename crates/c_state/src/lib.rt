@@ -6,7 +6,7 @@ ghost use lib.ListN.{length, drop};
 ghost use Rattle.cells.specs.Part.{part, put};
 ghost use Rattle.c_state.specs.StateBytes.{stateLength, pairs, entries, stateBytes, bytesState};
 
-// The bytes of a state.
+// The bytes of a state without its kinds.
 pub const LENGTH: usize = 9248;
 
 fn wide(x: u16) -> usize
@@ -73,7 +73,7 @@ fn read_map(bytes: &[u8], map: &mut [u16])
     }
 }
 
-// Writes a state into a buffer.
+// Writes a state, all but its kinds, into a buffer.
 pub fn store(state: State, bytes: &mut [u8])
     requires { ⌜ length (now bytes) ≡ stateLength ⌝ }
     ensures { λ _. ⌜ now (bytes .exit) ≡ stateBytes state ⌝ }
@@ -90,10 +90,21 @@ pub fn store(state: State, bytes: &mut [u8])
     write_map(bytes, &map);
 }
 
-// The state in a buffer.
-pub fn load(bytes: &[u8]) -> State
+// Kinds, one a logical block.
+fn kinds_of(bytes: &[u8]) -> [u8; 4096]
+    requires { ⌜ length (now bytes) ≡ 4096 ⌝ }
+    ensures { λ r. ⌜ r ≡ now (bytes .entry) ⌝ }
+{
+    let mut kinds = [0u8; 4096];
+    cells::copy(bytes, &mut kinds);
+    kinds
+}
+
+// The state in a buffer, and its kinds in another.
+pub fn load(bytes: &[u8], kind_bytes: &[u8]) -> State
     requires { ⌜ length (now bytes) ≡ stateLength ⌝ }
-    ensures { λ r. ⌜ r ≡ bytesState (now (bytes .entry)) ⌝ }
+    requires { ⌜ length (now «kind_bytes») ≡ 4096 ⌝ }
+    ensures { λ r. ⌜ r ≡ bytesState (now (bytes .entry)) (now («kind_bytes» .entry)) ⌝ }
 {
     let status = pages::number_at(bytes, 0);
     let table = pages::number_at(bytes, 8);
@@ -103,6 +114,7 @@ pub fn load(bytes: &[u8]) -> State
     let invalid = bits_at(bytes, 544);
     let mut map = [0u16; 4096];
     read_map(bytes, &mut map);
+    let kinds = kinds_of(kind_bytes);
     State {
         status,
         table,
@@ -111,5 +123,6 @@ pub fn load(bytes: &[u8]) -> State
         marked,
         invalid,
         map,
+        kinds,
     }
 }

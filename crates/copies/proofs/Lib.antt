@@ -1,3 +1,4 @@
+pub mod FormLaws
 pub mod CopyTests
 pub mod PickLaws
 pub mod PlaceLaws

@@ -8,7 +8,8 @@ use lib.ListN.{getD, take}
 use Rattle.geometry.specs.declared.Geometry.{Geometry}
 use Rattle.geometry.specs.Sizes.{pageSize, blockSize}
 use Rattle.cells.specs.Part.{part}
-use Rattle.pages.specs.Layout.{Label, whole, labelOf, isDataKind, isTableKind}
+use Rattle.whitening.specs.Whitened.{whitened}
+use Rattle.pages.specs.Layout.{Label, whole, labelOf, isDataKind, isTableKind, isWhiteKind}
 
 -- the bytes of a block, and of a page in it
 abbrev pub blockIn : Geometry → List ℕ → ℕ → List ℕ
@@ -84,9 +85,17 @@ hasNumber g block = cond (isMarked g block) false (anyTo g block (g .pages))
 unfoldable pub greatest : Geometry → List ℕ → ℕ
 greatest g block = cond (isMarked g block) 0 (greatestTo g block (g .pages))
 
--- the main bytes of a page
+-- the main bytes of a page, as they are stored
 abbrev pub mainIn : Geometry → List ℕ → ℕ → List ℕ
 mainIn g block p = take (g .main) (pageIn g block p)
+
+-- the main bytes of page p as a kind stores them; the same once more gives them back
+unfoldable pub formed : ℕ → ℕ → List ℕ → List ℕ
+formed kind p main = cond (isWhiteKind kind) (whitened p main) main
+
+-- the main bytes of a page of a copy, as its writer gave them
+abbrev pub plainIn : Geometry → List ℕ → ℕ → List ℕ
+plainIn g block p = formed (labelIn g block 0 .kind) p (mainIn g block p)
 
 -- two blocks with the same pages
 abbrev pub SamePages : Geometry → List ℕ → List ℕ → Type 0

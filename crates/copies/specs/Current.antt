@@ -5,7 +5,7 @@ use mathlib.Core.List.{List}
 use lib.Dec.{eqb, leb}
 use lib.ListN.{replicate}
 use Rattle.geometry.specs.declared.Geometry.{Geometry}
-use Rattle.copies.specs.Blocks.{blockIn, isMarked, isComplete, isTable, isData, isCopyOf, numberIn, labelIn, hasNumber, greatest, mainIn}
+use Rattle.copies.specs.Blocks.{blockIn, isMarked, isComplete, isTable, isData, isCopyOf, numberIn, labelIn, hasNumber, greatest, plainIn}
 use Rattle.copies.specs.Pick.{Pick, nothing, at, pick, someBelow}
 use Rattle.copies.specs.Table.{lists, rightTable}
 
@@ -28,7 +28,12 @@ currentCopy g array table logical =
 -- the main bytes of a page of the picked block, FFh if there is none
 unfoldable pub pageOf : Geometry → List ℕ → ℕ → Pick → List ℕ
 pageOf g array p nothing = replicate (g .main) 255
-pageOf g array p (at b) = mainIn g (blockIn g array b) p
+pageOf g array p (at b) = plainIn g (blockIn g array b) p
+
+-- the kind of the picked block's copy, 0 if there is none
+unfoldable pub kindAt : Geometry → List ℕ → Pick → ℕ
+kindAt g array nothing = 0
+kindAt g array (at b) = labelIn g (blockIn g array b) 0 .kind
 
 -- the reading of a logical page
 abbrev pub reading : Geometry → List ℕ → ℕ → ℕ → ℕ → List ℕ

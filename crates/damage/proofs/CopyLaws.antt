@@ -17,7 +17,8 @@ use Rattle.pages.specs.Layout.{Label, label, labelOf, whole, numberWidth, Fits}
 use Rattle.pages.specs.Over.{Over}
 use Rattle.pages.proofs.LayoutLaws.{width-most, encoded-whole, encoded-label, encoded-first, encoded-main, bytes-encoded, raised-whole-any, erased-not-whole}
 use Rattle.pages.proofs.OverLaws.{over-getD, over-bytes-to}
-use Rattle.copies.specs.Blocks.{pageIn, wholeIn, labelIn, mainIn, markByte, isMarked, agrees, completeTo, isComplete, anyTo, greatestTo}
+use Rattle.copies.specs.Blocks.{pageIn, wholeIn, labelIn, mainIn, formed, plainIn, markByte, isMarked, agrees, completeTo, isComplete, anyTo, greatestTo}
+use Rattle.copies.proofs.FormLaws.{formed-twice, length-formed, bytes-formed}
 use Rattle.copies.proofs.NumberLaws.{greatest-most, greatest-least, any-is}
 use Rattle.fill.specs.Fill.{Copy, copyPage}
 use Rattle.fill.proofs.PageLaws.{page-long}
@@ -47,6 +48,13 @@ module _ (g : Geometry) (v : Valid g) (c : Copy) (fits : Labelled c) (main : ℕ
   abbrev pub pages : ℕ → List ℕ
   pages i = copyPage g c i (main i)
 
+  -- their main bytes as they are stored
+  abbrev stored : ℕ → List ℕ
+  stored i = formed (c .kind) i (main i)
+
+  stored-long : (i : ℕ) → i < g .pages → length (stored i) ≡ g .main
+  stored-long i h = length-formed (c .kind) i (main i) ∙ long i h
+
   abbrev labelAt : ℕ → Label
   labelAt i = label (c .kind) (c .logical) i (c .number)
 
@@ -64,23 +72,23 @@ module _ (g : Geometry) (v : Valid g) (c : Copy) (fits : Labelled c) (main : ℕ
   copy-long i h = page-long g v (c .kind) (c .logical) (c .number) i (main i) (long i h)
 
   pub copy-bytes : (i : ℕ) → i < g .pages → Bytes (pages i)
-  copy-bytes i h = bytes-encoded (g .spare) (labelAt i) (main i) (label-fits i h) (bytes i h)
+  copy-bytes i h = bytes-encoded (g .spare) (labelAt i) (stored i) (label-fits i h) (bytes-formed (c .kind) i (main i) (bytes i h))
 
-  check-fits : (i : ℕ) → i < g .pages → 8 * (length (main i) + 5 + numberWidth (c .kind)) < 65536
-  check-fits i h = omega (arith, width-most (c .kind), long i h, v .main-most)
+  check-fits : (i : ℕ) → i < g .pages → 8 * (length (stored i) + 5 + numberWidth (c .kind)) < 65536
+  check-fits i h = omega (arith, width-most (c .kind), stored-long i h, v .main-most)
 
   -- a law of an encoded page, said of the geometry's main bytes
-  by-main : (P : ℕ → Type 0) (i : ℕ) → i < g .pages → P (length (main i)) → P (g .main)
-  by-main P i h = subst P (long i h)
+  by-main : (P : ℕ → Type 0) (i : ℕ) → i < g .pages → P (length (stored i)) → P (g .main)
+  by-main P i h = subst P (stored-long i h)
 
   pub page-whole : (i : ℕ) → i < g .pages → whole (g .main) (pages i) ≡ true
   page-whole i h =
-      by-main (λ (k : ℕ). whole k (pages i) ≡ true) i h (encoded-whole (g .spare) (labelAt i) (main i) (label-fits i h) (check-fits i h))
+      by-main (λ (k : ℕ). whole k (pages i) ≡ true) i h (encoded-whole (g .spare) (labelAt i) (stored i) (label-fits i h) (check-fits i h))
 
   -- spare byte 0
   first-byte : (i : ℕ) → i < g .pages → getD (pages i) (g .main) 0 ≡ 255
   first-byte i h =
-      by-main (λ (k : ℕ). getD (pages i) k 0 ≡ 255) i h (sym (getD-drop (length (main i)) (pages i) 0 0 ∙ ap (λ (k : ℕ). getD (pages i) k 0) (add-zero (length (main i)))) ∙ encoded-first (g .spare) (labelAt i) (main i))
+      by-main (λ (k : ℕ). getD (pages i) k 0 ≡ 255) i h (sym (getD-drop (length (stored i)) (pages i) 0 0 ∙ ap (λ (k : ℕ). getD (pages i) k 0) (add-zero (length (stored i)))) ∙ encoded-first (g .spare) (labelAt i) (stored i))
 
   -- a block that holds the copy
   module _ (row : List ℕ) (same : (i : ℕ) → i < g .pages → pageIn g row i ≡ pages i) where
@@ -89,10 +97,16 @@ module _ (g : Geometry) (v : Valid g) (c : Copy) (fits : Labelled c) (main : ℕ
 
     pub copy-label : (i : ℕ) → i < g .pages → labelIn g row i ≡ labelAt i
     copy-label i h =
-        ap (labelOf (g .main)) (same i h) ∙ by-main (λ (k : ℕ). labelOf k (pages i) ≡ labelAt i) i h (encoded-label (g .spare) (labelAt i) (main i) (label-fits i h))
+        ap (labelOf (g .main)) (same i h) ∙ by-main (λ (k : ℕ). labelOf k (pages i) ≡ labelAt i) i h (encoded-label (g .spare) (labelAt i) (stored i) (label-fits i h))
 
-    pub copy-main : (i : ℕ) → i < g .pages → mainIn g row i ≡ main i
-    copy-main i h = ap (take (g .main)) (same i h) ∙ by-main (λ (k : ℕ). take k (pages i) ≡ main i) i h (encoded-main (g .spare) (labelAt i) (main i))
+    pub copy-stored : (i : ℕ) → i < g .pages → mainIn g row i ≡ stored i
+    copy-stored i h = ap (take (g .main)) (same i h) ∙ by-main (λ (k : ℕ). take k (pages i) ≡ stored i) i h (encoded-main (g .spare) (labelAt i) (stored i))
+
+    -- what was given comes back
+    pub copy-main : (i : ℕ) → i < g .pages → plainIn g row i ≡ main i
+    copy-main i h =
+        ap₂ (λ (k : ℕ) (xs : List ℕ). formed k i xs) (ap (λ (l : Label). l .kind) (copy-label 0 (omega (arith, v .pages-least)))) (copy-stored i h)
+        ∙ formed-twice (c .kind) i (main i)
 
     copy-byte : (i : ℕ) → i < g .pages → markByte g row i ≡ 255
     copy-byte i h =
@@ -132,13 +146,13 @@ module _ (g : Geometry) (v : Valid g) (c : Copy) (fits : Labelled c) (main : ℕ
     -- a page that is whole is the page that was meant
     pub raised-same : (i : ℕ) → i < g .pages → wholeIn g row i ≡ true → pageIn g row i ≡ pages i
     raised-same i h t =
-        raised-whole-any (g .spare) (labelAt i) (main i) (pageIn g row i) (label-fits i h) (v .spare-least) (omega (arith, long i h, v .main-most, v .spare-most)) (over i h)
-        (ap (λ (k : ℕ). whole k (pageIn g row i)) (long i h) ∙ t)
+        raised-whole-any (g .spare) (labelAt i) (stored i) (pageIn g row i) (label-fits i h) (v .spare-least) (omega (arith, stored-long i h, v .main-most, v .spare-most)) (over i h)
+        (ap (λ (k : ℕ). whole k (pageIn g row i)) (stored-long i h) ∙ t)
 
     raised-number : (i : ℕ) → i < g .pages → wholeIn g row i ≡ true → labelIn g row i .number ≡ c .number
     raised-number i h t =
         ap (λ (x : List ℕ). labelOf (g .main) x .number) (raised-same i h t)
-        ∙ by-main (λ (k : ℕ). labelOf k (pages i) .number ≡ c .number) i h (ap (λ (x : Label). x .number) (encoded-label (g .spare) (labelAt i) (main i) (label-fits i h)))
+        ∙ by-main (λ (k : ℕ). labelOf k (pages i) .number ≡ c .number) i h (ap (λ (x : Label). x .number) (encoded-label (g .spare) (labelAt i) (stored i) (label-fits i h)))
 
     pub raised-greatest : greatestTo g row (g .pages) < c .number + 1
     raised-greatest = greatest-most g row (c .number + 1) (g .pages) (omega arith) (λ i h t. omega (arith, raised-number i h t))

@@ -23,7 +23,7 @@ use Rattle.bus_polling.specs.Outcomes.{isPassed, isFailed}
 use Rattle.operations.specs.Ends.{Called}
 use Rattle.pages.specs.Over.{Over, none, more}
 use Rattle.pages.proofs.OverLaws.{over-refl, programmed-over}
-use Rattle.copies.specs.Blocks.{blockIn, pageIn, mainIn}
+use Rattle.copies.specs.Blocks.{blockIn, pageIn, mainIn, formed}
 use Rattle.progress.specs.Progress.{Progress, lineOf, readOn}
 use Rattle.fill.specs.Fill.{Copy, Source, copyPage, mainOf, mainRead, pageFilled, pagesFilled, filled, given, kept}
 use Rattle.progress.specs.Steps.{eraseOn, programOn}
@@ -50,7 +50,7 @@ over-erased (d ∷ ds) b = more (and-mask d 8 ∙ mod-eq-of-lt (b 0)) (b 0) (ome
 pub source-most : (g : Geometry) (from : Source) → sourceMost g from ≤ pageMost g
 unfolding sourceMost
 source-most g (given main) = omega arith
-source-most g (kept old) = omega arith
+source-most g (kept old form) = omega arith
 
 module _ (s : Setting) (p : Progress) (block : ℕ) (below : block < s .geometry .blocks) (c : Copy) (source : ℕ → Source) (pages : ℕ → List ℕ)
     (meant : Meant s (p .line .chip .array) block c source pages) (mask-bytes : Bytes (s .mask)) (high : lineOf p ≡ 0) where
@@ -213,8 +213,8 @@ module _ (s : Setting) (p : Progress) (block : ℕ) (below : block < s .geometry
     unfolding pageFilled mainOf mainRead sourceMost
     provided-next from page (from-caller main) e =
         subst (λ (x : List ℕ). Filled s p (programOn s block n x q) block pages (suc n) (k + programMost (s .geometry))) (sym e) (program-next q n page-below k r t)
-    provided-next from page (from-copy old old-below x) e =
-        kept-next old old-below _ (ap (λ (row : List ℕ). copyPage (s .geometry) c n (mainIn (s .geometry) row n)) (r .others old old-below x) ∙ e)
+    provided-next from page (from-copy old form old-below x) e =
+        kept-next old old-below _ (ap (λ (row : List ℕ). copyPage (s .geometry) c n (formed form n (mainIn (s .geometry) row n))) (r .others old old-below x) ∙ e)
 
     pub page-next : Filled s p (pageFilled s block c n (source n) q) block pages (suc n) (k + sourceMost (s .geometry) (source n))
     page-next = provided-next (source n) (pages n) (meant .provides n page-below) refl

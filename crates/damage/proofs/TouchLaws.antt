@@ -27,7 +27,7 @@ use Rattle.operations.proofs.ReadLaws.{read-starts}
 use Rattle.operations.proofs.ProgramLaws.{program-starts}
 use Rattle.operations.proofs.EraseLaws.{erase-starts}
 use Rattle.pages.specs.Over.{Over}
-use Rattle.copies.specs.Blocks.{blockIn, pageIn, mainIn}
+use Rattle.copies.specs.Blocks.{blockIn, pageIn, mainIn, formed}
 use Rattle.progress.specs.Progress.{Progress, lineOf, readOn}
 use Rattle.progress.specs.Steps.{eraseOn, programOn}
 use Rattle.progress.proofs.StepLaws.{program-stopped}
@@ -225,8 +225,8 @@ module _ (s : Setting) (p : Progress) (block : ℕ) (below : block < s .geometry
     unfolding pageFilled mainOf mainRead
     provided-touches from page (from-caller main) e =
         subst (λ (z : List ℕ). Underway s p (programOn s block n z q) block pages) (sym e) (program-touches q n page-below k r t x)
-    provided-touches from page (from-copy old old-below other) e =
-        kept-touches old old-below _ (ap (λ (row : List ℕ). copyPage (s .geometry) c n (mainIn (s .geometry) row n)) (r .others old old-below other) ∙ e)
+    provided-touches from page (from-copy old form old-below other) e =
+        kept-touches old old-below _ (ap (λ (row : List ℕ). copyPage (s .geometry) c n (formed form n (mainIn (s .geometry) row n))) (r .others old old-below other) ∙ e)
 
   -- the first n pages
   pages-touch : (q : Progress) → Filled s p q block pages 0 eraseMost → Underway s p q block pages → (n : ℕ) → n ≤ s .geometry .pages → Underway s p (pagesFilled s block c source n q) block pages

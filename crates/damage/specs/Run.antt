@@ -17,7 +17,7 @@ use Rattle.operations.specs.Ends.{Called}
 use Rattle.operations.specs.Trace.{ArrayOperation}
 use Rattle.pages.specs.Layout.{numberWidth}
 use Rattle.pages.specs.Over.{Over}
-use Rattle.copies.specs.Blocks.{blockIn, pageIn, mainIn}
+use Rattle.copies.specs.Blocks.{blockIn, pageIn, mainIn, formed}
 use Rattle.scan_summary.specs.declared.Depth.{Depth}
 use Rattle.scan_summary.specs.declared.Depth.the-variants.{Full, Quick}
 use Rattle.progress.specs.Progress.{Progress, lineOf}
@@ -116,7 +116,7 @@ tableFillMost g = eraseMost + g .pages * programMost g
 -- those of a page by where its bytes come from
 unfoldable pub sourceMost : Geometry → Source → ℕ
 sourceMost g (given main) = programMost g
-sourceMost g (kept old) = pageMost g
+sourceMost g (kept old form) = pageMost g
 
 -- an erase that led from p to q
 pub record Erased (s : Setting) (p q : Progress) (block : ℕ) : Type 0 where
@@ -143,7 +143,7 @@ pub record Programmed (s : Setting) (p q : Progress) (block page : ℕ) (bytes :
 -- where the bytes of page n of a copy come from: the caller, or the same page of another block
 pub data Provides (g : Geometry) (array : List ℕ) (block : ℕ) (c : Copy) (n : ℕ) : Source → List ℕ → Type 0 where
   from-caller : (main : List ℕ) → Provides g array block c n (given main) (copyPage g c n main)
-  from-copy : (old : ℕ) → old < g .blocks → (old ≡ block → ⊥) → Provides g array block c n (kept old) (copyPage g c n (mainIn g (blockIn g array old) n))
+  from-copy : (old form : ℕ) → old < g .blocks → (old ≡ block → ⊥) → Provides g array block c n (kept old form) (copyPage g c n (formed form n (mainIn g (blockIn g array old) n)))
 
 -- a copy whose label has a layout and fits its bytes
 pub record Labelled (c : Copy) : Type 0 where

@@ -9,7 +9,7 @@ use Rattle.cells.specs.Part.{put}
 use Rattle.chip_interface.specs.Interface.{poweredOn}
 use Rattle.chip_array.specs.Device.{Device, Setting, device, setting}
 use Rattle.pages.specs.Layout.{label, encoded, storedCheck, whole, dataKind, tableKind}
-use Rattle.copies.specs.Blocks.{blockIn, pageIn}
+use Rattle.copies.specs.Blocks.{blockIn, pageIn, formed}
 use Rattle.copies.specs.Current.{mountAnswer}
 use Rattle.state.specs.State.{blank}
 use Rattle.state.specs.declared.State.{State}
@@ -39,15 +39,18 @@ bench r = r .answer ∷ r .sent ∷ []
 -- the state that it hands back
 abbrev pub formattedState : State
 formattedState =
-    record { status = 1; table = 0; last = 0; number = 1; marked = replicate 512 0; invalid = replicate 512 0; map = replicate 4096 65535 }
+    record { status = 1; table = 0; last = 0; number = 1; marked = replicate 512 0; invalid = replicate 512 0; map = replicate 4096 65535; kinds = replicate 4096 0 }
 
--- a data page, all FFh, of logical block 0, page 0, number 2: of kind 44h, with a number of four bytes, and of kind 64h, with one of eight; and
--- each with byte 4 of its spare bytes raised to 01h
+-- a data page, all FFh, of logical block 0, page 0, number 2: of kind 44h, with a number of four bytes, of kind 64h, with one of eight, and of
+-- kind 6Ch, whitened; and each with byte 4 of its spare bytes raised to 01h
 abbrev pub narrowPage : List ℕ
 narrowPage = encoded 16 (label 68 0 0 2) (replicate 32 255)
 
+abbrev pub plainPage : List ℕ
+plainPage = encoded 16 (label 100 0 0 2) (replicate 32 255)
+
 abbrev pub dataPage : List ℕ
-dataPage = encoded 16 (label dataKind 0 0 2) (replicate 32 255)
+dataPage = encoded 16 (label dataKind 0 0 2) (formed dataKind 0 (replicate 32 255))
 
 abbrev pub raisedPage : List ℕ → List ℕ
 raisedPage page = set page 36 1
@@ -76,8 +79,9 @@ figures =
     ∷ figure (rowBytes (rowOf part 4095 63)) (255 ∷ 255 ∷ 3 ∷ [])
     ∷ figure (columnBytes 2048) (0 ∷ 8 ∷ [])
     ∷ figure (storedCheck 32 narrowPage ∷ wholeAs narrowPage ∷ []) (61 ∷ 1 ∷ [])
-    ∷ figure (storedCheck 32 dataPage ∷ wholeAs dataPage ∷ []) (92 ∷ 1 ∷ [])
-    ∷ figure (wholeAs (raisedPage narrowPage) ∷ wholeAs (raisedPage dataPage) ∷ []) (0 ∷ 0 ∷ [])
+    ∷ figure (storedCheck 32 plainPage ∷ wholeAs plainPage ∷ []) (92 ∷ 1 ∷ [])
+    ∷ figure (storedCheck 32 dataPage ∷ wholeAs dataPage ∷ []) (172 ∷ 1 ∷ [])
+    ∷ figure (wholeAs (raisedPage narrowPage) ∷ wholeAs (raisedPage plainPage) ∷ wholeAs (raisedPage dataPage) ∷ []) (0 ∷ 0 ∷ 0 ∷ [])
     ∷ figure (storedCheck 32 tablePage ∷ []) (160 ∷ [])
     ∷ figure (wholeAs (replicate 48 255) ∷ []) (0 ∷ [])
     ∷ figure (formatted (255 ∷ []) .answer ∷ []) (0 ∷ [])

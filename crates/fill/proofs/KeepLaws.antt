@@ -11,7 +11,7 @@ module _ (s : Setting) (P : Progress → Type 0) (k : Kept s P) where
   main-keeps : (n : ℕ) (source : Source) (p : Progress) → P p → P (mainRead s n source p)
   unfolding mainRead
   main-keeps n (given main) p h = h
-  main-keeps n (kept old) p h = k .read (rowOf (s .geometry) old n) 0 (s .geometry .main) p h
+  main-keeps n (kept old form) p h = k .read (rowOf (s .geometry) old n) 0 (s .geometry .main) p h
 
   pub page-keeps : (block : ℕ) (c : Copy) (n : ℕ) (source : Source) (p : Progress) → P p → P (pageFilled s block c n source p)
   unfolding pageFilled

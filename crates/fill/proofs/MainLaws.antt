@@ -8,7 +8,7 @@ use native.Mathlib.Omega.{arith}
 use borrow.Table.Steps.{cases}
 use borrow.Author.Tests.{lt-ltb, le-ltb, lt-leb, le-leb, ltb-true, ltb-false, leb-true, leb-false, eqb-true, eqb-false}
 use lib.Dec.{eqb, leb, ltb}
-use lib.ListN.{length, take, drop, replicate, length-append}
+use lib.ListN.{length, take, drop, replicate, length-append, length-drop}
 use lib.Seq.{take-at, take-take, take-all, length-take-le}
 use Rattle.geometry.specs.declared.Geometry.{Geometry}
 use Rattle.geometry.specs.Sizes.{pageSize, rowOf}
@@ -30,24 +30,28 @@ use Rattle.bus_sequences.specs.Cycles.{pageLine, readCycles, readOutcome, readO
 use Rattle.operations.specs.Ends.{Lent, CanRead, End, unreadyLine, endOfRead, readEnd, readTotal, wordFor}
 use Rattle.operations.proofs.ReadLaws.{read-ends, read-next}
 use Rattle.operations.proofs.UnreadyLaws.{called-lent, lent-called, all-stops, unready-unanswered}
+use Rattle.whitening.specs.Whitened.{whitened}
+use Rattle.whitening.proofs.WhitenedLaws.{whitened-twice}
+use Rattle.pages.specs.Layout.{isWhiteKind}
+use Rattle.copies.specs.Blocks.{formed}
 use Rattle.copies.specs.Table.{tablePage}
 use Rattle.progress.specs.Progress.{Progress, progress}
 use Rattle.progress.proofs.ReadOnLaws.{read-leaves, read-line, read-outcome, read-stopped}
 use Rattle.copies.proofs.PlaceLaws.{row-is-page}
-use Rattle.fill.specs.Fill.{Source, given, kept, Reaches, mainOf, mainRead, dataSource, tableMain, tableSource, isGiven, givenMain}
+use Rattle.fill.specs.Fill.{Source, given, kept, Reaches, mainOf, mainRead, bothWhite, dataSource, tableMain, tableSource, isGiven, givenMain}
 use Rattle.cells.proofs.CellLaws.{over-all}
 
 -- which of the three a page of a data copy is
-module _ (g : Geometry) (old first count : ℕ) (bytes : List ℕ) (n : ℕ) where
-  pub source-given : isGiven first count n ≡ true → dataSource g old first count bytes n ≡ given (givenMain g first bytes n)
+module _ (g : Geometry) (old form first count : ℕ) (bytes : List ℕ) (n : ℕ) where
+  pub source-given : isGiven first count n ≡ true → dataSource g old form first count bytes n ≡ given (givenMain g first bytes n)
   unfolding dataSource
   source-given e = rw e
 
-  pub source-kept : isGiven first count n ≡ false → old < g .blocks → dataSource g old first count bytes n ≡ kept old
+  pub source-kept : isGiven first count n ≡ false → old < g .blocks → dataSource g old form first count bytes n ≡ kept old form
   unfolding dataSource
   source-kept e h = rw (e, lt-ltb old (g .blocks) h)
 
-  pub source-none : isGiven first count n ≡ false → g .blocks ≤ old → dataSource g old first count bytes n ≡ given (replicate (g .main) 255)
+  pub source-none : isGiven first count n ≡ false → g .blocks ≤ old → dataSource g old form first count bytes n ≡ given (replicate (g .main) 255)
   unfolding dataSource
   source-none e h = rw (e, le-ltb old (g .blocks) h)
 
@@ -79,9 +83,9 @@ given-room first count n main pages m q h t =
     (omega (arith, room, suc-mul (n - first) main), omega (arith, mul-le-mul few m))
 
 -- a table's pages are those of a data copy without an old one, page 0 given
-pub table-source : (g : Geometry) (old : ℕ) → g .blocks ≤ old → (invalid bytes : List ℕ) → length bytes ≡ g .main → bytes ≡ tablePage (g .main) (g .blocks) (g .logical) invalid → dataSource g old 0 1 bytes ≡ tableSource g invalid
+pub table-source : (g : Geometry) (old form : ℕ) → g .blocks ≤ old → (invalid bytes : List ℕ) → length bytes ≡ g .main → bytes ≡ tablePage (g .main) (g .blocks) (g .logical) invalid → dataSource g old form 0 1 bytes ≡ tableSource g invalid
 unfolding dataSource isGiven tableMain
-table-source g old h invalid bytes long e =
+table-source g old form h invalid bytes long e =
     fun-ext
     (λ n.
     cases (eqb n 0)
@@ -105,14 +109,33 @@ module _ (n : ℕ) (page : List ℕ) (fits : n ≤ length page) (ys rest : List 
   pub put-fits : n ≤ length (take 0 page ++ (ys ++ rest))
   put-fits = omega (arith, length-append ys rest, same ∙ lent-long n page fits)
 
+  pub put-long : rest ≡ drop (n - 0) (drop 0 page) → length (take 0 page ++ (ys ++ rest)) ≡ length page
+  put-long e =
+      let back = ap length e ∙ length-drop (n - 0) page in
+      omega (arith, length-append ys rest, same ∙ lent-long n page fits, back, fits)
+
   pub put-lent : take (n - 0) (drop 0 (take 0 page ++ (ys ++ rest))) ≡ ys
   put-lent = ap (λ (k : ℕ). take k (take 0 page ++ (ys ++ rest))) (sub-zero n) ∙ put-read
 
   pub put-given : (bytes : List ℕ) → length bytes ≡ n → ys ≡ over bytes (take (n - 0) (drop 0 page)) → take n (take 0 page ++ (ys ++ rest)) ≡ bytes
   put-given bytes h e = put-read ∙ e ∙ over-all bytes (take (n - 0) (drop 0 page)) (lent-long n page fits ∙ sym h)
 
+  pub put-white : (place : ℕ) → ys ≡ whitened place (take (n - 0) (drop 0 page)) → take n (take 0 page ++ (ys ++ rest)) ≡ whitened place (take n page)
+  put-white place e = put-read ∙ e ∙ ap (λ (k : ℕ). whitened place (take k page)) (sub-zero n)
+
   pub put-ones : ys ≡ replicate (length (take (n - 0) (drop 0 page))) 255 → take n (take 0 page ++ (ys ++ rest)) ≡ replicate n 255
   put-ones e = put-read ∙ e ∙ ap (λ (k : ℕ). replicate k 255) (lent-long n page fits)
+
+-- whitened bytes that stay so
+pub white-stays : (form kind n : ℕ) (xs : List ℕ) → bothWhite form kind ≡ true → xs ≡ formed kind n (formed form n xs)
+unfolding formed
+white-stays form kind n xs t =
+    let p = both (isWhiteKind form) (isWhiteKind kind) t in
+    rw (p .0, p .1) (sym (whitened-twice n xs))
+
+-- the same source, told otherwise
+pub reaches-as : {s : Setting} (n : ℕ) {x y : Source} {l m : Line} {o : Outcome} → y ≡ x → Reaches s (mainRead s n x) l m o → Reaches s (mainRead s n y) l m o
+reaches-as {s} n {x} {y} {l} {m} {o} e r = subst (λ (z : Source). Reaches s (mainRead s n z) l m o) (sym e) r
 
 -- a page that is given
 module _ (s : Setting) (n : ℕ) (source : Source) (main : List ℕ) (e : source ≡ given main) where
@@ -126,9 +149,9 @@ module _ (s : Setting) (n : ℕ) (source : Source) (main : List ℕ) (e : source
         unanswered = λ f. absurd (true≢false f);
       }
 
-  pub given-main : (array bytes : List ℕ) → bytes ≡ main → bytes ≡ mainOf (s .geometry) array n source
+  pub given-main : (kind : ℕ) (array bytes : List ℕ) → bytes ≡ formed kind n main → bytes ≡ formed kind n (mainOf (s .geometry) array n source)
   unfolding mainOf
-  given-main array bytes h = h ∙ sym (ap (mainOf (s .geometry) array n) e)
+  given-main kind array bytes h = h ∙ sym (ap (λ (x : Source). formed kind n (mainOf (s .geometry) array n x)) e)
 
 -- a read that was answered passed
 read-answered : (s : Setting) (l : Line) (n : ℕ) → answered (readEnd s l n .outcome) ≡ true → isPassed (readEnd s l n .outcome) ≡ true
@@ -153,7 +176,7 @@ read-unready s l lent h row column n =
     rw unpassed unanswered
 
 -- a page that is kept: its read leaves line m and outcome o
-module _ (s : Setting) (l : Line) (lent : Lent s l) (old n : ℕ) (old-below : old < s .geometry .blocks) (page-below : n < s .geometry .pages) (source : Source) (from : source ≡ kept old)
+module _ (s : Setting) (l : Line) (lent : Lent s l) (old form n : ℕ) (old-below : old < s .geometry .blocks) (page-below : n < s .geometry .pages)
     (row : ℕ) (row-is : row ≡ rowOf (s .geometry) old n) (buffer : List ℕ) (long : length buffer ≡ s .geometry .main) (m : Line) (o : Outcome)
     (e : m ≡ sendAll s l (readCycles s l row 0 (length buffer))) (q : o ≡ readOutcome s l row 0 (length buffer)) where
   line-at : m ≡ sendAll s l (readCycles s l (rowOf (s .geometry) old n) 0 (s .geometry .main))
@@ -179,12 +202,12 @@ module _ (s : Setting) (l : Line) (lent : Lent s l) (old n : ℕ) (old-below : o
       let ends : o ≡ readEnd s l (s .geometry .main) .outcome = outcome-at ∙ ap (λ (x : End). x .outcome) (read-ends s l _ 0 (s .geometry .main) (can-read t)) in
       ap isPassed ends ∙ read-answered s l (s .geometry .main) (sym (ap answered ends) ∙ t)
 
-  pub kept-comes : Reaches s (mainRead s n source) l m o
+  pub kept-comes : Reaches s (mainRead s n (kept old form)) l m o
   unfolding mainRead isPassed endOfRead
   kept-comes =
       record {
-        line-is = λ cs os. line-at ∙ sym (read-line s (rowOf (s .geometry) old n) 0 (s .geometry .main) (progress l Passed cs os) l refl refl) ∙ sym (ap (λ (x : Source). mainRead s n x (progress l Passed cs os) .line) from);
-        outcome-is = λ cs os. outcome-at ∙ sym (read-outcome s (rowOf (s .geometry) old n) 0 (s .geometry .main) (progress l Passed cs os) l refl refl) ∙ sym (ap (λ (x : Source). mainRead s n x (progress l Passed cs os) .outcome) from);
+        line-is = λ cs os. line-at ∙ sym (read-line s (rowOf (s .geometry) old n) 0 (s .geometry .main) (progress l Passed cs os) l refl refl);
+        outcome-is = λ cs os. outcome-at ∙ sym (read-outcome s (rowOf (s .geometry) old n) 0 (s .geometry .main) (progress l Passed cs os) l refl refl);
         next-lent = λ t.
             let can = can-read (passed-answered o t) in
             let ends : o ≡ readEnd s l (s .geometry .main) .outcome = outcome-at ∙ ap (λ (x : End). x .outcome) (read-ends s l _ 0 (s .geometry .main) can) in
@@ -192,16 +215,19 @@ module _ (s : Setting) (l : Line) (lent : Lent s l) (old n : ℕ) (old-below : o
         unanswered = λ f. cases (answered o) (λ t. clash (passes t) f) (λ u. u);
       }
 
-  pub kept-main : (bytes : List ℕ) → bytes ≡ over (readOutputs s l row 0 (length buffer)) buffer → isPassed o ≡ true → bytes ≡ mainOf (s .geometry) (l .chip .array) n source
+  -- what is read, brought from the form of the old copy into that of a kind
+  pub kept-main : (bytes : List ℕ) → bytes ≡ over (readOutputs s l row 0 (length buffer)) buffer → isPassed o ≡ true
+      → (kind : ℕ) → formed kind n (formed form n bytes) ≡ formed kind n (mainOf (s .geometry) (l .chip .array) n (kept old form))
   unfolding mainOf
-  kept-main bytes f t =
+  kept-main bytes f t kind =
+      let stored =
       read-leaves s l (rowOf (s .geometry) old n) 0 (s .geometry .main) (can-read (passed-answered o t)) m o buffer bytes long line-at outcome-at (f ∙ ap₂ (λ (x y : ℕ). over (readOutputs s l x 0 y) buffer) row-is long) .bytes-are t
       ∙ sym (take-take (s .geometry .main) (pageSize (s .geometry)) (drop (rowOf (s .geometry) old n * pageSize (s .geometry) + 0) (l .chip .array)) (omega arith))
-      ∙ ap (take (s .geometry .main)) (row-is-page (s .geometry) (lent .is-valid) (l .chip .array) old n page-below)
-      ∙ sym (ap (mainOf (s .geometry) (l .chip .array) n) from)
+      ∙ ap (take (s .geometry .main)) (row-is-page (s .geometry) (lent .is-valid) (l .chip .array) old n page-below) in
+      ap (λ (xs : List ℕ). formed kind n (formed form n xs)) stored
 
 -- once an operation has not passed nothing is read
 pub main-stopped : (s : Setting) (n : ℕ) (source : Source) (p : Progress) → isPassed (p .outcome) ≡ false → mainRead s n source p ≡ p
 unfolding mainRead
 main-stopped s n (given main) p f = refl
-main-stopped s n (kept old) p f = read-stopped s (rowOf (s .geometry) old n) 0 (s .geometry .main) p f
+main-stopped s n (kept old form) p f = read-stopped s (rowOf (s .geometry) old n) 0 (s .geometry .main) p f

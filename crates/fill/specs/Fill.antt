@@ -17,8 +17,8 @@ use Rattle.bus_polling.specs.declared.Outcome.{Outcome}
 use Rattle.bus_polling.specs.declared.Outcome.the-variants.{Passed}
 use Rattle.operations.specs.Ends.{Lent}
 use Rattle.operations.specs.Trace.{ArrayOperation}
-use Rattle.pages.specs.Layout.{label, encoded, numberWidth, tableKind}
-use Rattle.copies.specs.Blocks.{blockIn, mainIn}
+use Rattle.pages.specs.Layout.{label, encoded, numberWidth, isWhiteKind, tableKind}
+use Rattle.copies.specs.Blocks.{blockIn, mainIn, formed}
 use Rattle.copies.specs.Table.{tablePage}
 use Rattle.progress.specs.Progress.{Progress, progress, readOn}
 use Rattle.progress.specs.Steps.{eraseOn, programOn}
@@ -41,23 +41,27 @@ pub record Fillable (g : Geometry) (block place kind logical size : ℕ) : Type 
   pub logical-fits : logical < 65536
   pub page-long : size ≡ pageSize g
 
--- where the main bytes of a page come from: given, or kept from the same page of another block
+-- where the main bytes of a page come from: given, or kept from the same page of another block, whose copy has this kind
 pub data Source : Type 0 where
   given : List ℕ → Source
-  kept : ℕ → Source
+  kept : ℕ → ℕ → Source
 
--- page n of a copy with these main bytes
+-- page n of a copy that stores these main bytes
+abbrev pub storedPage : Geometry → Copy → ℕ → List ℕ → List ℕ
+storedPage g c n stored = encoded (g .spare) (label (c .kind) (c .logical) n (c .number)) stored
+
+-- page n of a copy with these main bytes: they are stored as its kind does
 abbrev pub copyPage : Geometry → Copy → ℕ → List ℕ → List ℕ
-copyPage g c n main = encoded (g .spare) (label (c .kind) (c .logical) n (c .number)) main
+copyPage g c n main = storedPage g c n (formed (c .kind) n main)
 
--- the main bytes of page n; those of a kept page are read, main bytes only
+-- the main bytes of page n; those of a kept page are read, main bytes only, and are what its writer gave
 unfoldable pub mainOf : Geometry → List ℕ → ℕ → Source → List ℕ
 mainOf g array n (given main) = main
-mainOf g array n (kept old) = mainIn g (blockIn g array old) n
+mainOf g array n (kept old form) = formed form n (mainIn g (blockIn g array old) n)
 
 unfoldable pub mainRead : Setting → ℕ → Source → Progress → Progress
 mainRead s n (given main) p = p
-mainRead s n (kept old) p = readOn s (rowOf (s .geometry) old n) 0 (s .geometry .main) p
+mainRead s n (kept old form) p = readOn s (rowOf (s .geometry) old n) 0 (s .geometry .main) p
 
 -- a part of a request that comes from line l to line m with outcome o on a chip that may not be ready: once it passed the chip is
 -- lent on, and what did not pass was not answered
@@ -82,6 +86,10 @@ pagesFilled s block c source (suc n) p = pageFilled s block c n (source n) (page
 abbrev pub filled : Setting → ℕ → Copy → (ℕ → Source) → Progress → Progress
 filled s block c source p = pagesFilled s block c source (s .geometry .pages) (eraseOn s block p)
 
+-- two kinds that both store main bytes whitened
+abbrev pub bothWhite : ℕ → ℕ → Bool
+bothWhite form kind = cond (isWhiteKind form) (isWhiteKind kind) false
+
 -- page n is one of the count pages from first on
 unfoldable pub isGiven : ℕ → ℕ → ℕ → Bool
 isGiven first count n = cond (leb first n) (ltb n (first + count)) false
@@ -90,12 +98,12 @@ isGiven first count n = cond (leb first n) (ltb n (first + count)) false
 abbrev pub givenMain : Geometry → ℕ → List ℕ → ℕ → List ℕ
 givenMain g first bytes n = part ((n - first) * g .main) (g .main) bytes
 
--- a data copy's pages: count pages from first on are given, the others are kept from the old copy, FFh where there is
--- none; there is no old copy where its block is not on the chip
-unfoldable pub dataSource : Geometry → ℕ → ℕ → ℕ → List ℕ → ℕ → Source
-dataSource g old first count bytes n =
+-- a data copy's pages: count pages from first on are given, the others are kept from the old copy, which has the kind form,
+-- FFh where there is none; there is no old copy where its block is not on the chip
+unfoldable pub dataSource : Geometry → ℕ → ℕ → ℕ → ℕ → List ℕ → ℕ → Source
+dataSource g old form first count bytes n =
     cond (isGiven first count n) (given (givenMain g first bytes n))
-    (cond (ltb old (g .blocks)) (kept old) (given (replicate (g .main) 255)))
+    (cond (ltb old (g .blocks)) (kept old form) (given (replicate (g .main) 255)))
 
 -- a table's pages: page 0 lists the invalid blocks, the others are FFh
 unfoldable pub tableMain : Geometry → List ℕ → ℕ → List ℕ

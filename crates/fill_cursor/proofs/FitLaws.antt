@@ -16,6 +16,7 @@ use Rattle.state_choose.specs.Choose.{chosen, permitted}
 use Rattle.state_choose.specs.declared.Choice.{Choice}
 use Rattle.state_choose.specs.declared.Choice.the-variants.{Block, Worn}
 use Rattle.state_choose.proofs.ChooseLaws.{found, after-below}
+use Rattle.pages.specs.Layout.{dataKind}
 use Rattle.state.specs.State.{nextNumber, numberEnd, spent, taken, withInvalid, withCopy}
 use Rattle.state.specs.declared.State.{State}
 use Rattle.fill_cursor.specs.Cursor.{Fits, running, ended, filling, onPage, inTable, replaced, stopped, choiceOf, onBlock, prepared, pageAfter, filledWhole, unfilled, afterAction, withdrawn, settled, stateAfter, afterDue, programs, weight, actionsMost}
@@ -43,14 +44,14 @@ module _ (g : Geometry) (c : Cursor) (st : State) (P : Running → Type 0) (stop
 
 -- what was due ended: a page is due, the table, another fill, or nothing
 module _ (pages : ℕ) (c : Cursor) (st : State) (P : Running → Type 0) (ends : (a : ℕ) (s : State) → P (running (ended a) s)) where
-  by-whole : (c .phase ≡ 0 → P (running (inTable c) (withCopy (c .logical) (c .block) st))) → P (running (filledWhole c) (stateAfter (filledWhole c) c st Passed))
+  by-whole : (c .phase ≡ 0 → P (running (inTable c) (withCopy dataKind (c .logical) (c .block) st))) → P (running (filledWhole c) (stateAfter (filledWhole c) c st Passed))
   unfolding filledWhole settled isPassed
   by-whole table =
       cases (eqb (c .phase) 0)
       (λ t. cases (eqb (c .failed) 0) (λ u. rw (t, u) (ends 0 _)) (λ u. rw (t, u) (table (eqb-true (c .phase) 0 t))))
       (λ f. rw f (ends 0 _))
 
-  pub by-after : (o : Outcome) → (isPassed o ≡ true → pageAfter c < pages → P (running (onPage (pageAfter c) c) st)) → (isPassed o ≡ true → c .phase ≡ 0 → P (running (inTable c) (withCopy (c .logical) (c .block) st)))
+  pub by-after : (o : Outcome) → (isPassed o ≡ true → pageAfter c < pages → P (running (onPage (pageAfter c) c) st)) → (isPassed o ≡ true → c .phase ≡ 0 → P (running (inTable c) (withCopy dataKind (c .logical) (c .block) st)))
       → (isFailed o ≡ true → P (running (replaced c) (withInvalid (c .block) st))) → P (afterDue pages (running c st) o)
   unfolding afterAction unfilled settled withdrawn isPassed isFailed
   by-after Passed page table again =

@@ -12,6 +12,7 @@ use Rattle.state_choose.specs.declared.Choice.{Choice}
 use Rattle.state_choose.specs.declared.Choice.the-variants.{Block, Worn}
 use Rattle.state_choose.proofs.Choice.{the-type}
 use Rattle.request.specs.Call.{stopAnswer}
+use Rattle.pages.specs.Layout.{dataKind}
 use Rattle.state.specs.State.{blank, nextNumber, spent, taken, withInvalid, withCopy, withTable}
 use Rattle.state.specs.declared.State.{State}
 use Rattle.fill_cursor.specs.Cursor.{running, ended, filling, onPage, inTable, replaced, stopped, choiceOf, onBlock, prepared, pageAfter, filledWhole, unfilled, afterAction, withdrawn, settled}
@@ -90,6 +91,6 @@ module _ (c : Cursor) (st : State) (o : Outcome) where
   unfolding settled
   settled-table t n = rw (t, ne-eqb (c .phase) 0 n)
 
-  pub settled-copy : isPassed o ≡ true → c .phase ≡ 0 → withCopy (c .logical) (c .block) st ≡ settled c st o
+  pub settled-copy : isPassed o ≡ true → c .phase ≡ 0 → withCopy dataKind (c .logical) (c .block) st ≡ settled c st o
   unfolding settled
   settled-copy t e = rw (t, eq-eqb (c .phase) 0 e)

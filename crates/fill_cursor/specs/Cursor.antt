@@ -9,6 +9,7 @@ use Rattle.bus_polling.specs.declared.Outcome.{Outcome}
 use Rattle.state_choose.specs.Choose.{chosen}
 use Rattle.state_choose.specs.declared.Choice.{Choice}
 use Rattle.state_choose.specs.declared.Choice.the-variants.{Block, Worn}
+use Rattle.pages.specs.Layout.{dataKind}
 use Rattle.state.specs.State.{blank, nextNumber, numbersLeft, spent, taken, withInvalid, withCopy, withTable, heldBits}
 use Rattle.state.specs.declared.State.{State}
 use Rattle.request.specs.Call.{stopAnswer}
@@ -89,7 +90,7 @@ withdrawn b st o = cond (isFailed o) (withInvalid b st) (blank 2)
 unfoldable pub settled : Cursor → State → Outcome → State
 settled c st o =
     cond (isPassed o)
-    (cond (eqb (c .phase) 0) (withCopy (c .logical) (c .block) st) (withTable (c .block) st))
+    (cond (eqb (c .phase) 0) (withCopy dataKind (c .logical) (c .block) st) (withTable (c .block) st))
     (withdrawn (c .block) st o)
 
 -- within a fill the state stays as it is

@@ -204,7 +204,7 @@ impl Cursor {
         if phase != 0 {
             return state.record_table(block);
         }
-        state.record_copy(self.logical, block)
+        state.record_copy(pages::DATA, self.logical, block)
     }
 }
 

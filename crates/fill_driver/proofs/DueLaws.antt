@@ -20,26 +20,26 @@ use Rattle.fill.specs.declared.Content.{Content}
 use Rattle.fill_cursor.specs.declared.Cursor.{Cursor}
 use Rattle.fill_driver.specs.Driver.{copyOf, sourceOf, contentOf, performed}
 
-module _ (s : Setting) (c : Cursor) (invalid bytes : List ℕ) (p : Progress) where
-  pub erase-due : c .step ≡ 1 → eraseOn s (c .block) p ≡ performed s c invalid bytes p
+module _ (s : Setting) (c : Cursor) (form : ℕ) (invalid bytes : List ℕ) (p : Progress) where
+  pub erase-due : c .step ≡ 1 → eraseOn s (c .block) p ≡ performed s c form invalid bytes p
   unfolding performed
   erase-due e = rw (eq-eqb (c .step) 1 e)
 
-  pub table-due : (c .step ≡ 1 → ⊥) → (c .phase ≡ 0 → ⊥) → pageFilled s (c .block) (tableCopy (c .number)) (c .page) (tableSource (s .geometry) invalid (c .page)) p ≡ performed s c invalid bytes p
+  pub table-due : (c .step ≡ 1 → ⊥) → (c .phase ≡ 0 → ⊥) → pageFilled s (c .block) (tableCopy (c .number)) (c .page) (tableSource (s .geometry) invalid (c .page)) p ≡ performed s c form invalid bytes p
   unfolding performed copyOf sourceOf
   table-due n m = rw (ne-eqb (c .step) 1 n, ne-eqb (c .phase) 0 m)
 
-  copy-due : (c .step ≡ 1 → ⊥) → c .phase ≡ 0 → pageFilled s (c .block) (copy dataKind (c .logical) (c .number)) (c .page) (dataSource (s .geometry) (c .old) (c .first) (c .count) bytes (c .page)) p ≡ performed s c invalid bytes p
+  copy-due : (c .step ≡ 1 → ⊥) → c .phase ≡ 0 → pageFilled s (c .block) (copy dataKind (c .logical) (c .number)) (c .page) (dataSource (s .geometry) (c .old) form (c .first) (c .count) bytes (c .page)) p ≡ performed s c form invalid bytes p
   unfolding performed copyOf sourceOf
   copy-due n e = rw (ne-eqb (c .step) 1 n, eq-eqb (c .phase) 0 e)
 
 -- a page of a data copy, told by what the copy holds
-module _ (c : Cursor) (k : Content) (is : k ≡ contentOf c) where
+module _ (c : Cursor) (form : ℕ) (k : Content) (is : k ≡ contentOf c form) where
   pub copy-comes : {s : Setting} {l m : Line} {o : Outcome} (invalid bytes : List ℕ) → (c .step ≡ 1 → ⊥) → c .phase ≡ 0
-      → ComesTo s (pageFilled s (c .block) (copy (k .kind) (k .logical) (k .number)) (c .page) (dataSource (s .geometry) (k .old) (k .first) (k .count) bytes (c .page))) l m o → ComesTo s (performed s c invalid bytes) l m o
+      → ComesTo s (pageFilled s (c .block) (copy (k .kind) (k .logical) (k .number)) (c .page) (dataSource (s .geometry) (k .old) (k .form) (k .first) (k .count) bytes (c .page))) l m o → ComesTo s (performed s c form invalid bytes) l m o
   copy-comes {s} {l} {m} {o} invalid bytes n e r =
-      comes-as (λ p. copy-due s c invalid bytes p n e)
-      (subst (λ (x : Content). ComesTo s (pageFilled s (c .block) (copy (x .kind) (x .logical) (x .number)) (c .page) (dataSource (s .geometry) (x .old) (x .first) (x .count) bytes (c .page))) l m o) is r)
+      comes-as (λ p. copy-due s c form invalid bytes p n e)
+      (subst (λ (x : Content). ComesTo s (pageFilled s (c .block) (copy (x .kind) (x .logical) (x .number)) (c .page) (dataSource (s .geometry) (x .old) (x .form) (x .first) (x .count) bytes (c .page))) l m o) is r)
 
   pub content-fillable : (g : Geometry) (size : ℕ) → Fillable g (c .block) (c .page) dataKind (c .logical) size → Fillable g (c .block) (c .page) (k .kind) (k .logical) size
   content-fillable g size f = subst (λ (x : Content). Fillable g (c .block) (c .page) (x .kind) (x .logical) size) (sym is) f

@@ -18,7 +18,8 @@ use Rattle.operations.specs.Trace.{ArrayOperation}
 use Rattle.progress.specs.Progress.{Progress, progress}
 use Rattle.progress.specs.Steps.{programOn, ComesTo}
 use Rattle.progress.proofs.StepLaws.{program-stopped}
-use Rattle.fill.specs.Fill.{Copy, Source, Reaches, copyPage, mainOf, mainRead, pageFilled}
+use Rattle.copies.specs.Blocks.{formed}
+use Rattle.fill.specs.Fill.{Copy, Source, Reaches, storedPage, copyPage, mainOf, mainRead, pageFilled}
 use Rattle.bools.proofs.BoolLaws.{clash}
 use Rattle.fill_driver.proofs.AnsweredLaws.{program-reaches}
 
@@ -42,11 +43,11 @@ module _ (s : Setting) (block : ℕ) (c : Copy) (n : ℕ) (source : Source) (l m
       }
 
   -- its program leaves line m' and outcome o'
-  pub page-programmed : isPassed o ≡ true → (page : List ℕ) → take (s .geometry .main) page ≡ mainOf (s .geometry) (l .chip .array) n source → (m' : Line) (o' : Outcome)
-      → m' ≡ sendAll s m (programCycles s m (rowOf (s .geometry) block n) (copyPage (s .geometry) c n (take (s .geometry .main) page))) → o' ≡ answerOf m' → ComesTo s (pageFilled s block c n source) l m' o'
+  pub page-programmed : isPassed o ≡ true → (page : List ℕ) → take (s .geometry .main) page ≡ formed (c .kind) n (mainOf (s .geometry) (l .chip .array) n source) → (m' : Line) (o' : Outcome)
+      → m' ≡ sendAll s m (programCycles s m (rowOf (s .geometry) block n) (storedPage (s .geometry) c n (take (s .geometry .main) page))) → o' ≡ answerOf m' → ComesTo s (pageFilled s block c n source) l m' o'
   unfolding pageFilled
   page-programmed t page main-is m' o' e q =
-      let sent-is = e ∙ ap (λ (x : List ℕ). sendAll s m (programCycles s m (rowOf (s .geometry) block n) (copyPage (s .geometry) c n x))) main-is in
+      let sent-is = e ∙ ap (λ (x : List ℕ). sendAll s m (programCycles s m (rowOf (s .geometry) block n) (storedPage (s .geometry) c n x))) main-is in
       let p = program-reaches s m (r .next-lent t) block n bytes m' o' sent-is q in
       let passed : (cs : List Cycle) (os : List ArrayOperation) → progress m Passed (read cs os .cycles) (read cs os .started) ≡ read cs os = λ cs os. (λ i. progress (r .line-is cs os i) ((sym (is-passed o t) ∙ r .outcome-is cs os) i) (read cs os .cycles) (read cs os .started)) in
       record {

@@ -16,30 +16,35 @@ use Rattle.operations.specs.Trace.{ArrayOperation}
 use Rattle.progress.specs.Progress.{Progress, progress}
 use Rattle.progress.specs.Steps.{eraseOn}
 use Rattle.pages.specs.Layout.{dataKind}
+use Rattle.state.specs.State.{formOf}
 use Rattle.fill.specs.Fill.{Copy, copy, Source, dataSource, tableCopy, tableSource, pageFilled}
 use Rattle.fill.specs.declared.Content.{Content}
 use Rattle.fill_cursor.specs.Cursor.{prepared, afterDue, programs, isOpen, actionsMost}
 use Rattle.fill_cursor.specs.declared.Cursor.{Cursor}
 use Rattle.fill_cursor.specs.declared.Running.{Running}
 
+-- the kind of the old copy, by the state that goes with the cursor
+abbrev pub formNow : Running → ℕ
+formNow r = formOf (r .state) (r .cursor .logical)
+
 -- the fill of a cursor: its label, and where the main bytes of its pages come from
 unfoldable pub copyOf : Cursor → Copy
 copyOf c = cond (eqb (c .phase) 0) (copy dataKind (c .logical) (c .number)) (tableCopy (c .number))
 
-unfoldable pub sourceOf : Geometry → Cursor → List ℕ → List ℕ → ℕ → Source
-sourceOf g c invalid bytes =
-    cond (eqb (c .phase) 0) (dataSource g (c .old) (c .first) (c .count) bytes) (tableSource g invalid)
+unfoldable pub sourceOf : Geometry → Cursor → ℕ → List ℕ → List ℕ → ℕ → Source
+sourceOf g c form invalid bytes =
+    cond (eqb (c .phase) 0) (dataSource g (c .old) form (c .first) (c .count) bytes) (tableSource g invalid)
 
 -- what the data copy of a cursor holds
-abbrev pub contentOf : Cursor → Content
-contentOf c =
-    record { kind = dataKind; logical = c .logical; number = c .number; old = c .old; first = c .first; count = c .count }
+abbrev pub contentOf : Cursor → ℕ → Content
+contentOf c form =
+    record { kind = dataKind; logical = c .logical; number = c .number; old = c .old; form = form; first = c .first; count = c .count }
 
 -- the erase that is due, or the page, which is read just before its program where it is kept
-unfoldable pub performed : Setting → Cursor → List ℕ → List ℕ → Progress → Progress
-performed s c invalid bytes p =
+unfoldable pub performed : Setting → Cursor → ℕ → List ℕ → List ℕ → Progress → Progress
+performed s c form invalid bytes p =
     cond (eqb (c .step) 1) (eraseOn s (c .block) p)
-    (pageFilled s (c .block) (copyOf c) (c .page) (sourceOf (s .geometry) c invalid bytes (c .page)) p)
+    (pageFilled s (c .block) (copyOf c) (c .page) (sourceOf (s .geometry) c form invalid bytes (c .page)) p)
 
 -- where a request has come to
 pub record Ran : Type 0 where
@@ -59,7 +64,7 @@ goneOn p = progress (p .line) (gone (p .outcome)) (p .cycles) (p .started)
 -- one action: a number and a block are taken, or the erase or the page is performed
 unfoldable pub acted : Setting → List ℕ → Running → Progress → Ran
 acted s bytes r p =
-    let q = performed s (r .cursor) (r .state .invalid) bytes p in
+    let q = performed s (r .cursor) (formNow r) (r .state .invalid) bytes p in
     cond (eqb (r .cursor .step) 0) (ranTo p (prepared (s .geometry) (r .cursor) (r .state)))
     (ranTo (goneOn q) (afterDue (s .geometry .pages) r (q .outcome)))
 

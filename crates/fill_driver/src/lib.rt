@@ -40,7 +40,7 @@ fn fill_page(
     requires { ⌜ Lent (setting g (now mask) (now fates)) (line from (now array) (now register) (now history)) ⌝ }
     requires { ⌜ Fillable g block place (content .kind) (content .logical) (length (now page)) ⌝ }
     requires { ⌜ length (now bytes) ≡ content .count * g .main ⌝ }
-    ensures { λ r. ⌜ ComesTo (setting g (now (mask .entry)) (now (fates .entry))) (pageFilled (setting g (now (mask .entry)) (now (fates .entry))) block (copy (content .kind) (content .logical) (content .number)) place (dataSource g (content .old) (content .first) (content .count) (now (bytes .entry)) place)) (line from (now (array .entry)) (now (register .entry)) (now (history .entry))) (line (r .bus) (now (array .exit)) (now (register .exit)) (now (history .exit))) (r .outcome) ⌝ }
+    ensures { λ r. ⌜ ComesTo (setting g (now (mask .entry)) (now (fates .entry))) (pageFilled (setting g (now (mask .entry)) (now (fates .entry))) block (copy (content .kind) (content .logical) (content .number)) place (dataSource g (content .old) (content .form) (content .first) (content .count) (now (bytes .entry)) place)) (line from (now (array .entry)) (now (register .entry)) (now (history .entry))) (line (r .bus) (now (array .exit)) (now (register .exit)) (now (history .exit))) (r .outcome) ⌝ }
 {
     let put = fill::put_main(
         from,
@@ -103,6 +103,7 @@ fn fill_table_page(
         logical: 0,
         number,
         old: 65535,
+        form: 0,
         first: 0,
         count: 1,
     };
@@ -122,15 +123,16 @@ fn fill_table_page(
     )
 }
 
-// What the data copy of a cursor holds.
-fn content_of(c: Cursor) -> Content
-    ensures { λ r. ⌜ r ≡ contentOf c ⌝ }
+// What the data copy of a cursor holds, its old copy of kind `form`.
+fn content_of(c: Cursor, form: u8) -> Content
+    ensures { λ r. ⌜ r ≡ contentOf c form ⌝ }
 {
     Content {
         kind: pages::DATA,
         logical: c.logical,
         number: c.number,
         old: c.old,
+        form,
         first: c.first,
         count: c.count,
     }
@@ -146,6 +148,7 @@ fn perform(
     mask: &[u8],
     fates: &[u32],
     c: Cursor,
+    form: u8,
     invalid: &[u8; 512],
     bytes: &[u8],
     page: &mut [u8],
@@ -154,7 +157,7 @@ fn perform(
     requires { ⌜ Fits g (length (now bytes)) c ⌝ }
     requires { ⌜ 0 < c .step ⌝ }
     requires { ⌜ length (now page) ≡ pageSize g ⌝ }
-    ensures { λ r. ⌜ ComesTo (setting g (now (mask .entry)) (now (fates .entry))) (performed (setting g (now (mask .entry)) (now (fates .entry))) c (now (invalid .entry)) (now (bytes .entry))) (line from (now (array .entry)) (now (register .entry)) (now (history .entry))) (line (r .bus) (now (array .exit)) (now (register .exit)) (now (history .exit))) (r .outcome) ⌝ }
+    ensures { λ r. ⌜ ComesTo (setting g (now (mask .entry)) (now (fates .entry))) (performed (setting g (now (mask .entry)) (now (fates .entry))) c form (now (invalid .entry)) (now (bytes .entry))) (line from (now (array .entry)) (now (register .entry)) (now (history .entry))) (line (r .bus) (now (array .exit)) (now (register .exit)) (now (history .exit))) (r .outcome) ⌝ }
 {
     let step = c.step;
     if step == 1 {
@@ -178,7 +181,7 @@ fn perform(
             page,
         );
     }
-    let content = content_of(c);
+    let content = content_of(c, form);
     fill_page(
         from,
         g,
@@ -234,6 +237,8 @@ pub fn run(
             state = ready.state;
             continue;
         }
+        let logical = cursor.logical;
+        let form = state.kinds[logical];
         let invalid = state.invalid;
         let done = perform(
             bus,
@@ -244,6 +249,7 @@ pub fn run(
             mask,
             fates,
             cursor,
+            form,
             &invalid,
             bytes,
             page,

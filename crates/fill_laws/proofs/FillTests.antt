@@ -14,9 +14,12 @@ use Rattle.bus_polling.specs.Polling.{waiting, polls, outcomeOf, endedAs}
 use Rattle.bus_polling.specs.Outcomes.{isPassed}
 use Rattle.bus_polling.specs.declared.Outcome.the-variants.{Passed}
 use Rattle.bus_sequences.specs.Cycles.{readCycles, readOutcome}
+use Rattle.whitening.specs.Stream.{shifted, stepped, bitsGiven, bytesGiven}
+use Rattle.whitening.specs.Whitened.{xored}
 use Rattle.pages.specs.Check.{zeroBits}
-use Rattle.pages.specs.Layout.{numberWidth, bytesOf, labelBytes, encoded, dataKind, isDataKind, isTableKind}
+use Rattle.pages.specs.Layout.{numberWidth, bytesOf, labelBytes, encoded, dataKind, isDataKind, isTableKind, isWhiteKind}
 use Rattle.progress.specs.Progress.{Progress, progress, readOn}
+use Rattle.copies.specs.Blocks.{formed}
 use Rattle.fill.specs.Fill.{copy, mainOf, mainRead, pageFilled, pagesFilled, filled, dataSource, isGiven}
 use Rattle.progress.specs.Steps.{eraseOn, programOn}
 
@@ -29,14 +32,14 @@ call = setting small (replicate 192 0) []
 -- block 1 is filled with a copy of logical block 0 whose page 0 is given; the old copy is in block old
 abbrev write : ℕ → Progress
 write old =
-    filled call 1 (copy dataKind 0 2) (dataSource small old 0 1 (replicate 32 165)) (progress (uncutLine (device poweredOn (replicate 768 255) (replicate 48 255) (replicate 4 0)) 400) Passed [] [])
+    filled call 1 (copy dataKind 0 2) (dataSource small old 0 0 1 (replicate 32 165)) (progress (uncutLine (device poweredOn (replicate 768 255) (replicate 48 255) (replicate 4 0)) 400) Passed [] [])
 
 -- without an old copy: 235 cycles
 first-write-sends : 400 - write 65535 .line .left ≡ 235
-unfolding sendAll send mayGo cutAfter exec commanded isConfirm plainCommand readMode begun statusMode addressed latched addressFits confirmable fitting confirmed readStarted programStarted eraseStarted started fateWord nextFate dataTaken dataGiven programmed weakened raised put statusRead finished completed polls waiting readCycles readOutcome isPassed outcomeOf endedAs readOn eraseOn programOn mainOf mainRead pageFilled pagesFilled isGiven dataSource encoded labelBytes bytesOf numberWidth isDataKind isTableKind zeroBits
+unfolding sendAll send mayGo cutAfter exec commanded isConfirm plainCommand readMode begun statusMode addressed latched addressFits confirmable fitting confirmed readStarted programStarted eraseStarted started fateWord nextFate dataTaken dataGiven programmed weakened raised put statusRead finished completed polls waiting readCycles readOutcome isPassed outcomeOf endedAs readOn eraseOn programOn mainOf formed isWhiteKind mainRead pageFilled pagesFilled isGiven dataSource encoded labelBytes bytesOf numberWidth isDataKind isTableKind zeroBits xored bytesGiven bitsGiven stepped shifted
 first-write-sends = refl
 
 -- with one, three pages are read: 361 cycles
 write-sends : 400 - write 0 .line .left ≡ 361
-unfolding sendAll send mayGo cutAfter exec commanded isConfirm plainCommand readMode begun statusMode addressed latched addressFits confirmable fitting confirmed readStarted programStarted eraseStarted started fateWord nextFate dataTaken dataGiven programmed weakened raised put statusRead finished completed polls waiting readCycles readOutcome isPassed outcomeOf endedAs readOn eraseOn programOn mainOf mainRead pageFilled pagesFilled isGiven dataSource encoded labelBytes bytesOf numberWidth isDataKind isTableKind zeroBits
+unfolding sendAll send mayGo cutAfter exec commanded isConfirm plainCommand readMode begun statusMode addressed latched addressFits confirmable fitting confirmed readStarted programStarted eraseStarted started fateWord nextFate dataTaken dataGiven programmed weakened raised put statusRead finished completed polls waiting readCycles readOutcome isPassed outcomeOf endedAs readOn eraseOn programOn mainOf formed isWhiteKind mainRead pageFilled pagesFilled isGiven dataSource encoded labelBytes bytesOf numberWidth isDataKind isTableKind zeroBits xored bytesGiven bitsGiven stepped shifted
 write-sends = refl

@@ -70,9 +70,9 @@ module _ (s : Setting) (d : Device) (n : ℕ) (st : State) (logical page : ℕ) 
   same : Unmoved d d
   same = record { same-array = refl; same-history = refl; same-size = refl; same-line = refl; ready = ready }
 
-  block-keeps : (b : ℕ) → CanRead s (callLine d n) (rowOf (s .geometry) b page) 0 (s .geometry .main) → Keeps (readingBlock s d n st b page buffer)
+  block-keeps : (b form : ℕ) → CanRead s (callLine d n) (rowOf (s .geometry) b page) 0 (s .geometry .main) → Keeps (readingBlock s d n st b form page buffer)
   unfolding readingBlock readEnd isPassed
-  block-keeps b can f =
+  block-keeps b form can f =
       let first = progress (callLine d n) Passed [] [] in
       let row = rowOf (s .geometry) b page in
       let q = pageProgress s d n b page in
@@ -102,7 +102,7 @@ module _ (s : Setting) (d : Device) (n : ℕ) (st : State) (logical page : ℕ) 
       let some = eqb-false entry none t in
       let below = mounted-facts st (s .geometry .blocks) (s .geometry .logical) (v .blocks-most) (a .is-mounted) .copy-below logical (a .logical-below) some in
       subst Keeps (sym (one-copy s d n st logical page buffer a some))
-      (block-keeps entry (record { called = called; row-below = row-below (s .geometry) v entry page below (a .page-below); column-below = omega (arith, v .main-least); within = omega arith })))
+      (block-keeps entry (getD (st .kinds) logical 0) (record { called = called; row-below = row-below (s .geometry) v entry page below (a .page-below); column-below = omega (arith, v .main-least); within = omega arith })))
 
   read-keeps-state : Keeps (readingPage s d n st logical page buffer)
   unfolding resultOf readRequest

@@ -75,13 +75,13 @@ read-none s row column n p =
 main-none : (s : Setting) (n : ℕ) (source : Source) (p : Progress) → count (mainRead s n source p) ≡ count p
 unfolding mainRead
 main-none s n (given main) p = refl
-main-none s n (kept old) p = read-none s (rowOf (s .geometry) old n) 0 (s .geometry .main) p
+main-none s n (kept old form) p = read-none s (rowOf (s .geometry) old n) 0 (s .geometry .main) p
 
 -- a kept read that did not pass has not failed
 main-untold : (s : Setting) (n : ℕ) (source : Source) (p : Progress) → isPassed (p .outcome) ≡ true → isPassed (mainRead s n source p .outcome) ≡ false → told (mainRead s n source p .outcome) ≡ false
 unfolding mainRead readOn
 main-untold s n (given main) p t f = clash t f
-main-untold s n (kept old) p t f = rw f (rw t (read-unfailed s (p .line) (rowOf (s .geometry) old n) 0 (s .geometry .main)))
+main-untold s n (kept old form) p t f = rw f (rw t (read-unfailed s (p .line) (rowOf (s .geometry) old n) 0 (s .geometry .main)))
 
 program-adds : (s : Setting) (block page : ℕ) (bytes : List ℕ) (p : Progress) → count (programOn s block page bytes p) ≤ count p + 1
 unfolding programOn
@@ -93,9 +93,9 @@ program-adds s block page bytes p =
     (λ t. rw t (omega arith))
 
 -- what is due: at most the page programs of the cursor, and just these if it passed or failed
-module _ (s : Setting) (c : Cursor) (invalid bytes : List ℕ) (p : Progress) where
+module _ (s : Setting) (c : Cursor) (form : ℕ) (invalid bytes : List ℕ) (p : Progress) where
   abbrev source : Source
-  source = sourceOf (s .geometry) c invalid bytes (c .page)
+  source = sourceOf (s .geometry) c form invalid bytes (c .page)
 
   abbrev main : Progress
   main = mainRead s (c .page) source p
@@ -104,7 +104,7 @@ module _ (s : Setting) (c : Cursor) (invalid bytes : List ℕ) (p : Progress) wh
   page = copyPage (s .geometry) (copyOf c) (c .page) (mainOf (s .geometry) (p .line .chip .array) (c .page) source)
 
   abbrev due : Progress
-  due = performed s c invalid bytes p
+  due = performed s c form invalid bytes p
 
   erase-is : c .step ≡ 1 → due ≡ eraseOn s (c .block) p
   unfolding performed

@@ -29,8 +29,9 @@ use Rattle.progress.proofs.ComesLaws.{erase-order, program-order}
 use Rattle.progress.proofs.StepLaws.{erase-on-line, erase-on-outcome, program-on-line, program-on-outcome, program-stopped}
 use Rattle.pages.specs.Layout.{bytesOf}
 use Rattle.pages.proofs.LayoutLaws.{length-bytesOf}
-use Rattle.copies.specs.Blocks.{blockIn, pageIn}
+use Rattle.copies.specs.Blocks.{blockIn, pageIn, mainIn}
 use Rattle.copies.specs.Table.{header, tablePage}
+use Rattle.copies.proofs.FormLaws.{length-formed}
 use Rattle.table.proofs.TableLaws.{valid-roomy}
 use Rattle.damage.proofs.PlaceLaws.{page-long}
 use Rattle.fill.specs.Fill.{Copy, Source, given, kept, copyPage, mainOf, mainRead, pageFilled, isGiven, dataSource, tableMain}
@@ -54,7 +55,7 @@ passed-uncut Protected t = refl
 -- a source that can be read, and gives a whole page
 abbrev OnChip : Geometry → Source → Type 0
 OnChip g (given main) = Unit {0}
-OnChip g (kept old) = old < g .blocks
+OnChip g (kept old form) = old < g .blocks
 
 record Sound (g : Geometry) (array : List ℕ) (n : ℕ) (source : Source) : Type 0 where
   on-chip : OnChip g source
@@ -84,9 +85,9 @@ table-sound g v array invalid n h =
     }
 
 -- a data copy's page
-data-sound : (g : Geometry) → Valid g → (array bytes : List ℕ) (old first count n : ℕ) → length array ≡ chipSize g → length bytes ≡ count * g .main → n < g .pages → Sound g array n (dataSource g old first count bytes n)
+data-sound : (g : Geometry) → Valid g → (array bytes : List ℕ) (old form first count n : ℕ) → length array ≡ chipSize g → length bytes ≡ count * g .main → n < g .pages → Sound g array n (dataSource g old form first count bytes n)
 unfolding mainOf dataSource
-data-sound g v array bytes old first count n h long below =
+data-sound g v array bytes old form first count n h long below =
     cases (isGiven first count n)
     (λ t.
     rw t
@@ -98,14 +99,14 @@ data-sound g v array bytes old first count n h long below =
     cases (ltb old (g .blocks))
     (λ u.
     let o = ltb-true old (g .blocks) u in
-    rw (t, u) (record { on-chip = o; main-long = length-take-le (g .main) (pageIn g (blockIn g array old) n) (omega (arith, page-long g v array h old o n below)) }))
+    rw (t, u) (record { on-chip = o; main-long = length-formed form n (mainIn g (blockIn g array old) n) ∙ length-take-le (g .main) (pageIn g (blockIn g array old) n) (omega (arith, page-long g v array h old o n below)) }))
     (λ u. rw (t, u) (record { on-chip = tt; main-long = length-replicate {A = ℕ} (g .main) 255 })))
 
-source-sound : (g : Geometry) → Valid g → (array invalid bytes : List ℕ) (c : Cursor) → length array ≡ chipSize g → length invalid ≡ 512 → Fits g (length bytes) c → Sound g array (c .page) (sourceOf g c invalid bytes (c .page))
+source-sound : (g : Geometry) → Valid g → (array invalid bytes : List ℕ) (c : Cursor) (form : ℕ) → length array ≡ chipSize g → length invalid ≡ 512 → Fits g (length bytes) c → Sound g array (c .page) (sourceOf g c form invalid bytes (c .page))
 unfolding sourceOf
-source-sound g v array invalid bytes c h i f =
+source-sound g v array invalid bytes c form h i f =
     cases (eqb (c .phase) 0)
-    (λ t. rw t (data-sound g v array bytes (c .old) (c .first) (c .count) (c .page) h (f .bytes-long) (f .page-below)))
+    (λ t. rw t (data-sound g v array bytes (c .old) form (c .first) (c .count) (c .page) h (f .bytes-long) (f .page-below)))
     (λ t. rw t (table-sound g v array invalid (c .page) i))
 
 copy-long : (g : Geometry) → Valid g → (c : Copy) (n : ℕ) (main : List ℕ) → length main ≡ g .main → length (copyPage g c n main) ≡ pageSize g
@@ -131,7 +132,7 @@ module _ (g : Geometry) (mask fates fates' : List ℕ) (p p' : Progress) (t : is
     main-alike : (source : Source) → OnChip g source → isCut (mainRead s n source p .outcome) ≡ false → isCut (mainRead s' n source p' .outcome) ≡ false → Matched g mask fates fates' p p' (mainRead s n source p) (mainRead s' n source p')
     unfolding mainRead
     main-alike (given main) o f f' = matched-still g mask fates fates' p p' (sym (is-passed (p .outcome) t ∙ sym (is-passed (p' .outcome) t'))) a
-    main-alike (kept old) o f f' =
+    main-alike (kept old form) o f f' =
         let v = a .called .is-valid in
         read-on-alike g mask fates fates' p p' t t' a (rowOf g old n) 0 (g .main) (row-below g v old n o below) (omega (arith, v .main-least)) (omega arith) f f'
 
@@ -139,7 +140,7 @@ module _ (g : Geometry) (mask fates fates' : List ℕ) (p p' : Progress) (t : is
     main-history : (source : Source) → OnChip g source → mainRead s n source p .line .chip .history ≡ p .line .chip .history
     unfolding mainRead readEnd
     main-history (given main) o = refl
-    main-history (kept old) o =
+    main-history (kept old form) o =
         let v = a .called .is-valid in
         read-comes s p t (rowOf g old n) 0 (g .main) (record { called = a .called; row-below = row-below g v old n o below; column-below = omega (arith, v .main-least); within = omega arith }) .history-is
 
@@ -180,11 +181,11 @@ module _ (g : Geometry) (mask fates fates' : List ℕ) (p p' : Progress) (t : is
       ))
 
   -- the erase or the page that is due; the page after it is in order
-  pub performed-alike : (c : Cursor) (invalid bytes : List ℕ) → Fits g (length bytes) c → 0 < c .step → length invalid ≡ 512 → (c .step ≡ 2 → getD (p .line .chip .history) (c .block) 0 ≤ c .page)
-      → isCut (performed s c invalid bytes p .outcome) ≡ false → isCut (performed s' c invalid bytes p' .outcome) ≡ false
-      → Matched g mask fates fates' p p' (performed s c invalid bytes p) (performed s' c invalid bytes p') × (isPassed (performed s c invalid bytes p .outcome) ≡ true → getD (performed s c invalid bytes p .line .chip .history) (c .block) 0 ≤ pageAfter c)
+  pub performed-alike : (c : Cursor) (form : ℕ) (invalid bytes : List ℕ) → Fits g (length bytes) c → 0 < c .step → length invalid ≡ 512 → (c .step ≡ 2 → getD (p .line .chip .history) (c .block) 0 ≤ c .page)
+      → isCut (performed s c form invalid bytes p .outcome) ≡ false → isCut (performed s' c form invalid bytes p' .outcome) ≡ false
+      → Matched g mask fates fates' p p' (performed s c form invalid bytes p) (performed s' c form invalid bytes p') × (isPassed (performed s c form invalid bytes p .outcome) ≡ true → getD (performed s c form invalid bytes p .line .chip .history) (c .block) 0 ≤ pageAfter c)
   unfolding performed pageAfter
-  performed-alike c invalid bytes fits due i order f f' =
+  performed-alike c form invalid bytes fits due i order f f' =
       let on = fits .block-below due in
       cases (eqb (c .step) 1)
       (λ x.
@@ -196,8 +197,8 @@ module _ (g : Geometry) (mask fates fates' : List ℕ) (p p' : Progress) (t : is
       (λ x.
       let two : c .step ≡ 2 = omega (arith, due, fits .step-most, eqb-false (c .step) 1 x) in
       rw x
-      (page-alike (c .block) (c .page) (copyOf c) (sourceOf g c invalid bytes (c .page)) on (fits .page-below) (order two)
-      (source-sound g (a .called .is-valid) (p .line .chip .array) invalid bytes c (a .called .array-long) i fits)
+      (page-alike (c .block) (c .page) (copyOf c) (sourceOf g c form invalid bytes (c .page)) on (fits .page-below) (order two)
+      (source-sound g (a .called .is-valid) (p .line .chip .array) invalid bytes c form (a .called .array-long) i fits)
       (rw x at f) (rw x at f')))
 
   -- with as many cycles left, cut or not: the outcome is the same
@@ -205,7 +206,7 @@ module _ (g : Geometry) (mask fates fates' : List ℕ) (p p' : Progress) (t : is
     main-same : (n : ℕ) → n < g .pages → (source : Source) → OnChip g source → mainRead s' n source p' .outcome ≡ mainRead s n source p .outcome
     unfolding mainRead
     main-same n below (given main) o = is-passed (p' .outcome) t' ∙ sym (is-passed (p .outcome) t)
-    main-same n below (kept old) o =
+    main-same n below (kept old form) o =
         let v = a .called .is-valid in
         read-on-same g mask fates fates' p p' t t' a (rowOf g old n) 0 (g .main) (row-below g v old n o below) (omega (arith, v .main-least)) (omega arith) same
 
@@ -230,15 +231,15 @@ module _ (g : Geometry) (mask fates fates' : List ℕ) (p p' : Progress) (t : is
         ap (λ (x : Progress). x .outcome) (program-stopped s' block n bytes' q' (ap isPassed told ∙ u)) ∙ told
         ∙ sym (ap (λ (x : Progress). x .outcome) (program-stopped s block n bytes q u)))
 
-    pub performed-same : (c : Cursor) (invalid bytes : List ℕ) → Fits g (length bytes) c → 0 < c .step → length invalid ≡ 512 → (c .step ≡ 2 → getD (p .line .chip .history) (c .block) 0 ≤ c .page)
-        → performed s' c invalid bytes p' .outcome ≡ performed s c invalid bytes p .outcome
+    pub performed-same : (c : Cursor) (form : ℕ) (invalid bytes : List ℕ) → Fits g (length bytes) c → 0 < c .step → length invalid ≡ 512 → (c .step ≡ 2 → getD (p .line .chip .history) (c .block) 0 ≤ c .page)
+        → performed s' c form invalid bytes p' .outcome ≡ performed s c form invalid bytes p .outcome
     unfolding performed
-    performed-same c invalid bytes fits due i order =
+    performed-same c form invalid bytes fits due i order =
         let on = fits .block-below due in
         cases (eqb (c .step) 1)
         (λ x. rw x (erase-same g mask fates fates' p p' t t' a (c .block) on same))
         (λ x.
         let two : c .step ≡ 2 = omega (arith, due, fits .step-most, eqb-false (c .step) 1 x) in
         rw x
-        (page-same (c .block) (c .page) (copyOf c) (sourceOf g c invalid bytes (c .page)) on (fits .page-below) (order two)
-        (source-sound g (a .called .is-valid) (p .line .chip .array) invalid bytes c (a .called .array-long) i fits)))
+        (page-same (c .block) (c .page) (copyOf c) (sourceOf g c form invalid bytes (c .page)) on (fits .page-below) (order two)
+        (source-sound g (a .called .is-valid) (p .line .chip .array) invalid bytes c form (a .called .array-long) i fits)))

@@ -17,14 +17,17 @@ use Rattle.bus_polling.specs.Polling.{waiting, polls, outcomeOf, endedAs}
 use Rattle.bus_polling.specs.Outcomes.{isPassed, isFailed, isSilent, isCut, isProtected}
 use Rattle.bus_sequences.specs.Cycles.{readCycles, readOutcome, putOut, readOutputs}
 use Rattle.operations.specs.Trace.{startedBy}
+use Rattle.whitening.specs.Stream.{shifted, stepped, bitsGiven, bytesGiven}
+use Rattle.whitening.specs.Whitened.{xored}
 use Rattle.pages.specs.Check.{zeroBits}
-use Rattle.pages.specs.Layout.{numberWidth, isDataKind, isTableKind, bytesOf, numberOf, labelBytes, encoded, kindOf}
+use Rattle.pages.specs.Layout.{dataKind, numberWidth, isDataKind, isTableKind, bytesOf, numberOf, labelBytes, encoded, kindOf, isWhiteKind}
 use Rattle.copies.specs.Table as table
 use Rattle.state_choose.specs.Choose.{permitted, searchAfter}
 use Rattle.state.specs.State.{copyBits}
 use Rattle.progress.specs.Progress.{readOn}
 use Rattle.progress.specs.Steps.{eraseOn, programOn}
 use Rattle.request.specs.Call.{stopAnswer}
+use Rattle.copies.specs.Blocks.{formed}
 use Rattle.fill.specs.Fill.{mainOf, mainRead, pageFilled, tableMain, dataSource, isGiven}
 use Rattle.fill_cursor.specs.Cursor.{firstCursor, onBlock, prepared, pageAfter, filledWhole, unfilled, afterAction, withdrawn, settled, programs, isOpen, weight, actionsMost}
 use Rattle.fill_driver.specs.Driver.{copyOf, sourceOf, performed, gone, acted, ran}
@@ -43,7 +46,7 @@ chip = device poweredOn (replicate 768 255) (replicate 48 255) (replicate 4 0)
 abbrev opened : OpenState
 opened =
     openState
-    (record { status = 1; table = 0; last = 1; number = 2; marked = replicate 512 0; invalid = replicate 512 0; map = set (replicate 4096 65535) 0 1 })
+    (record { status = 1; table = 0; last = 1; number = 2; marked = replicate 512 0; invalid = replicate 512 0; map = set (replicate 4096 65535) 0 1; kinds = set (replicate 4096 0) 0 dataKind })
     (wordsOf (firstCursor 0 0 0 1 1)) (replicate 4096 165)
 
 -- the page programs of an advance with these fate words, whose mask lets nothing through
@@ -53,7 +56,7 @@ sentPrograms fates most =
 
 -- none; two, of which one is kept and read before; one after an erase that failed; one that failed; all four, and no more where the write finishes
 counted : (sentPrograms [] 0 ≡ 0) × (sentPrograms [] 2 ≡ 2) × (sentPrograms (65536 ∷ []) 1 ≡ 1) × (sentPrograms (0 ∷ 65536 ∷ []) 1 ≡ 1) × (sentPrograms [] 9 ≡ 4)
-unfolding programsIn acted ran performed copyOf sourceOf prepared onBlock pageAfter filledWhole unfilled afterAction withdrawn settled programs isOpen weight actionsMost gone ones begun statusMode readMode plainCommand addressFits latched addressed fateWord nextFate started statusByte fitting readStarted programStarted eraseStarted completed isConfirm confirmed confirmable commanded dataTaken dataGiven dataByte finished statusRead exec programmed weakened raised put mayGo cutAfter send byteOut sendAll sent goesOn waiting polls outcomeOf isPassed endedAs readCycles readOutcome putOut readOutputs startedBy readOn stopAnswer isProtected isSilent isCut bitAt withBit zeroBits numberWidth bytesOf numberOf labelBytes encoded kindOf eraseOn programOn isFailed mainOf mainRead pageFilled tableMain permitted searchAfter table.tablePage isDataKind isTableKind copyBits dataSource isGiven
+unfolding programsIn acted ran performed copyOf sourceOf prepared onBlock pageAfter filledWhole unfilled afterAction withdrawn settled programs isOpen weight actionsMost gone ones begun statusMode readMode plainCommand addressFits latched addressed fateWord nextFate started statusByte fitting readStarted programStarted eraseStarted completed isConfirm confirmed confirmable commanded dataTaken dataGiven dataByte finished statusRead exec programmed weakened raised put mayGo cutAfter send byteOut sendAll sent goesOn waiting polls outcomeOf isPassed endedAs readCycles readOutcome putOut readOutputs startedBy readOn stopAnswer isProtected isSilent isCut bitAt withBit zeroBits numberWidth bytesOf numberOf labelBytes encoded kindOf eraseOn programOn isFailed mainOf formed isWhiteKind mainRead pageFilled tableMain permitted searchAfter table.tablePage isDataKind isTableKind copyBits dataSource isGiven xored bytesGiven bitsGiven stepped shifted
 counted = (refl, refl, refl, refl, refl)
 
 -- an advance that was answered 0, one that was refused, each on a chip that took two fate words

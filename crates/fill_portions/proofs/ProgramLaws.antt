@@ -17,7 +17,7 @@ use Rattle.request.specs.Call.{resultOf, sentIn, startedIn, sizedFor, callLine}
 use Rattle.fill_cursor.specs.Cursor.{running, afterDue, programs, isOpen}
 use Rattle.fill_cursor.specs.declared.Running.{Running}
 use Rattle.fill_cursor.proofs.FitLaws.{by-after}
-use Rattle.fill_driver.specs.Driver.{performed, Ran, ranTo, gone, acted, runFor}
+use Rattle.fill_driver.specs.Driver.{formNow, performed, Ran, ranTo, gone, acted, runFor}
 use Rattle.fill_driver.proofs.RunLaws.{open-left, open-phase, programs-most, acted-prepared, acted-performed, no-programs}
 use Rattle.fill_laws.proofs.PortionLaws.{over-so}
 use Rattle.open_write.specs.Open.{OpenState, cursorOf}
@@ -49,7 +49,7 @@ module _ (s : Setting) (bytes : List ℕ) where
     x = acted s bytes r p
 
     abbrev due : Progress
-    due = performed s (r .cursor) (r .state .invalid) bytes p
+    due = performed s (r .cursor) (formNow r) (r .state .invalid) bytes p
 
     acted-few : r .cursor .step ≤ 2 → programsIn (x .progress .started) ≤ programsIn (p .started) + programs (r .cursor)
     acted-few most =
@@ -57,7 +57,7 @@ module _ (s : Setting) (bytes : List ℕ) where
         (λ t. subst (λ (y : Ran). programsIn (y .progress .started) ≤ programsIn (p .started) + programs (r .cursor)) (sym (acted-prepared s bytes r p (eqb-true (r .cursor .step) 0 t))) (omega arith))
         (λ t.
         let some = eqb-false (r .cursor .step) 0 t in
-        subst (λ (y : Ran). programsIn (y .progress .started) ≤ programsIn (p .started) + programs (r .cursor)) (sym (acted-performed s bytes r p some)) (performed-few s (r .cursor) (r .state .invalid) bytes p most some))
+        subst (λ (y : Ran). programsIn (y .progress .started) ≤ programsIn (p .started) + programs (r .cursor)) (sym (acted-performed s bytes r p some)) (performed-few s (r .cursor) (formNow r) (r .state .invalid) bytes p most some))
 
     module _ (passed : isPassed (p .outcome) ≡ true) (goes : x .running .cursor .phase < 2) where
       known : (r .cursor .step ≡ 0 → ⊥) → told (due .outcome) ≡ true
@@ -80,13 +80,13 @@ module _ (s : Setting) (bytes : List ℕ) where
           (λ t.
           let some = eqb-false (r .cursor .step) 0 t in
           subst (λ (y : Ran). programsIn (y .progress .started) ≡ programsIn (p .started) + programs (r .cursor)) (sym (acted-performed s bytes r p some))
-          (performed-one s (r .cursor) (r .state .invalid) bytes p passed (known some) most some))
+          (performed-one s (r .cursor) (formNow r) (r .state .invalid) bytes p passed (known some) most some))
 
       acted-last : r .cursor .step ≡ 2 → ProgramLast s (x .progress .cycles) (x .progress .started)
       acted-last two =
           let some : r .cursor .step ≡ 0 → ⊥ = λ z. omega (arith, z, two) in
           subst (λ (y : Ran). ProgramLast s (y .progress .cycles) (y .progress .started)) (sym (acted-performed s bytes r p some))
-          (performed-last s (r .cursor) (r .state .invalid) bytes p passed (known some) two)
+          (performed-last s (r .cursor) (formNow r) (r .state .invalid) bytes p passed (known some) two)
 
   -- a run from p and r with so many page programs left, which comes to y
   record Counts (left : ℕ) (r : Running) (p : Progress) (y : Ran) : Type 0 where

@@ -22,7 +22,7 @@ use Rattle.fill_cursor.specs.Cursor.{running, prepared, unfilled, afterAction, 
 use Rattle.fill_cursor.specs.declared.Cursor.{Cursor}
 use Rattle.fill_cursor.specs.declared.Running.{Running}
 use Rattle.fill_cursor.proofs.FitLaws.{Goes, prepared-goes, after-goes, by-prepared, by-after}
-use Rattle.fill_driver.specs.Driver.{performed, Ran, ranTo, gone, goneOn, acted, ran}
+use Rattle.fill_driver.specs.Driver.{formNow, performed, Ran, ranTo, gone, goneOn, acted, ran}
 use Rattle.fill_driver.proofs.RunLaws.{gone-on, acted-prepared, acted-performed, ran-acted, ran-over}
 use Rattle.fill_laws.proofs.PortionLaws.{over-ended}
 use Rattle.fill_laws.proofs.TableLaws.{length-with}
@@ -150,16 +150,16 @@ module _ (g : Geometry) (mask fates fates' bytes : List ℕ) where
 
     module _ (some : c .step ≡ 0 → ⊥) where
       abbrev q : Progress
-      q = performed s c (r .state .invalid) bytes p
+      q = performed s c (formNow r) (r .state .invalid) bytes p
 
       abbrev q' : Progress
-      q' = performed s' c (r .state .invalid) bytes p'
+      q' = performed s' c (formNow r) (r .state .invalid) bytes p'
 
       due-alike : isCut (q .outcome) ≡ false → isCut (q' .outcome) ≡ false → To p p' (ranTo (goneOn q) (afterDue (g .pages) r (q .outcome))) (ranTo (goneOn q') (afterDue (g .pages) r (q' .outcome)))
       unfolding isPassed
       due-alike f f' =
           let due : 0 < c .step = omega (arith, some) in
-          let d = performed-alike g mask fates fates' p p' t t' a c (r .state .invalid) bytes (w .goes .fits) due (w .shape .invalid-long) (w .in-order) f f' in
+          let d = performed-alike g mask fates fates' p p' t t' a c (formNow r) (r .state .invalid) bytes (w .goes .fits) due (w .shape .invalid-long) (w .in-order) f f' in
           let after = after-goes g (length bytes) c (r .state) some-pages (w .goes .fits) (w .goes .last-below) due (q .outcome) in
           record {
             same-running = ap (afterDue (g .pages) r) (d .0 .same-outcome);
@@ -203,7 +203,7 @@ module _ (g : Geometry) (mask fates fates' bytes : List ℕ) where
         (λ z.
         let some = eqb-false (c .step) 0 z in
         ap (λ (x : Ran). x .running) (acted-performed s' bytes r p' some)
-        ∙ ap (afterDue (g .pages) r) (performed-same g mask fates fates' p p' t t' a same c (r .state .invalid) bytes (w .goes .fits) (omega (arith, some)) (w .shape .invalid-long) (w .in-order))
+        ∙ ap (afterDue (g .pages) r) (performed-same g mask fates fates' p p' t t' a same c (formNow r) (r .state .invalid) bytes (w .goes .fits) (omega (arith, some)) (w .shape .invalid-long) (w .in-order))
         ∙ sym (ap (λ (x : Ran). x .running) (acted-performed s bytes r p some)))
 
   -- so many actions, with so many page programs

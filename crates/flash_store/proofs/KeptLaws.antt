@@ -7,15 +7,15 @@ use native.Mathlib.Omega.{arith}
 use borrow.Author.Tests.{eq-eqb, ne-eqb}
 use borrow.Table.Steps.{cases}
 use lib.Dec.{eqb}
-use lib.ListN.{length, take, drop, take-append-drop}
-use lib.Seq.{drop-drop, length-take-le}
+use lib.ListN.{length, take, drop, take-append-drop, length-drop}
+use lib.Seq.{drop-drop, take-all, length-take-le}
 use Rattle.cells.specs.Bytes.{Bytes}
 use Rattle.cells.specs.Part.{part}
 use Rattle.cells.proofs.PartLaws.{length-part, bytes-part}
 use Rattle.pages.specs.Layout.{bytesOf, numberOf}
 use Rattle.chip_interface.specs.declared.Interface.{Interface}
 use Rattle.chip_array.specs.Device.{Setting, device}
-use Rattle.c_state.specs.StateBytes.{stateLength}
+use Rattle.c_state.specs.StateBytes.{stateLength, bytesState}
 use Rattle.c_state.proofs.RoundLaws.{bytesOf-numberOf, store-loaded}
 use Rattle.c_open.specs.OpenBytes.{openLength, writeBytes, openBytes, bytesWrite, bytesOpen}
 use Rattle.request.specs.Call.{resultOf, sizedFor}
@@ -42,7 +42,7 @@ use Rattle.flash_store.specs.Opened.{openingLent, advanceHanded, advanci
 
 -- bytes of a state that are loaded and stored are the same bytes
 module _ (xs : List ℕ) (long : length xs ≡ openLength) (bytes : Bytes xs) where
-  word : (k : ℕ) → k + 8 ≤ 13424 → bytesOf 8 (numberOf (part k 8 xs)) ++ drop (k + 8) xs ≡ drop k xs
+  word : (k : ℕ) → k + 8 ≤ openLength → bytesOf 8 (numberOf (part k 8 xs)) ++ drop (k + 8) xs ≡ drop k xs
   word k room =
       let eight : length (part k 8 xs) ≡ 8 = length-part k 8 xs (omega (arith, room, long)) in
       ap₂ _++_ (ap (λ (n : ℕ). bytesOf n (numberOf (part k 8 xs))) (sym eight) ∙ bytesOf-numberOf (part k 8 xs) (bytes-part k 8 xs bytes)) (sym (drop-drop 8 k xs))
@@ -64,11 +64,17 @@ module _ (xs : List ℕ) (long : length xs ≡ openLength) (bytes : Bytes xs) wh
       ∙ ap (λ (r : List ℕ). bytesOf 8 (numberOf (part 9248 8 xs)) ++ r) (word 9256 (omega arith))
       ∙ word 9248 (omega arith)
 
+  -- the page and the kinds are what follows the words
+  last : part 9328 4096 xs ++ part 13424 4096 xs ≡ drop 9328 xs
+  last =
+      ap (λ (r : List ℕ). part 9328 4096 xs ++ r) (take-all 4096 (drop 13424 xs) (omega (arith, length-drop 13424 xs, long)) ∙ sym (drop-drop 4096 9328 xs))
+      ∙ take-append-drop 4096 (drop 9328 xs)
+
   pub stored-again : openBytes (bytesOpen xs) ≡ xs
-  unfolding openBytes
+  unfolding openBytes bytesState
   stored-again =
       let base : length (take stateLength xs) ≡ stateLength = length-take-le stateLength xs (omega (arith, long)) in
-      ap₂ _++_ (store-loaded (take stateLength xs) base (bytes-part 0 stateLength xs bytes)) words ∙ take-append-drop stateLength xs
+      ap₂ _++_ (store-loaded (take stateLength xs) (part 13424 4096 xs) base (bytes-part 0 stateLength xs bytes)) (ap (λ (r : List ℕ). writeBytes (bytesWrite xs) ++ r) last ∙ words) ∙ take-append-drop stateLength xs
 
 -- what was lent, with no cycle sent
 abbrev pub noneSent : Lent → Lent

@@ -4,17 +4,16 @@ use mathlib.Core.Bool.{Bool, true, false, false≢true}
 use mathlib.Core.List.{List, [], _∷_}
 use mathlib.Core.Path.{_≡_, sym, ap, ap₂, _∙_}
 use borrow.Author.Tests.{eq-eqb, ne-eqb}
-use lib.ListN.{length, take}
+use lib.ListN.{length}
 use Rattle.chip_interface.specs.declared.Interface.{Interface}
 use Rattle.chip_array.specs.Device.{Device, device}
 use Rattle.state.specs.declared.State.{State}
-use Rattle.c_state.specs.StateBytes.{stateLength, bytesState}
 use Rattle.request.specs.Call.{Result}
 use Rattle.open_write.specs.declared.OpenWrite.{OpenWrite}
 use Rattle.open_write.specs.Open.{OpenState, openState}
 use Rattle.open_write.specs.Requests.{OpenResult, leaving, stops, beside}
 use Rattle.open_journal.specs.Requests.{OpenTold, openTold}
-use Rattle.c_open.specs.OpenBytes.{bytesWrite, bytesPage, bytesOpen}
+use Rattle.c_open.specs.OpenBytes.{bytesBase, bytesWrite, bytesPage, bytesOpen}
 use Rattle.c_buffers.specs.Buffers.{interfaceOf, Lent, stateOf, chipOf, rightly, Handed, handed, putBack, PassedOn}
 use Rattle.flash_store.specs.Ledger.{toldHanded, toldLent}
 
@@ -29,7 +28,7 @@ module _ (l : Lent) (r : OpenTold) (word : List ℕ) where
   word-wrongly t x = (rw (t, ne-eqb (length word) 1 x), λ e. absurd (x e))
 
 -- a call with the right lengths, from what its buffers hold, hands back what its request does
-module _ (l : Lent) (t : rightly l ≡ true) (st : State) (w : OpenWrite) (i : Interface) (e : st ≡ bytesState (take stateLength (l .state))) (f : w ≡ bytesWrite (l .state)) (g : i ≡ interfaceOf (l .interface)) where
+module _ (l : Lent) (t : rightly l ≡ true) (st : State) (w : OpenWrite) (i : Interface) (e : st ≡ bytesBase (l .state)) (f : w ≡ bytesWrite (l .state)) (g : i ≡ interfaceOf (l .interface)) where
   pub told-handed : (request : Device → OpenState → OpenTold) (word after : List ℕ) (h : Handed) (q : OpenResult) (k : ℕ) (bytes : List ℕ) → length word ≡ 1
       → openTold q k ≡ request (device i (l .array) (l .register) (l .history)) (openState st w (bytesPage (l .state))) → h ≡ putBack q → bytesOpen bytes ≡ q .state → after ≡ k ∷ []
       → (toldHanded h after ≡ toldLent l (request (chipOf l) (stateOf l)) word) × (length word ≡ 1 → PassedOn l (request (chipOf l) (stateOf l) .returned) bytes)

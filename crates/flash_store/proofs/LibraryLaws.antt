@@ -5,12 +5,12 @@ use mathlib.Core.List.{List}
 use mathlib.Core.Path.{_≡_, refl, sym, ap, _∙_}
 use native.Mathlib.Omega.{arith}
 use borrow.Author.Tests.{eq-eqb}
-use lib.ListN.{length, take, length-drop}
+use lib.ListN.{length}
+use Rattle.cells.proofs.PartLaws.{length-part}
 use Rattle.geometry.specs.declared.Geometry.{Geometry}
 use Rattle.chip_interface.specs.declared.Interface.{Interface}
 use Rattle.chip_array.specs.Device.{Device, Setting, device}
 use Rattle.state.specs.declared.State.{State}
-use Rattle.c_state.specs.StateBytes.{stateLength, bytesState}
 use Rattle.request.specs.Call.{Result, sizedFor}
 use Rattle.read_page.specs.Fetching.{readResult}
 use Rattle.read.specs.Reading.{readingPage}
@@ -18,7 +18,7 @@ use Rattle.open_write.specs.declared.OpenWrite.{OpenWrite}
 use Rattle.open_write.specs.Open.{OpenState, openState, openFits}
 use Rattle.open_write.specs.Requests.{OpenResult, openResult, leaving, stops, beside, OpenRead, openRead, readBeside, readingOpen, openRefusal}
 use Rattle.open_write.proofs.BesideLaws.{read-beside, read-held}
-use Rattle.c_open.specs.OpenBytes.{bytesWrite, bytesPage, bytesOpen}
+use Rattle.c_open.specs.OpenBytes.{bytesBase, bytesWrite, bytesPage, bytesOpen}
 use Rattle.c_buffers.specs.Buffers.{interfaceOf, Lent, stateOf, chipOf, rightly, Handed, handed, putBack, answered, PassedOn}
 use Rattle.c_buffers.proofs.BufferLaws.{right-long}
 use Rattle.flash_store.specs.Library.{readPage, readHanded, readingLent}
@@ -41,7 +41,7 @@ turned true = refl
 turned false = refl
 
 -- a call with the right lengths, from what its buffers hold
-module _ (l : Lent) (t : rightly l ≡ true) (st : State) (w : OpenWrite) (i : Interface) (e : st ≡ bytesState (take stateLength (l .state))) (f : w ≡ bytesWrite (l .state)) (g : i ≡ interfaceOf (l .interface)) where
+module _ (l : Lent) (t : rightly l ≡ true) (st : State) (w : OpenWrite) (i : Interface) (e : st ≡ bytesBase (l .state)) (f : w ≡ bytesWrite (l .state)) (g : i ≡ interfaceOf (l .interface)) where
   abbrev x : OpenState
   x = openState st w (bytesPage (l .state))
 
@@ -89,4 +89,4 @@ pub idle-inside : (l : Lent) → rightly l ≡ true → (g : Geometry) (st : Sta
 unfolding openFits
 idle-inside l t g st w none =
     let long = right-long (length (l .state)) (length (l .interface)) (length (l .sent)) t .state-long in
-    rw (eq-eqb (length (bytesPage (l .state))) 4096 (length-drop 9328 (l .state) ∙ omega (arith, long)), eq-eqb (w .opened) 0 none)
+    rw (eq-eqb (length (bytesPage (l .state))) 4096 (length-part 9328 4096 (l .state) (omega (arith, long))), eq-eqb (w .opened) 0 none)

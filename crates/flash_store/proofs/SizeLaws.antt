@@ -4,13 +4,12 @@ use mathlib.Core.Bool.{Bool, true, false, false≢true}
 use mathlib.Core.List.{List}
 use mathlib.Core.Path.{_≡_, sym, ap, ap₂, _∙_}
 use borrow.Author.Tests.{eq-eqb, ne-eqb}
-use lib.ListN.{length, take}
+use lib.ListN.{length}
 use Rattle.chip_interface.specs.declared.Interface.{Interface}
 use Rattle.chip_array.specs.Device.{device}
 use Rattle.parameters.specs.declared.Sizes.{Sizes}
 use Rattle.state.specs.declared.State.{State}
-use Rattle.c_state.specs.StateBytes.{stateLength, bytesState}
-use Rattle.c_open.specs.OpenBytes.{bytesWrite, bytesPage, bytesOpen}
+use Rattle.c_open.specs.OpenBytes.{bytesBase, bytesWrite, bytesPage, bytesOpen}
 use Rattle.open_write.specs.declared.OpenWrite.{OpenWrite}
 use Rattle.open_write.specs.Open.{OpenState, openState}
 use Rattle.open_write.specs.Requests.{leaving, stops, beside, OpenIdentified, openIdentified, openIdentifyRequest, identifyingOpen}
@@ -32,7 +31,7 @@ module _ (mask fates : List ℕ) (l : Lent) (n : ℕ) (page : List ℕ) (logical
   sizes-wrongly t x = (rw (t, ne-eqb (length sizes) 4 x), λ e. absurd (x e))
 
   -- the call on the state and the interface in the buffers
-  module _ (t : rightly l ≡ true) (four : length sizes ≡ 4) (st : State) (w : OpenWrite) (i : Interface) (e : st ≡ bytesState (take stateLength (l .state))) (f : w ≡ bytesWrite (l .state)) (g : i ≡ interfaceOf (l .interface)) where
+  module _ (t : rightly l ≡ true) (four : length sizes ≡ 4) (st : State) (w : OpenWrite) (i : Interface) (e : st ≡ bytesBase (l .state)) (f : w ≡ bytesWrite (l .state)) (g : i ≡ interfaceOf (l .interface)) where
     abbrev x : OpenState
     x = openState st w (bytesPage (l .state))
 

@@ -47,7 +47,7 @@ pub extern "C" fn flash_store_open_write(
     let ended = open_requests::open(
         before,
         write,
-        &mut state[c_open::PAGE..c_open::LENGTH],
+        &mut state[c_open::PAGE..c_open::KINDS],
         g,
         start,
         array,
@@ -107,7 +107,7 @@ pub extern "C" fn flash_store_advance(
     let ended = open_requests::advance(
         before,
         write,
-        &mut state[c_open::PAGE..c_open::LENGTH],
+        &mut state[c_open::PAGE..c_open::KINDS],
         g,
         start,
         array,

@@ -26,7 +26,7 @@ use Rattle.format_erase.specs.Round.{erasedTo}
 -- at block 0; the table is the old one, if its list is carried over, and no logical block has a copy
 unfoldable pub firstState : Geometry → List ℕ → List ℕ → ℕ → ℕ → State
 firstState g marked invalid greatest old =
-    mountedWith greatest old (g .blocks - 1) marked invalid (replicate 4096 none)
+    mountedWith greatest old (g .blocks - 1) marked invalid (replicate 4096 none) (replicate 4096 0)
 
 -- under N + 2 blocks are unmarked and valid
 unfoldable pub tooFew : Geometry → List ℕ → List ℕ → Bool

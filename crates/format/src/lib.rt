@@ -40,7 +40,15 @@ fn first_state(
     ensures { λ r. ⌜ r ≡ firstState g marked invalid greatest old ⌝ }
 {
     let last = g.blocks - 1;
-    State::mounted_above(greatest, old, last, marked, invalid, [65535; 4096])
+    State::mounted_above(
+        greatest,
+        old,
+        last,
+        marked,
+        invalid,
+        [65535; 4096],
+        [0; 4096],
+    )
 }
 
 // Table fills until one passes.

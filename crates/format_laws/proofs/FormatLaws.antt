@@ -31,7 +31,7 @@ use Rattle.state_choose.specs.Choose.{permitted, countPermitted}
 use Rattle.state.specs.State.{blank, numberEnd, heldBits}
 use Rattle.state.proofs.NumberLaws.{mounted-told}
 use Rattle.state.specs.declared.State.{State}
-use Rattle.scan_found.specs.Contents.{entryOf, mapOf}
+use Rattle.scan_found.specs.Contents.{entryOf, mapOf, kindsOf}
 use Rattle.scan_found.specs.Found.{bitsAt, marksTo}
 use Rattle.request.specs.Call.{sizedFor, callLine, stopAnswer, statusAnswer, statusState}
 use Rattle.request.proofs.CallLaws.{sizes, stop-answer, stop-cut, stop-silent}
@@ -348,7 +348,8 @@ module _ (s : Setting) (v : Valid (s .geometry)) (mask-bytes : Bytes (s .mask)) 
           let number-is : t .state .number ≡ greatestBelow g after (g .blocks) = d .number-is ∙ sym (settled.greatest-is (d .settled)) in
           let invalid-is : t .state .invalid ≡ bitsAt g after (blockOf (currentTable g after)) = sym (settled.bitmap-back (d .settled)) ∙ ap (bitsAt g after) table-is in
           let map-is : t .state .map ≡ mapOf g after (blockOf (currentTable g after)) = d .map-same ∙ sym (settled.map-blank (d .settled)) ∙ ap (mapOf g after) table-is in
-          mounted-told (t .state) (d .status-same) number-is table-is last-is marked-is invalid-is map-is
+          let kinds-is : t .state .kinds ≡ kindsOf g after (blockOf (currentTable g after)) = d .kinds-same ∙ sym (settled.kinds-blank (d .settled)) ∙ ap (kindsOf g after) table-is in
+          mounted-told (t .state) (d .status-same) number-is table-is last-is marked-is invalid-is map-is kinds-is
 
       formats : Formatted g after (t .state)
       formats =

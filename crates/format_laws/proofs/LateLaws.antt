@@ -80,6 +80,7 @@ pub record LateDone (s : Setting) (carried : List ℕ) (st : State) (q : Progres
   pub last-is : next .last ≡ next .table
   pub marked-same : next .marked ≡ st .marked
   pub map-same : next .map ≡ st .map
+  pub kinds-same : next .kinds ≡ st .kinds
   pub marks : (b : ℕ) → b < s .geometry .blocks → isMarked (s .geometry) (blockOn s q b) ≡ bitAt (st .marked) b
   pub settled : Settled (s .geometry) (q .line .chip .array) (next .invalid) (next .table) former number
   pub former-whole : former < s .geometry .blocks → (i : ℕ) → i < s .geometry .pages → wholeIn (s .geometry) (blockOn s q former) i ≡ true
@@ -241,6 +242,7 @@ module _ (s : Setting) (mask-bytes : Bytes (s .mask)) (carried : List ℕ) (old 
               last-is = d .last-is;
               marked-same = d .marked-same;
               map-same = d .map-same;
+              kinds-same = d .kinds-same;
               marks = d .marks;
               settled = d .settled;
               former-whole = λ h. absurd (omega (arith, h, none z));
@@ -401,6 +403,7 @@ module _ (s : Setting) (mask-bytes : Bytes (s .mask)) (carried : List ℕ) (old 
               last-is = d .last-is;
               marked-same = d .marked-same;
               map-same = d .map-same;
+              kinds-same = d .kinds-same;
               marks = marks-passed;
               settled = settles;
               former-whole = λ h. absurd (omega (arith, h));
@@ -586,6 +589,7 @@ module _ (s : Setting) (mask-bytes : Bytes (s .mask)) (carried : List ℕ) (old 
             last-is = c .last-is;
             marked-same = c .marked-same ∙ marked-is;
             map-same = c .map-same ∙ d .map-same;
+            kinds-same = c .kinds-same ∙ d .kinds-same;
             marks = λ b h. c .marks b h ∙ ap (λ (x : List ℕ). bitAt x b) marked-is;
             settled = c .settled;
             former-whole = λ h i l. ap (λ (row : List ℕ). wholeIn g row i) table-still ∙ settled.table-whole (d .settled) i l;

@@ -18,17 +18,17 @@ use Rattle.bitmaps.specs.Bitmap.{bitAt}
 use Rattle.bitmaps.proofs.BitmapLaws.{Bitmap}
 use Rattle.copies.specs.Blocks.{blockIn, pageIn, wholeIn, isMarked, isComplete, isTable, isData, isCopyOf, greatestTo, hasNumber, greatest}
 use Rattle.copies.specs.Current as current
-use Rattle.copies.specs.Current.{currentTable, currentCopy, filledLast, numberAt, counts, unlisted, sharesNumber, clashesAt, clashes, mountAnswer, reading, greatestBelow}
+use Rattle.copies.specs.Current.{currentTable, currentCopy, filledLast, numberAt, counts, unlisted, sharesNumber, clashesAt, clashes, mountAnswer, reading, greatestBelow, kindAt}
 use Rattle.copies.specs.Pick.{nothing, at}
 use Rattle.copies.specs.Table.{lists}
 use Rattle.copies.proofs.PickLaws.{picked-is, none-below}
 use Rattle.copies.proofs.CompleteLaws.{complete-pages, table-complete, data-complete, copy-data}
 use Rattle.copies.proofs.NumberLaws.{greatest-least, greatest-in}
-use Rattle.scan_found.specs.Contents.{entryOf, mapOf}
+use Rattle.scan_found.specs.Contents.{entryOf, mapOf, kindsOf}
 use Rattle.scan_found.specs.Found.{bitsAt}
 use Rattle.fill.specs.Fill.{tableCopy, tableMain, copyPage}
 use Rattle.damage.proofs.CopyLaws.{erased-unwhole, erased-greatest}
-use Rattle.mount_laws.proofs.StateLaws.{mounts-by, map-told}
+use Rattle.mount_laws.proofs.StateLaws.{mounts-by, map-told, kinds-told}
 use Rattle.state.specs.State.{numberEnd}
 use Rattle.format_laws.proofs.TableBlockLaws as held
 
@@ -225,11 +225,16 @@ module _ {g : Geometry} {array invalid : List ℕ} {table former number : ℕ} (
   mounts-well =
       mounts-by g array table current-is (held.right-table g v invalid (r .invalid-bits) number (r .number-fits) (row table) (r .table-pages) (λ b. isMarked g (row b)) (r .apart)) (lists-invalid table (r .table-below) ∙ r .table-valid) no-clash
 
-  -- the state's map
+  -- the state's map, and its kinds
   pub map-blank : mapOf g array table ≡ replicate 4096 65535
   unfolding entryOf
   map-blank =
       map-told g array table (replicate 4096 65535) (length-replicate {A = ℕ} 4096 65535) (λ l h k. getD-replicate 4096 l 65535 0 k ∙ sym (ap entryOf (no-copy l))) (λ l h k. getD-replicate 4096 l 65535 0 k)
+
+  pub kinds-blank : kindsOf g array table ≡ replicate 4096 0
+  unfolding kindAt
+  kinds-blank =
+      kinds-told g array table (replicate 4096 0) (length-replicate {A = ℕ} 4096 0) (λ l h k. getD-replicate 4096 l 0 0 k ∙ sym (ap (kindAt g array) (no-copy l))) (λ l h k. getD-replicate 4096 l 0 0 k)
 
   pub reads-blank : (logical p : ℕ) → reading g array table logical p ≡ replicate (g .main) 255
   unfolding current.pageOf

@@ -17,16 +17,17 @@ use Rattle.cells.proofs.PartLaws.{length-put}
 use Rattle.cells.proofs.CellLaws.{bytes-append, bytes-take, bytes-replicate}
 use Rattle.bitmaps.specs.Bitmap.{bitAt, clearFrom, countBits, bitmapBytes}
 use Rattle.bitmaps.proofs.BitmapLaws.{Bitmap}
-use Rattle.pages.specs.Layout.{Label, allOnes, bytesOf, tableKind, isDataKind, isTableKind}
+use Rattle.pages.specs.Layout.{Label, allOnes, bytesOf, tableKind, isDataKind, isTableKind, isWhiteKind}
 use Rattle.pages.proofs.LayoutLaws.{bytes-bytesOf, length-bytesOf, allOnes-replicate, table-width}
 use Rattle.pages.proofs.LayoutLaws as kinds
 use Rattle.copies.specs.Blocks.{pageIn, mainIn, labelIn, wholeIn, numberIn, isMarked, isComplete, isTable, isData, anyTo, greatestTo}
 use Rattle.copies.specs.Table.{bitmapOf, tablePage, header, lists, rightFirst, rightPage, rightTo, rightTable}
+use Rattle.copies.proofs.FormLaws.{formed-plain}
 use Rattle.table.proofs.TableLaws.{table-right, valid-roomy, later-page, first-page}
 use Rattle.fill.specs.Fill.{tableCopy, tableMain, copyPage}
 use Rattle.state.specs.State.{numberEnd}
 use Rattle.damage.specs.Run.{Labelled}
-use Rattle.damage.proofs.CopyLaws.{copy-label, copy-main, copy-complete, copy-any, copy-greatest, copy-unmarked, copy-whole, copy-bytes}
+use Rattle.damage.proofs.CopyLaws.{copy-label, copy-stored, copy-complete, copy-any, copy-greatest, copy-unmarked, copy-whole, copy-bytes}
 use Rattle.mount_laws.proofs.StateLaws.{picked-clear}
 use Rattle.fill_tables.proofs.NumberLaws.{table-fits}
 
@@ -103,6 +104,11 @@ module _ (g : Geometry) (v : Valid g) (invalid : List ℕ) (bits : Bitmap (g .bl
       ∙ getD-replicate 512 (length (take k invalid) + (i - k)) 0 0 (omega (arith, long, h, all, ltb-false i k t))
       ∙ sym (bits .past i (ltb-false i k t))))
 
+-- a table's pages are stored as they are
+table-plain : isWhiteKind tableKind ≡ false
+unfolding isWhiteKind
+table-plain = refl
+
 -- a block with these pages
 module _ (g : Geometry) (v : Valid g) (invalid : List ℕ) (bits : Bitmap (g .blocks) invalid) (number : ℕ) (fits : number < numberEnd) (row : List ℕ) (same : (i : ℕ) → i < g .pages → pageIn g row i ≡ copyPage g (tableCopy number) i (tableMain g invalid i)) where
   main-long : (i : ℕ) → i < g .pages → length (tableMain g invalid i) ≡ g .main
@@ -140,7 +146,9 @@ module _ (g : Geometry) (v : Valid g) (invalid : List ℕ) (bits : Bitmap (g .bl
   table-greatest = copy-greatest g v (tableCopy number) labelled (tableMain g invalid) main-long main-bytes row same
 
   table-main : (i : ℕ) → i < g .pages → mainIn g row i ≡ tableMain g invalid i
-  table-main = copy-main g v (tableCopy number) labelled (tableMain g invalid) main-long main-bytes row same
+  table-main i h =
+      copy-stored g v (tableCopy number) labelled (tableMain g invalid) main-long main-bytes row same i h
+      ∙ formed-plain tableKind i (tableMain g invalid i) table-plain
 
   first-main : mainIn g row 0 ≡ tablePage (g .main) (g .blocks) (g .logical) invalid
   unfolding tableMain

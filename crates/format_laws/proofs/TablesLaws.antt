@@ -97,6 +97,7 @@ pub record Done (s : Setting) (carried held : List ℕ) (former : ℕ) (st : Sta
   pub last-is : next .last ≡ next .table
   pub marked-same : next .marked ≡ st .marked
   pub map-same : next .map ≡ st .map
+  pub kinds-same : next .kinds ≡ st .kinds
   pub marks : (b : ℕ) → b < s .geometry .blocks → isMarked (s .geometry) (blockOn s q b) ≡ bitAt (st .marked) b
   pub settled : Settled (s .geometry) (q .line .chip .array) (next .invalid) (next .table) former number
   pub erased : (b : ℕ) → b < s .geometry .blocks → bitAt (st .marked) b ≡ false → bitAt (next .invalid) b ≡ false → (b ≡ next .table → ⊥) → (b ≡ former → ⊥) → blockOn s q b ≡ replicate (blockSize (s .geometry)) 255
@@ -255,6 +256,7 @@ module _ (s : Setting) (mask-bytes : Bytes (s .mask)) (carried held : List ℕ) 
             last-is = refl;
             marked-same = refl;
             map-same = refl;
+            kinds-same = refl;
             marks = marks-passed;
             settled = settles;
             erased = λ c h m f x z. left .others c h x ∙ r .erased c h m f z;
@@ -508,6 +510,7 @@ module _ (s : Setting) (mask-bytes : Bytes (s .mask)) (carried held : List ℕ) 
                   last-is = d .last-is;
                   marked-same = d .marked-same;
                   map-same = d .map-same;
+                  kinds-same = d .kinds-same;
                   marks = d .marks;
                   settled = d .settled;
                   erased = d .erased;

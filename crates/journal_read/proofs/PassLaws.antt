@@ -1,5 +1,5 @@
 -- The journal read page by page: where each page leaves the pass. Assumes nothing.
-use Prim.Native.Nat.{ℕ, suc, _+_, _-_, _≤_, _<_}
+use Prim.Native.Nat.{ℕ, suc, _+_, _-_, _%_, _≤_, _<_}
 use mathlib.Core.Bool.{true, false}
 use mathlib.Core.List.{List}
 use mathlib.Core.Path.{_≡_, sym, ap, subst, _∙_}
@@ -8,15 +8,15 @@ use native.Mathlib.Omega.{arith}
 use borrow.Table.Steps.{cases}
 use borrow.Author.Tests.{lt-ltb, le-ltb, ltb-true, ltb-false, eqb-true, eqb-false}
 use lib.Dec.{eqb, ltb}
-use lib.ListN.{length, replicate, length-replicate}
-use lib.Seq.{take-take, take-all}
+use lib.ListN.{length, take, replicate, length-replicate, length-take}
+use lib.Seq.{take-all}
 use Rattle.geometry.specs.declared.Geometry.{Geometry}
-use Rattle.cells.specs.Part.{part}
 use Rattle.bitmaps.specs.Bitmap.{bitAt, withBit}
 use Rattle.bitmaps.proofs.BitLaws.{bit-set, bit-kept}
 use Rattle.bitmaps.proofs.BitmapLaws.{blank-bit}
 use Rattle.copies.specs.Blocks.{blockIn, pageIn}
 use Rattle.copies.specs.Pick.{someBelow}
+use Rattle.copies.proofs.FormLaws.{length-formed}
 use Rattle.chip_array.specs.Device.{Setting}
 use Rattle.bus.specs.Line.{Line}
 use Rattle.bus_polling.specs.Outcomes.{isPassed}
@@ -28,17 +28,19 @@ use Rattle.journal.specs.Records.{Pages, isNext, replacesIn, records, room}
 use Rattle.journal.proofs.EndLaws.{records-end, records-are}
 use Rattle.state.specs.State.{none}
 use Rattle.progress.specs.Progress.{progress}
-use Rattle.journal_read.specs.Reads.{blockOf, pagesBy, partOn, pagesOn, readsFor, passOn}
+use Rattle.journal_read.specs.Reads.{blockOf, kindOf, pagesBy, partOn, pagesOn, readsFor, passOn}
 use Rattle.journal_read.specs.Found.{Ran, PartRead, Told, Counted}
 use Rattle.journal_read.proofs.RanLaws.{ran-none, ran-then, ran-as, pages-stopped}
 
 -- a page has no more than its main bytes
-pub whole-part : (g : Geometry) (array map : List ℕ) (k : ℕ) → part 0 (g .main) (pagesBy g array map k) ≡ pagesBy g array map k
+pub whole-part : (g : Geometry) (array map kinds : List ℕ) (k : ℕ) → take (g .main) (pagesBy g array map kinds k) ≡ pagesBy g array map kinds k
 unfolding pagesBy
-whole-part g array map k =
+whole-part g array map kinds k =
     cases (eqb (blockOf g map k) none)
     (λ t. rw t (take-all (g .main) (replicate (g .main) 255) (omega (arith, length-replicate {A = ℕ} (g .main) 255))))
-    (λ t. rw t (take-take (g .main) (g .main) (pageIn g (blockIn g array (blockOf g map k)) _) (omega arith)))
+    (λ t.
+    let page = pageIn g (blockIn g array (blockOf g map k)) (k % g .pages) in
+    rw t (take-all (g .main) _ (omega (arith, length-formed (kindOf g kinds k) (k % g .pages) (take (g .main) page), length-take (g .main) page))))
 
 -- bits of the records replaced, one record more
 told-none : (pages : Pages) → Told pages 0 (replicate 8192 0)
@@ -63,12 +65,12 @@ unfolding pagesOn
 pass-begins s map pages l bits lent e =
     record { ran = ran-none lent; before = λ k h. absurd (omega (arith, h)); bits-are = subst (Told pages 0) (sym e) (told-none pages) }
 
-module _ (s : Setting) (map : List ℕ) (l m : Line) (n : ℕ) (bits : List ℕ) (r : Middle s map (pagesBy (s .geometry) (l .chip .array) map) l m n bits) where
+module _ (s : Setting) (map kinds : List ℕ) (l m : Line) (n : ℕ) (bits : List ℕ) (r : Middle s map (pagesBy (s .geometry) (l .chip .array) map kinds) l m n bits) where
   abbrev g : Geometry
   g = s .geometry
 
   abbrev pages : Pages
-  pages = pagesBy g (l .chip .array) map
+  pages = pagesBy g (l .chip .array) map kinds
 
   -- there is no room for more
   pub pass-full : room g ≤ n → n ≤ room g → Counted s map pages l m Passed n bits
@@ -82,19 +84,19 @@ module _ (s : Setting) (map : List ℕ) (l m : Line) (n : ℕ) (bits : List ℕ)
       }
 
   -- page n was read
-  module _ (below : n < room g) (size : ℕ) (long : size ≡ g .main) (m' : Line) (o : Outcome) (page : List ℕ) (given : PartRead s map n 0 size m m' o page) where
-    read : PartRead s map n 0 (g .main) m m' o page
-    read = subst (λ (x : ℕ). PartRead s map n 0 x m m' o page) long given
+  module _ (below : n < room g) (size : ℕ) (long : size ≡ g .main) (m' : Line) (o : Outcome) (page : List ℕ) (given : PartRead s map kinds n size m m' o page) where
+    read : PartRead s map kinds n (g .main) m m' o page
+    read = subst (λ (x : ℕ). PartRead s map kinds n x m m' o page) long given
 
     further : Ran s (pagesOn s map (suc n)) l m' o
     unfolding pagesOn
-    further = ran-then s (pagesOn s map n) (partOn s map n 0 (g .main)) l m m' o (r .ran) (read .ran)
+    further = ran-then s (pagesOn s map n) (partOn s map n (g .main)) l m m' o (r .ran) (read .ran)
 
     pub page-is : isPassed o ≡ true → page ≡ pages n
     page-is t =
         read .bytes-are t
-        ∙ ap (λ (a : List ℕ). part 0 (g .main) (pagesBy g a map n)) (r .ran .same-array)
-        ∙ whole-part g (l .chip .array) map n
+        ∙ ap (λ (a : List ℕ). take (g .main) (pagesBy g a map kinds n)) (r .ran .same-array)
+        ∙ whole-part g (l .chip .array) map kinds n
 
     -- the journal has at least n records
     least : n ≤ records pages (room g)

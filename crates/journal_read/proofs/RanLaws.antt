@@ -60,10 +60,10 @@ ran-as s f h l m o e a =
     }
 
 -- after a read that did not pass nothing more is read
-pub part-stopped : (s : Setting) (map : List ℕ) (k column n : ℕ) (p : Progress) → isPassed (p .outcome) ≡ false → partOn s map k column n p ≡ p
+pub part-stopped : (s : Setting) (map : List ℕ) (k n : ℕ) (p : Progress) → isPassed (p .outcome) ≡ false → partOn s map k n p ≡ p
 unfolding partOn
-part-stopped s map k column n p f =
-    cases (eqb (blockOf (s .geometry) map k) none) (λ t. rw t) (λ t. rw t (read-stopped s _ column n p f))
+part-stopped s map k n p f =
+    cases (eqb (blockOf (s .geometry) map k) none) (λ t. rw t) (λ t. rw t (read-stopped s _ 0 n p f))
 
 pub pages-stopped : (s : Setting) (map : List ℕ) (n : ℕ) (p : Progress) → isPassed (pagesOn s map n p .outcome) ≡ false → (k : ℕ) → pagesOn s map (k + n) p ≡ pagesOn s map n p
 unfolding pagesOn
@@ -72,13 +72,13 @@ pages-stopped s map n p f (suc k) =
     let less = pages-stopped s map n p f k in
     let e : suc k + n ≡ suc (k + n) = omega arith in
     ap (λ (x : ℕ). pagesOn s map x p) e
-    ∙ part-stopped s map (k + n) 0 (s .geometry .main) (pagesOn s map (k + n) p) (ap (λ (x : Progress). isPassed (x .outcome)) less ∙ f)
+    ∙ part-stopped s map (k + n) (s .geometry .main) (pagesOn s map (k + n) p) (ap (λ (x : Progress). isPassed (x .outcome)) less ∙ f)
     ∙ less
 
 amount-stopped : (s : Setting) (map : List ℕ) (pages : Pages) (e k : ℕ) (p : Progress) → isPassed (p .outcome) ≡ false → amountOn s map pages e k p ≡ p
 unfolding amountOn
 amount-stopped s map pages e k p f =
-    cases (replacedBy (targets pages) e (suc k)) (λ t. rw t) (λ t. rw t (part-stopped s map k 3 6 p f))
+    cases (replacedBy (targets pages) e (suc k)) (λ t. rw t) (λ t. rw t (part-stopped s map k 9 p f))
 
 pub amounts-stopped : (s : Setting) (map : List ℕ) (pages : Pages) (e n : ℕ) (p : Progress) → isPassed (amountsOn s map pages e n p .outcome) ≡ false → (k : ℕ) → amountsOn s map pages e (k + n) p ≡ amountsOn s map pages e n p
 unfolding amountsOn

@@ -30,18 +30,19 @@ use Rattle.journal_read.proofs.RanLaws.{ran-none, ran-then, ran-as, amo
 part-part : (a n b m : ℕ) (xs : List ℕ) → a + n ≤ m → part a n (part b m xs) ≡ part (b + a) n xs
 part-part a n b m xs h = part-take a n m (drop b xs) h ∙ ap (take n) (drop-drop a b xs)
 
--- six bytes hold count and price
-amount-is : (page bytes : List ℕ) → bytes ≡ part 3 6 page → numberOf (part 0 2 bytes) * numberOf (part 2 4 bytes) ≡ amountIn page
+-- six bytes of the first nine hold count and price
+amount-is : (page bytes : List ℕ) → bytes ≡ part 3 6 (take 9 page) → numberOf (part 0 2 bytes) * numberOf (part 2 4 bytes) ≡ amountIn page
 unfolding amountIn countIn priceIn
 amount-is page bytes e =
+    let here : bytes ≡ part 3 6 page = e ∙ part-take 3 6 9 page (omega arith) in
     ap₂ (λ (x y : List ℕ). numberOf x * numberOf y)
-    (ap (part 0 2) e ∙ part-part 0 2 3 6 page (omega arith))
-    (ap (part 2 4) e ∙ part-part 2 4 3 6 page (omega arith))
+    (ap (part 0 2) here ∙ part-part 0 2 3 6 page (omega arith))
+    (ap (part 2 4) here ∙ part-part 2 4 3 6 page (omega arith))
 
 -- one record of e
-module _ (s : Setting) (map : List ℕ) (e k : ℕ) (l : Line) (sum : ℕ) (bits : List ℕ) (fits : suc k < 65536) (told : Told (pagesBy (s .geometry) (l .chip .array) map) e bits) where
+module _ (s : Setting) (map kinds : List ℕ) (e k : ℕ) (l : Line) (sum : ℕ) (bits : List ℕ) (fits : suc k < 65536) (told : Told (pagesBy (s .geometry) (l .chip .array) map kinds) e bits) where
   abbrev pages : Pages
-  pages = pagesBy (s .geometry) (l .chip .array) map
+  pages = pagesBy (s .geometry) (l .chip .array) map kinds
 
   -- it is replaced
   pub added-none : Lent s l → bitAt bits (suc k) ≡ true → Added s map pages e k l l Passed sum sum
@@ -54,31 +55,31 @@ module _ (s : Setting) (map : List ℕ) (e k : ℕ) (l : Line) (sum : ℕ) (bits
       }
 
   -- it is not, and its count and price were read
-  module _ (f : bitAt bits (suc k) ≡ false) (m : Line) (o : Outcome) (bytes : List ℕ) (read : PartRead s map k 3 6 l m o bytes) where
+  module _ (f : bitAt bits (suc k) ≡ false) (m : Line) (o : Outcome) (bytes : List ℕ) (read : PartRead s map kinds k 9 l m o bytes) where
     unreplaced : replacedBy (targets pages) e (suc k) ≡ false
     unreplaced = sym (told (suc k) fits) ∙ f
 
     pub added-ran : Ran s (amountOn s map pages e k) l m o
     unfolding amountOn
-    added-ran = ran-as s (partOn s map k 3 6) (amountOn s map pages e k) l m o (λ cs os. rw unreplaced) (read .ran)
+    added-ran = ran-as s (partOn s map k 9) (amountOn s map pages e k) l m o (λ cs os. rw unreplaced) (read .ran)
 
     pub added-stopped : isPassed o ≡ false → (any : ℕ) → Added s map pages e k l m o sum any
     added-stopped x any = record { ran = added-ran; sum-is = λ t. clash t x }
 
-    pub added-one : o ≡ Passed → (amount next : ℕ) → amount ≡ numberOf (part 0 2 bytes) * numberOf (part 2 4 bytes) → next ≡ sum + amount → Added s map pages e k l m Passed sum next
+    pub added-one : o ≡ Passed → (amount next : ℕ) → amount ≡ numberOf (part 0 2 (part 3 6 bytes)) * numberOf (part 2 4 (part 3 6 bytes)) → next ≡ sum + amount → Added s map pages e k l m Passed sum next
     unfolding isPassed
     added-one w amount next a z =
-        let is = a ∙ amount-is (pages k) bytes (read .bytes-are (ap isPassed w)) in
+        let is = a ∙ amount-is (pages k) (part 3 6 bytes) (ap (part 3 6) (read .bytes-are (ap isPassed w))) in
         record {
           ran = subst (Ran s (amountOn s map pages e k) l m) w added-ran;
           sum-is = λ _. rw unreplaced (z ∙ ap (λ (x : ℕ). sum + x) is);
         }
 
 -- pages are told by the array, which stays
-pub added-here : (s : Setting) (map : List ℕ) (e k : ℕ) (a b : List ℕ) (l m : Line) (o : Outcome) (sum next : ℕ) (bits : List ℕ) → a ≡ b → Told (pagesBy (s .geometry) b map) e bits
-    → ((e : ℕ) → Told (pagesBy (s .geometry) a map) e bits → Added s map (pagesBy (s .geometry) a map) e k l m o sum next) → Added s map (pagesBy (s .geometry) b map) e k l m o sum next
-added-here s map e k a b l m o sum next bits z told f =
-    subst (λ (x : List ℕ). Told (pagesBy (s .geometry) x map) e bits → Added s map (pagesBy (s .geometry) x map) e k l m o sum next) z (f e) told
+pub added-here : (s : Setting) (map kinds : List ℕ) (e k : ℕ) (a b : List ℕ) (l m : Line) (o : Outcome) (sum next : ℕ) (bits : List ℕ) → a ≡ b → Told (pagesBy (s .geometry) b map kinds) e bits
+    → ((e : ℕ) → Told (pagesBy (s .geometry) a map kinds) e bits → Added s map (pagesBy (s .geometry) a map kinds) e k l m o sum next) → Added s map (pagesBy (s .geometry) b map kinds) e k l m o sum next
+added-here s map kinds e k a b l m o sum next bits z told f =
+    subst (λ (x : List ℕ). Told (pagesBy (s .geometry) x map kinds) e bits → Added s map (pagesBy (s .geometry) x map kinds) e k l m o sum next) z (f e) told
 
 -- after k records of e
 pub record Adding (s : Setting) (map : List ℕ) (pages : Pages) (e : ℕ) (l m : Line) (k sum : ℕ) : Type 0 where

@@ -3,9 +3,8 @@ use Prim.Native.Nat.{ℕ, _+_, _≤_, _<_}
 use mathlib.Core.Bool.{true}
 use mathlib.Core.List.{List}
 use mathlib.Core.Path.{_≡_}
-use lib.ListN.{length, getD}
+use lib.ListN.{length, getD, take}
 use Rattle.geometry.specs.declared.Geometry.{Geometry}
-use Rattle.cells.specs.Part.{part}
 use Rattle.bitmaps.specs.Bitmap.{bitAt}
 use Rattle.chip_array.specs.Device.{Setting}
 use Rattle.chip.specs.Chip.{Cycle}
@@ -21,9 +20,10 @@ use Rattle.state.specs.State.{none}
 use Rattle.progress.specs.Progress.{Progress, progress}
 use Rattle.journal_read.specs.Reads.{pagesBy, partOn, passOn, amountOn, amountsOn}
 
--- a map as a mounted state has it
-pub record Mapped (g : Geometry) (map : List ℕ) : Type 0 where
+-- a map and kinds as a mounted state has them
+pub record Mapped (g : Geometry) (map kinds : List ℕ) : Type 0 where
   pub long : length map ≡ 4096
+  pub kinds-long : length kinds ≡ 4096
   pub below : (i : ℕ) → i < g .logical → (getD map i 0 ≡ none → ⊥) → getD map i 0 < g .blocks
 
 -- reads led from line l to line m, and the last ended as o; nothing on the chip has changed
@@ -35,10 +35,10 @@ pub record Ran (s : Setting) (run : Progress → Progress) (l m : Line) (o : Out
   pub left-most : m .left ≤ l .left
   pub next : isPassed o ≡ true → Lent s m
 
--- n bytes of page k were read from a column on
-pub record PartRead (s : Setting) (map : List ℕ) (k column n : ℕ) (l m : Line) (o : Outcome) (bytes : List ℕ) : Type 0 where
-  pub ran : Ran s (partOn s map k column n) l m o
-  pub bytes-are : isPassed o ≡ true → bytes ≡ part column n (pagesBy (s .geometry) (l .chip .array) map k)
+-- the first n bytes of page k were read
+pub record PartRead (s : Setting) (map kinds : List ℕ) (k n : ℕ) (l m : Line) (o : Outcome) (bytes : List ℕ) : Type 0 where
+  pub ran : Ran s (partOn s map k n) l m o
+  pub bytes-are : isPassed o ≡ true → bytes ≡ take n (pagesBy (s .geometry) (l .chip .array) map kinds k)
 
 -- bits that tell which of e records are replaced
 abbrev pub Told : Pages → ℕ → List ℕ → Type 0

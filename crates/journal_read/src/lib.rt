@@ -20,8 +20,10 @@ const NONE: usize = 65535;
 // The most records that a journal can have.
 const MOST_RECORDS: usize = 65535;
 
-// Where count and price stand in a record, and their bytes.
+// Where count and price stand in a record, and where they end.
 const AMOUNT: usize = 3;
+
+const AMOUNT_END: usize = 9;
 
 fn wide(x: u16) -> usize
     ensures { λ r. ⌜ r ≡ x ⌝ }
@@ -41,7 +43,7 @@ pub fn room_for(g: Geometry) -> usize
     MOST_RECORDS
 }
 
-// Reads bytes of page `k` of the journal's order from a column on. A logical block without a copy gives FFh and no cycle.
+// Reads the first bytes of page `k` of the journal's order. A logical block without a copy gives FFh and no cycle.
 fn read_part(
     from: Bus,
     g: Geometry,
@@ -51,15 +53,15 @@ fn read_part(
     mask: &[u8],
     fates: &[u32],
     map: &[u16],
+    kinds: &[u8],
     k: usize,
-    column: usize,
     bytes: &mut [u8],
 ) -> Done
     requires { ⌜ Lent (setting g (now mask) (now fates)) (line from (now array) (now register) (now history)) ⌝ }
-    requires { ⌜ Mapped g (now map) ⌝ }
+    requires { ⌜ Mapped g (now map) (now kinds) ⌝ }
     requires { ⌜ k < g .logical * g .pages ⌝ }
-    requires { ⌜ column + length (now bytes) ≤ g .main ⌝ }
-    ensures { λ r. ⌜ PartRead (setting g (now (mask .entry)) (now (fates .entry))) (now (map .entry)) k column (length (now (bytes .entry))) (line from (now (array .entry)) (now (register .entry)) (now (history .entry))) (line (r .bus) (now (array .exit)) (now (register .exit)) (now (history .exit))) (r .outcome) (now (bytes .exit)) ⌝ }
+    requires { ⌜ length (now bytes) ≤ g .main ⌝ }
+    ensures { λ r. ⌜ PartRead (setting g (now (mask .entry)) (now (fates .entry))) (now (map .entry)) (now (kinds .entry)) k (length (now (bytes .entry))) (line from (now (array .entry)) (now (register .entry)) (now (history .entry))) (line (r .bus) (now (array .exit)) (now (register .exit)) (now (history .exit))) (r .outcome) (now (bytes .exit)) ⌝ }
 {
     let logical = geometry::block_of_row(g, k);
     let block = wide(map[logical]);
@@ -70,8 +72,9 @@ fn read_part(
             outcome: Outcome::Passed,
         };
     }
-    let row = geometry::row_of(g, block, geometry::page_of_row(g, k));
-    operations::read(
+    let page = geometry::page_of_row(g, k);
+    let row = geometry::row_of(g, block, page);
+    let done = operations::read(
         from,
         g,
         array,
@@ -80,9 +83,15 @@ fn read_part(
         mask,
         fates,
         row,
-        column,
+        0,
         bytes,
-    )
+    );
+    let outcome = done.outcome;
+    let Outcome::Passed = outcome else {
+        return done;
+    };
+    read_page::undo(kinds[logical], page, bytes);
+    done
 }
 
 // The bus after reads, how the last ended, and how many records there are if all passed.
@@ -102,20 +111,33 @@ pub fn find_end(
     mask: &[u8],
     fates: &[u32],
     map: &[u16],
+    kinds: &[u8],
     page: &mut [u8],
     replaced: &mut [u8],
 ) -> End
     requires { ⌜ Lent (setting g (now mask) (now fates)) (line from (now array) (now register) (now history)) ⌝ }
-    requires { ⌜ Mapped g (now map) ⌝ }
+    requires { ⌜ Mapped g (now map) (now kinds) ⌝ }
     requires { ⌜ length (now page) ≡ g .main ⌝ }
     requires { ⌜ now replaced ≡ replicate 8192 0 ⌝ }
-    ensures { λ r. ⌜ Counted (setting g (now (mask .entry)) (now (fates .entry))) (now (map .entry)) (pagesBy g (now (array .entry)) (now (map .entry))) (line from (now (array .entry)) (now (register .entry)) (now (history .entry))) (line (r .bus) (now (array .exit)) (now (register .exit)) (now (history .exit))) (r .outcome) (r .records) (now (replaced .exit)) ⌝ }
+    ensures { λ r. ⌜ Counted (setting g (now (mask .entry)) (now (fates .entry))) (now (map .entry)) (pagesBy g (now (array .entry)) (now (map .entry)) (now (kinds .entry))) (line from (now (array .entry)) (now (register .entry)) (now (history .entry))) (line (r .bus) (now (array .exit)) (now (register .exit)) (now (history .exit))) (r .outcome) (r .records) (now (replaced .exit)) ⌝ }
 {
     let most = room_for(g);
     let mut b = from;
     let mut n: usize = 0;
     while n < most {
-        let read = read_part(b, g, array, register, history, mask, fates, map, n, 0, page);
+        let read = read_part(
+            b,
+            g,
+            array,
+            register,
+            history,
+            mask,
+            fates,
+            map,
+            kinds,
+            n,
+            page,
+        );
         b = read.bus;
         let outcome = read.outcome;
         let Outcome::Passed = outcome else {
@@ -159,16 +181,17 @@ fn add_record(
     mask: &[u8],
     fates: &[u32],
     map: &[u16],
+    kinds: &[u8],
     replaced: &[u8],
     k: usize,
     sum: u64,
 ) -> Sum
     requires { ⌜ Lent (setting g (now mask) (now fates)) (line from (now array) (now register) (now history)) ⌝ }
-    requires { ⌜ Mapped g (now map) ⌝ }
+    requires { ⌜ Mapped g (now map) (now kinds) ⌝ }
     requires { ⌜ length (now replaced) ≡ 8192 ⌝ }
     requires { ⌜ k < room g ⌝ }
     requires { ⌜ sum ≤ k * 281470681677825 ⌝ }
-    ensures { λ r. ⌜ ((e : ℕ) → Told (pagesBy g (now (array .entry)) (now (map .entry))) e (now (replaced .entry)) → Added (setting g (now (mask .entry)) (now (fates .entry))) (now (map .entry)) (pagesBy g (now (array .entry)) (now (map .entry))) e k (line from (now (array .entry)) (now (register .entry)) (now (history .entry))) (line (r .bus) (now (array .exit)) (now (register .exit)) (now (history .exit))) (r .outcome) sum (r .sum)) ⌝ }
+    ensures { λ r. ⌜ ((e : ℕ) → Told (pagesBy g (now (array .entry)) (now (map .entry)) (now (kinds .entry))) e (now (replaced .entry)) → Added (setting g (now (mask .entry)) (now (fates .entry))) (now (map .entry)) (pagesBy g (now (array .entry)) (now (map .entry)) (now (kinds .entry))) e k (line from (now (array .entry)) (now (register .entry)) (now (history .entry))) (line (r .bus) (now (array .exit)) (now (register .exit)) (now (history .exit))) (r .outcome) sum (r .sum)) ⌝ }
     ensures { λ r. ⌜ r .sum ≤ (k + 1) * 281470681677825 ⌝ }
 {
     if bitmaps::is_set(replaced, k + 1) {
@@ -178,7 +201,7 @@ fn add_record(
             sum,
         };
     }
-    let mut bytes = [0u8; 6];
+    let mut bytes = [0u8; AMOUNT_END];
     let read = read_part(
         from,
         g,
@@ -188,8 +211,8 @@ fn add_record(
         mask,
         fates,
         map,
+        kinds,
         k,
-        AMOUNT,
         &mut bytes,
     );
     let bus = read.bus;
@@ -204,7 +227,7 @@ fn add_record(
     Sum {
         bus,
         outcome: Outcome::Passed,
-        sum: sum + journal::amount_of(&bytes),
+        sum: sum + journal::amount_of(&bytes[AMOUNT..AMOUNT_END]),
     }
 }
 
@@ -218,15 +241,16 @@ pub fn total(
     mask: &[u8],
     fates: &[u32],
     map: &[u16],
+    kinds: &[u8],
     replaced: &[u8],
     records: usize,
 ) -> Sum
     requires { ⌜ Lent (setting g (now mask) (now fates)) (line from (now array) (now register) (now history)) ⌝ }
-    requires { ⌜ Mapped g (now map) ⌝ }
+    requires { ⌜ Mapped g (now map) (now kinds) ⌝ }
     requires { ⌜ length (now replaced) ≡ 8192 ⌝ }
     requires { ⌜ records ≤ room g ⌝ }
-    requires { ⌜ Told (pagesBy g (now array) (now map)) records (now replaced) ⌝ }
-    ensures { λ r. ⌜ Totalled (setting g (now (mask .entry)) (now (fates .entry))) (now (map .entry)) (pagesBy g (now (array .entry)) (now (map .entry))) (line from (now (array .entry)) (now (register .entry)) (now (history .entry))) (line (r .bus) (now (array .exit)) (now (register .exit)) (now (history .exit))) (r .outcome) records (r .sum) ⌝ }
+    requires { ⌜ Told (pagesBy g (now array) (now map) (now kinds)) records (now replaced) ⌝ }
+    ensures { λ r. ⌜ Totalled (setting g (now (mask .entry)) (now (fates .entry))) (now (map .entry)) (pagesBy g (now (array .entry)) (now (map .entry)) (now (kinds .entry))) (line from (now (array .entry)) (now (register .entry)) (now (history .entry))) (line (r .bus) (now (array .exit)) (now (register .exit)) (now (history .exit))) (r .outcome) records (r .sum) ⌝ }
 {
     let mut b = from;
     let mut sum: u64 = 0;
@@ -241,6 +265,7 @@ pub fn total(
             mask,
             fates,
             map,
+            kinds,
             replaced,
             k,
             sum,

@@ -59,9 +59,9 @@ module _ (g : Geometry) (fits : Bool) (st : State) where
       (λ t. cases (mounted st (g .blocks) (g .logical)) (λ u. (t, u)) (λ u. absurd (omega (arith, rw (t, u) at e))))
       (λ t. absurd (omega (arith, rw t at e)))
 
--- the map of a mounted state
-pub mapped : (g : Geometry) (st : State) → Valid g → length (st .map) ≡ 4096 → mounted st (g .blocks) (g .logical) ≡ true → Mapped g (st .map)
-mapped g st v long t = record { long = long; below = mounted-facts st (g .blocks) (g .logical) (v .blocks-most) t .copy-below }
+-- the map and the kinds of a mounted state
+pub mapped : (g : Geometry) (st : State) → Valid g → length (st .map) ≡ 4096 → length (st .kinds) ≡ 4096 → mounted st (g .blocks) (g .logical) ≡ true → Mapped g (st .map) (st .kinds)
+mapped g st v long kinds-long t = record { long = long; kinds-long = kinds-long; below = mounted-facts st (g .blocks) (g .logical) (v .blocks-most) t .copy-below }
 
 pub last-below : (g : Geometry) (st : State) → Valid g → mounted st (g .blocks) (g .logical) ≡ true → st .last < g .blocks
 last-below g st v t = mounted-facts st (g .blocks) (g .logical) (v .blocks-most) t .last-below
@@ -122,14 +122,14 @@ pub sale-done : (n e k : ℕ) (t : Tabled) {r : Result} → r ≡ endOfRun n t �
 sale-done n e k t a z h = rw (eq-eqb (t .answer) 0 (sym (ap (λ (y : Result). y .answer) a) ∙ z)) (ap₂ appended a h)
 
 -- pages are told by the array, which the reads leave
-pub told-here : (g : Geometry) (map : List ℕ) {a b : List ℕ} (e : ℕ) (bits : List ℕ) → b ≡ a → Told (pagesBy g a map) e bits → Told (pagesBy g b map) e bits
-told-here g map e bits z t = subst (λ (x : List ℕ). Told (pagesBy g x map) e bits) (sym z) t
+pub told-here : (g : Geometry) (map kinds : List ℕ) {a b : List ℕ} (e : ℕ) (bits : List ℕ) → b ≡ a → Told (pagesBy g a map kinds) e bits → Told (pagesBy g b map kinds) e bits
+told-here g map kinds e bits z t = subst (λ (x : List ℕ). Told (pagesBy g x map kinds) e bits) (sym z) t
 
 pub summed-here : (s : Setting) (n : ℕ) (st : State) (e : ℕ) (m : Line) {a b : List ℕ} {r : TakingsResult} → b ≡ a
-    → ((cs : List Cycle) (os : List ArrayOperation) → r ≡ takingsEnd n st (takings (pagesBy (s .geometry) b (st .map)) e) (amountsOn s (st .map) (pagesBy (s .geometry) b (st .map)) e e (progress m Passed cs os)))
-    → (cs : List Cycle) (os : List ArrayOperation) → r ≡ takingsEnd n st (takings (pagesBy (s .geometry) a (st .map)) e) (amountsOn s (st .map) (pagesBy (s .geometry) a (st .map)) e e (progress m Passed cs os))
+    → ((cs : List Cycle) (os : List ArrayOperation) → r ≡ takingsEnd n st (takings (pagesBy (s .geometry) b (st .map) (st .kinds)) e) (amountsOn s (st .map) (pagesBy (s .geometry) b (st .map) (st .kinds)) e e (progress m Passed cs os)))
+    → (cs : List Cycle) (os : List ArrayOperation) → r ≡ takingsEnd n st (takings (pagesBy (s .geometry) a (st .map) (st .kinds)) e) (amountsOn s (st .map) (pagesBy (s .geometry) a (st .map) (st .kinds)) e e (progress m Passed cs os))
 summed-here s n st e m {a} {b} {r} z f cs os =
-    f cs os ∙ ap (λ (x : List ℕ). takingsEnd n st (takings (pagesBy (s .geometry) x (st .map)) e) (amountsOn s (st .map) (pagesBy (s .geometry) x (st .map)) e e (progress m Passed cs os))) z
+    f cs os ∙ ap (λ (x : List ℕ). takingsEnd n st (takings (pagesBy (s .geometry) x (st .map) (st .kinds)) e) (amountsOn s (st .map) (pagesBy (s .geometry) x (st .map) (st .kinds)) e e (progress m Passed cs os))) z
 
 -- no more records than there is room for
 pub records-most : (pages : Pages) (most e : ℕ) → e ≡ records pages most → e ≤ most

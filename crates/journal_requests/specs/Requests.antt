@@ -33,7 +33,7 @@ journalFirst d n = progress (callLine d n) Passed [] []
 
 -- the pages of the journal, and how many records it has
 abbrev pub journalPages : Setting → Device → State → Pages
-journalPages s d st = pagesBy (s .geometry) (d .array) (st .map)
+journalPages s d st = pagesBy (s .geometry) (d .array) (st .map) (st .kinds)
 
 abbrev pub recordsIn : Setting → Device → State → ℕ
 recordsIn s d st = records (journalPages s d st) (room (s .geometry))

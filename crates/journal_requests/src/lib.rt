@@ -213,10 +213,11 @@ fn survey(
     requires { ⌜ sized g (length (now array)) (length (now register)) (length (now history)) (length (now mask)) ≡ true ⌝ }
     requires { ⌜ mounted state (g .blocks) (g .logical) ≡ true ⌝ }
     requires { ⌜ now replaced ≡ replicate 8192 0 ⌝ }
-    ensures { λ r. ⌜ Counted (setting g (now (mask .entry)) (now (fates .entry))) (state .map) (pagesBy g (now (array .entry)) (state .map)) (callLine (device interface (now (array .entry)) (now (register .entry)) (now (history .entry))) allowed) (line (r .bus) (now (array .exit)) (now (register .exit)) (now (history .exit))) (r .outcome) (r .records) (now (replaced .exit)) ⌝ }
+    ensures { λ r. ⌜ Counted (setting g (now (mask .entry)) (now (fates .entry))) (state .map) (pagesBy g (now (array .entry)) (state .map) (state .kinds)) (callLine (device interface (now (array .entry)) (now (register .entry)) (now (history .entry))) allowed) (line (r .bus) (now (array .exit)) (now (register .exit)) (now (history .exit))) (r .outcome) (r .records) (now (replaced .exit)) ⌝ }
 {
     let from = request::begin(interface, allowed);
     let map = state.map;
+    let kinds = state.kinds;
     let mut page = [0u8; 4096];
     let main = g.main;
     journal_read::find_end(
@@ -228,6 +229,7 @@ fn survey(
         mask,
         fates,
         &map,
+        &kinds,
         &mut page[0..main],
         replaced,
     )
@@ -329,10 +331,11 @@ fn add_up(
     requires { ⌜ from .left ≤ allowed ⌝ }
     requires { ⌜ mounted state (g .blocks) (g .logical) ≡ true ⌝ }
     requires { ⌜ (length (now replaced) ≡ 8192) × (records ≤ room g) ⌝ }
-    requires { ⌜ Told (pagesBy g (now array) (state .map)) records (now replaced) ⌝ }
-    ensures { λ r. ⌜ ((cs : List Cycle) (os : List ArrayOperation) → takingsResult (result (r .returned .answer) (r .returned .state) (device (r .returned .interface) (now (array .exit)) (now (register .exit)) (now (history .exit))) (r .returned .sent)) (r .takings) ≡ takingsEnd allowed state (takings (pagesBy g (now (array .entry)) (state .map)) records) (amountsOn (setting g (now (mask .entry)) (now (fates .entry))) (state .map) (pagesBy g (now (array .entry)) (state .map)) records records (progress (line from (now (array .entry)) (now (register .entry)) (now (history .entry))) Passed cs os))) ⌝ }
+    requires { ⌜ Told (pagesBy g (now array) (state .map) (state .kinds)) records (now replaced) ⌝ }
+    ensures { λ r. ⌜ ((cs : List Cycle) (os : List ArrayOperation) → takingsResult (result (r .returned .answer) (r .returned .state) (device (r .returned .interface) (now (array .exit)) (now (register .exit)) (now (history .exit))) (r .returned .sent)) (r .takings) ≡ takingsEnd allowed state (takings (pagesBy g (now (array .entry)) (state .map) (state .kinds)) records) (amountsOn (setting g (now (mask .entry)) (now (fates .entry))) (state .map) (pagesBy g (now (array .entry)) (state .map) (state .kinds)) records records (progress (line from (now (array .entry)) (now (register .entry)) (now (history .entry))) Passed cs os))) ⌝ }
 {
     let map = state.map;
+    let kinds = state.kinds;
     let sum = journal_read::total(
         from,
         g,
@@ -342,6 +345,7 @@ fn add_up(
         mask,
         fates,
         &map,
+        &kinds,
         replaced,
         records,
     );

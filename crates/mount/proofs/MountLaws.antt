@@ -24,11 +24,11 @@ use Rattle.scan_summary.specs.Depth.{belowBy, lastBy}
 use Rattle.scan_summary.specs.declared.Depth.{Depth}
 use Rattle.scan_summary.specs.declared.Depth.the-variants.{Full, Quick}
 use Rattle.scan_summary.proofs.DepthLaws.{last-picked}
-use Rattle.scan_found.specs.Contents.{Contents, contents, contentsTo, clashing, mapTo, mapOf}
+use Rattle.scan_found.specs.Contents.{Contents, contents, contentsTo, clashing, mapTo, kindsTo, mapOf, kindsOf}
 use Rattle.scan_found.specs.Found.{foundTo, bitsAt, rightAt, marksTo}
 use Rattle.scan_found.proofs.FoundLaws.{found-marked, found-greatest, most-found, Kept, kept, Chosen, Missing, table-found}
 use Rattle.scan_found.proofs.ToldLaws.{Told, told, bit-is, clash-same}
-use Rattle.scan_found.proofs.MapLaws.{map-is}
+use Rattle.scan_found.proofs.MapLaws.{map-is, kinds-is}
 use Rattle.mount_judge.specs.Judging.{judgedBy, stateOf}
 use Rattle.mount.specs.Mount.{blockOf, stateWith, mountedState, quickState, stateBy}
 use Rattle.bitmaps.proofs.BitmapLaws.{blank-bit}
@@ -176,11 +176,15 @@ module _ (depth : Depth) (g : Geometry) (v : Valid g) (array : List ℕ) (long :
       let here = picked-table (kept f) c in
       let t : f .table ≡ blockOf (currentTable g array) = sym (ap blockOf here) in
       let bits : f .bits ≡ bitsAt g array (blockOf (currentTable g array)) = c .bits-are ∙ ap (bitsAt g array) t in
-      let map : mapTo all (f .bits) (g .blocks) (g .logical) (replicate 4096 65535) (g .blocks) ≡ mapOf g array (blockOf (currentTable g array)) =
+      let map-here : mapTo all (f .bits) (g .blocks) (g .logical) (replicate 4096 65535) (g .blocks) ≡ mapOf g array (f .table) =
       ap (λ (x : List ℕ). mapTo all x (g .blocks) (g .logical) (replicate 4096 65535) (g .blocks)) (c .bits-are)
-      ∙ map-is g v array long all all-told (f .table) (table-below (f .table) here)
-      ∙ ap (mapOf g array) t in
-      (λ i. mountedWith (found-greatest depth g three array (g .blocks) i) (t i) (sym last-is i) (found-marked depth g three array (g .blocks) i) (bits i) (map i)) ∙ state-by depth g array
+      ∙ map-is g v array long all all-told (f .table) (table-below (f .table) here) in
+      let map : mapTo all (f .bits) (g .blocks) (g .logical) (replicate 4096 65535) (g .blocks) ≡ mapOf g array (blockOf (currentTable g array)) = map-here ∙ ap (mapOf g array) t in
+      let kinds : kindsTo all (mapTo all (f .bits) (g .blocks) (g .logical) (replicate 4096 65535) (g .blocks)) (replicate 4096 0) (g .logical) ≡ kindsOf g array (blockOf (currentTable g array)) =
+      ap (λ (x : List ℕ). kindsTo all x (replicate 4096 0) (g .logical)) map-here
+      ∙ kinds-is g v array long all all-told (f .table) (table-below (f .table) here)
+      ∙ ap (kindsOf g array) t in
+      (λ i. mountedWith (found-greatest depth g three array (g .blocks) i) (t i) (sym last-is i) (found-marked depth g three array (g .blocks) i) (bits i) (map i) (kinds i)) ∙ state-by depth g array
 
   -- without a table there is no state
   missing-answer : Missing depth g three array (g .blocks) (kept (foundTo depth g array (g .blocks))) → mountAnswer g array ≡ 4

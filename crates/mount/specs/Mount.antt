@@ -15,7 +15,7 @@ use Rattle.state.specs.State.{blank, mountedWith}
 use Rattle.state.specs.declared.State.{State}
 use Rattle.scan_summary.specs.declared.Depth.{Depth}
 use Rattle.scan_summary.specs.declared.Depth.the-variants.{Full, Quick}
-use Rattle.scan_found.specs.Contents.{mapOf}
+use Rattle.scan_found.specs.Contents.{mapOf, kindsOf}
 use Rattle.scan_found.specs.Found.{bitsAt, marksTo}
 use Rattle.progress.specs.Progress.{Progress, progress, resetOn}
 use Rattle.scan.specs.Scan.{blocksRead}
@@ -26,11 +26,11 @@ unfoldable pub blockOf : Pick → ℕ
 blockOf nothing = 0
 blockOf (at b) = b
 
--- the state with the current copies and table, the marks and the list, this greatest number and this block filled last
+-- the state with the current copies and their kinds, the table, the marks and the list, this greatest number and this block filled last
 abbrev pub stateWith : Geometry → List ℕ → ℕ → Pick → State
 stateWith g array greatest last =
     mountedWith greatest (blockOf (currentTable g array)) (blockOf last) (marksTo g array (g .blocks)) (bitsAt g array (blockOf (currentTable g array)))
-    (mapOf g array (blockOf (currentTable g array)))
+    (mapOf g array (blockOf (currentTable g array))) (kindsOf g array (blockOf (currentTable g array)))
 
 -- the state that a mount answered 0 gives
 unfoldable pub mountedState : Geometry → List ℕ → State

@@ -8,7 +8,7 @@ use Rattle.bitmaps.specs.Bitmap.{bitAt, neverBoth}
 use Rattle.copies.specs.Pick.{someBelow}
 use Rattle.state.specs.State.{mountedWith}
 use Rattle.state.specs.declared.State.{State}
-use Rattle.scan_found.specs.Contents.{Contents, clashing, mapTo}
+use Rattle.scan_found.specs.Contents.{Contents, clashing, mapTo, kindsTo}
 use Rattle.scan_found.specs.declared.Found.{Found}
 
 -- the answer: 4 no table, 5 wrong table, 6 clash, or 0
@@ -26,3 +26,4 @@ abbrev pub stateOf : Geometry → Found → Contents → State
 stateOf g f c =
     mountedWith (f .greatest) (f .table) (f .last) (f .marked) (f .bits)
     (mapTo c (f .bits) (g .blocks) (g .logical) (replicate 4096 65535) (g .blocks))
+    (kindsTo c (mapTo c (f .bits) (g .blocks) (g .logical) (replicate 4096 65535) (g .blocks)) (replicate 4096 0) (g .logical))

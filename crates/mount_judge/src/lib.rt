@@ -65,5 +65,15 @@ pub fn mounted_state(
         g.logical,
         &mut map,
     );
-    State::mounted_above(found.greatest, found.table, found.last, marked, bits, map)
+    let mut current = [0u8; 4096];
+    scan_found::contents::list_kinds(kinds, logicals, numbers, g.logical, &map, &mut current);
+    State::mounted_above(
+        found.greatest,
+        found.table,
+        found.last,
+        marked,
+        bits,
+        map,
+        current,
+    )
 }

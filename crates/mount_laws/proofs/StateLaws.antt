@@ -22,7 +22,7 @@ use Rattle.pages.proofs.LayoutLaws.{kinds-apart}
 use Rattle.copies.specs.Blocks.{blockIn, pageIn, mainIn, labelIn, isMarked, isComplete, isTable, isData, isCopyOf}
 use Rattle.copies.specs.Current as current
 use Rattle.copies.specs.Quick.{quickNumber}
-use Rattle.copies.specs.Current.{currentTable, currentCopy, numberAt, unlisted, clashes, judgeTable, mountAnswer}
+use Rattle.copies.specs.Current.{currentTable, currentCopy, kindAt, numberAt, unlisted, clashes, judgeTable, mountAnswer}
 use Rattle.copies.specs.Pick.{Pick, nothing, at, Best, Picked, pick}
 use Rattle.copies.specs.Table.{bitmapOf, fieldOf, lists, clearWhere, rightFirst, rightPage, rightTo, rightTable}
 use Rattle.copies.proofs.PickLaws.{pick-is, up-to}
@@ -35,7 +35,7 @@ use Rattle.scan_summary.specs.Depth.{hasBy, greatestBy, belowBy, lastBy}
 use Rattle.scan_summary.specs.declared.Depth.{Depth}
 use Rattle.scan_summary.specs.declared.Depth.the-variants.{Full}
 use Rattle.scan_summary.proofs.DepthLaws.{last-picked}
-use Rattle.scan_found.specs.Contents.{entryOf, mapOf}
+use Rattle.scan_found.specs.Contents.{entryOf, copiesOf, mapOf, kindsOf}
 use Rattle.scan_found.specs.Found.{bitsAt, marksTo}
 use Rattle.scan_found.proofs.MapLaws.{length-tabulate, getD-tabulate}
 use Rattle.scan_found.proofs.ToldLaws.{bit-put, bitmap-long}
@@ -169,29 +169,62 @@ module _ (g : Geometry) (array : List ℕ) where
   unfolding mountAnswer judgeTable
   mounts-by t e r l c = ap (judgeTable g array) e ∙ rw (r, l, c)
 
--- the map of the current copies, by its entries
+-- what the current copies are to a function, by its entries
+module _ (f : Pick → ℕ) (past : ℕ) (g : Geometry) (array : List ℕ) (t : ℕ) where
+  pub copies-long : length (copiesOf f past g array t) ≡ 4096
+  copies-long = length-tabulate _ 4096
+
+  pub copies-entry : (l : ℕ) → l < g .logical → l < 4096 → getD (copiesOf f past g array t) l 0 ≡ f (currentCopy g array t l)
+  copies-entry l h k = getD-tabulate _ 4096 l k ∙ rw (lt-ltb l (g .logical) h)
+
+  pub copies-end : (l : ℕ) → g .logical ≤ l → l < 4096 → getD (copiesOf f past g array t) l 0 ≡ past
+  copies-end l h k = getD-tabulate _ 4096 l k ∙ rw (le-ltb l (g .logical) h)
+
+  pub copies-told : (xs : List ℕ) → length xs ≡ 4096 → ((l : ℕ) → l < g .logical → l < 4096 → getD xs l 0 ≡ f (currentCopy g array t l)) → ((l : ℕ) → g .logical ≤ l → l < 4096 → getD xs l 0 ≡ past)
+      → copiesOf f past g array t ≡ xs
+  copies-told xs long each later =
+      ext-getD 0 (copiesOf f past g array t) xs (copies-long ∙ sym long)
+      (λ l h.
+      let k : l < 4096 = omega (arith, h, copies-long) in
+      cases (ltb l (g .logical))
+      (λ u. let i = ltb-true l (g .logical) u in copies-entry l i k ∙ sym (each l i k))
+      (λ u. let i = ltb-false l (g .logical) u in copies-end l i k ∙ sym (later l i k)))
+
+-- the map of the current copies, and their kinds
 module _ (g : Geometry) (array : List ℕ) (t : ℕ) where
   pub map-long : length (mapOf g array t) ≡ 4096
   unfolding mapOf
-  map-long = length-tabulate _ 4096
+  map-long = copies-long entryOf none g array t
 
   pub map-entry : (l : ℕ) → l < g .logical → l < 4096 → getD (mapOf g array t) l 0 ≡ entryOf (currentCopy g array t l)
   unfolding mapOf
-  map-entry l h k = getD-tabulate _ 4096 l k ∙ rw (lt-ltb l (g .logical) h)
+  map-entry = copies-entry entryOf none g array t
 
   pub map-end : (l : ℕ) → g .logical ≤ l → l < 4096 → getD (mapOf g array t) l 0 ≡ none
   unfolding mapOf
-  map-end l h k = getD-tabulate _ 4096 l k ∙ rw (le-ltb l (g .logical) h)
+  map-end = copies-end entryOf none g array t
 
   pub map-told : (xs : List ℕ) → length xs ≡ 4096 → ((l : ℕ) → l < g .logical → l < 4096 → getD xs l 0 ≡ entryOf (currentCopy g array t l)) → ((l : ℕ) → g .logical ≤ l → l < 4096 → getD xs l 0 ≡ none)
       → mapOf g array t ≡ xs
-  map-told xs long each past =
-      ext-getD 0 (mapOf g array t) xs (map-long ∙ sym long)
-      (λ l h.
-      let k : l < 4096 = omega (arith, h, map-long) in
-      cases (ltb l (g .logical))
-      (λ u. let i = ltb-true l (g .logical) u in map-entry l i k ∙ sym (each l i k))
-      (λ u. let i = ltb-false l (g .logical) u in map-end l i k ∙ sym (past l i k)))
+  unfolding mapOf
+  map-told = copies-told entryOf none g array t
+
+  pub kinds-long : length (kindsOf g array t) ≡ 4096
+  unfolding kindsOf
+  kinds-long = copies-long (kindAt g array) 0 g array t
+
+  pub kinds-entry : (l : ℕ) → l < g .logical → l < 4096 → getD (kindsOf g array t) l 0 ≡ kindAt g array (currentCopy g array t l)
+  unfolding kindsOf
+  kinds-entry = copies-entry (kindAt g array) 0 g array t
+
+  pub kinds-end : (l : ℕ) → g .logical ≤ l → l < 4096 → getD (kindsOf g array t) l 0 ≡ 0
+  unfolding kindsOf
+  kinds-end = copies-end (kindAt g array) 0 g array t
+
+  pub kinds-told : (xs : List ℕ) → length xs ≡ 4096 → ((l : ℕ) → l < g .logical → l < 4096 → getD xs l 0 ≡ kindAt g array (currentCopy g array t l)) → ((l : ℕ) → g .logical ≤ l → l < 4096 → getD xs l 0 ≡ 0)
+      → kindsOf g array t ≡ xs
+  unfolding kindsOf
+  kinds-told = copies-told (kindAt g array) 0 g array t
 
 pick-below : (test : ℕ → Bool) (number : ℕ → ℕ) (n : ℕ) → 0 < n → (o : Pick) → Picked test number n o → blockOf o < n
 unfolding blockOf
@@ -293,10 +326,10 @@ module _ (g : Geometry) (v : Valid g) (array : List ℕ) (long : length array �
   once-named l k h i d x e =
       d (sym (entry l h x .label .logical-is) ∙ ap (λ (b : ℕ). labelIn g (row b) 0 .logical) e ∙ entry k i (λ z. x (e ∙ z)) .label .logical-is)
 
-  -- a state with the table that was found, whatever its next number and the block filled last
-  module _ (n last : ℕ) (on-chip : last < g .blocks) where
+  -- a state with the table that was found, whatever its next number, the block filled last and the kinds
+  module _ (n last : ℕ) (kinds : List ℕ) (on-chip : last < g .blocks) where
     abbrev known : State
-    known = mountedWith n t last marks (bitsAt g array t) map
+    known = mountedWith n t last marks (bitsAt g array t) map kinds
 
     facts : Mounted known (g .blocks) (g .logical)
     facts =
@@ -335,7 +368,7 @@ mounted-state depth g v array long z =
     let t = blockOf (currentTable g array) in
     let r = right-table g array z in
     subst (λ (st : State). mounted st (g .blocks) (g .logical) ≡ true) (state-by depth g array)
-    (known-mounted g v array long t r (belowBy depth g array (g .blocks)) (blockOf (lastBy depth g array)) (last-on-chip g v array long t r depth))
+    (known-mounted g v array long t r (belowBy depth g array (g .blocks)) (blockOf (lastBy depth g array)) (kindsOf g array t) (last-on-chip g v array long t r depth))
 
 -- as a full mount gives it
 pub full-mounted : (g : Geometry) → Valid g → (array : List ℕ) → length array ≡ chipSize g → mountAnswer g array ≡ 0 → mounted (mountedState g array) (g .blocks) (g .logical) ≡ true

@@ -19,7 +19,7 @@ pub sample-length : length sample ≡ 48
 unfolding sample encoded labelBytes numberWidth bytesOf zeroBits ones onesIn
 sample-length = refl
 
-pub sample-check : storedCheck 32 sample ≡ 92
+pub sample-check : storedCheck 32 sample ≡ 91
 unfolding sample encoded labelBytes numberWidth bytesOf numberOf kindOf storedCheck zeroBits ones onesIn
 sample-check = refl
 

@@ -21,9 +21,9 @@ pub record Sized (main : ℕ) (p : List ℕ) : Type 0 where
   pub spare-least : main + 16 ≤ length p
   pub most : length p ≤ 4352
 
--- the kinds that are written: 64h data, 74h table
+-- the kinds that are written: 6Ch data, 74h table
 abbrev pub dataKind : ℕ
-dataKind = 100
+dataKind = 108
 
 abbrev pub tableKind : ℕ
 tableKind = 116
@@ -33,9 +33,9 @@ abbrev pub among : List ℕ → ℕ → Bool
 among [] k = false
 among (x ∷ xs) k = cond (eqb k x) true (among xs k)
 
--- the kinds of data pages, and of table pages: 44h and 54h are still read
+-- the kinds of data pages, and of table pages: 44h, 64h and 54h are still read
 abbrev pub dataKinds : List ℕ
-dataKinds = 68 ∷ 100 ∷ []
+dataKinds = 68 ∷ 100 ∷ 108 ∷ []
 
 abbrev pub tableKinds : List ℕ
 tableKinds = 84 ∷ 116 ∷ []
@@ -46,12 +46,19 @@ isDataKind k = among dataKinds k
 unfoldable pub isTableKind : ℕ → Bool
 isTableKind k = among tableKinds k
 
--- the kinds of each layout: a number of four bytes, 44h and 54h; one of eight, 64h and 74h
+-- the kinds whose main bytes are stored whitened: 6Ch
+abbrev pub whiteKinds : List ℕ
+whiteKinds = 108 ∷ []
+
+unfoldable pub isWhiteKind : ℕ → Bool
+isWhiteKind k = among whiteKinds k
+
+-- the kinds of each layout: a number of four bytes, 44h and 54h; one of eight, 64h, 6Ch and 74h
 abbrev pub narrowKinds : List ℕ
 narrowKinds = 68 ∷ 84 ∷ []
 
 abbrev pub wideKinds : List ℕ
-wideKinds = 100 ∷ 116 ∷ []
+wideKinds = 100 ∷ 108 ∷ 116 ∷ []
 
 -- the layout of a kind is given by the bytes of its number; 0 for what is no kind
 unfoldable pub numberWidth : ℕ → ℕ

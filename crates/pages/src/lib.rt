@@ -6,14 +6,17 @@ ghost use lib.ListN.{length, getD, take, drop, replicate};
 ghost use mathlib.Core.List.{_++_};
 ghost use Rattle.cells.specs.Part.{part, put};
 ghost use Rattle.pages.specs.Check.{zeroBits, total};
-ghost use Rattle.pages.specs.Layout.{isDataKind, isTableKind, numberWidth, allOnes, bytesOf, numberOf, kindOf, whole, labelOf, label, encoded, Sized};
+ghost use Rattle.pages.specs.Layout.{isDataKind, isTableKind, isWhiteKind, numberWidth, allOnes, bytesOf, numberOf, kindOf, whole, labelOf, label, encoded, Sized};
 
-// The kind byte of a data page, and of a table's, as they are written: the number has eight bytes.
-pub const DATA: u8 = 0x64;
+// The kind byte of a data page, whose main bytes are stored whitened, and of a table's, as they are written: the number has eight bytes.
+pub const DATA: u8 = 0x6c;
 
 pub const TABLE: u8 = 0x74;
 
-// The same in the layout whose number has four bytes, which is read only.
+// A data page's whose main bytes are stored as they are, which is read only.
+const PLAIN_DATA: u8 = 0x64;
+
+// The same in the layout whose number has four bytes, which is read only too.
 const NARROW_DATA: u8 = 0x44;
 
 const NARROW_TABLE: u8 = 0x54;
@@ -122,7 +125,17 @@ pub fn is_data(kind: usize) -> bool
     if kind == NARROW_DATA as usize {
         return true;
     }
+    if kind == PLAIN_DATA as usize {
+        return true;
+    }
     kind == DATA as usize
+}
+
+// Whether main bytes are stored whitened under a kind.
+pub fn is_white(kind: u8) -> bool
+    ensures { λ r. ⌜ r ≡ isWhiteKind kind ⌝ }
+{
+    kind == DATA
 }
 
 // Whether a kind is a table page's.
@@ -144,6 +157,9 @@ pub fn number_width(kind: u8) -> usize
     }
     if kind == NARROW_TABLE {
         return 4;
+    }
+    if kind == PLAIN_DATA {
+        return 8;
     }
     if kind == DATA {
         return 8;

@@ -1,7 +1,7 @@
 -- How the code ends a read, told by the definition: refused, no copy, and a page read. Assumes nothing.
 use Prim.Native.Nat.{ℕ, _<_}
 use mathlib.Core.List.{List}
-use mathlib.Core.Path.{_≡_, sym, ap, _∙_}
+use mathlib.Core.Path.{_≡_, sym, ap, ap₂, _∙_}
 use native.Mathlib.Omega.{arith}
 use borrow.Author.Tests.{eq-eqb, ne-eqb}
 use lib.ListN.{length, getD, replicate}
@@ -36,12 +36,12 @@ module _ (s : Setting) (d : Device) (n : ℕ) (state : State) (logical page : �
     pub in-map : logical < 4096
     in-map = omega (arith, not-refused .logical-below, is-valid .logical-most, is-valid .blocks-most)
 
-    module _ (block : ℕ) (entry : block ≡ getD (state .map) logical 0) where
-      pub goes-on : readingCopy s d n state block page buffer ≡ readingPage s d n state logical page buffer
+    module _ (block form : ℕ) (entry : block ≡ getD (state .map) logical 0) (form-is : form ≡ getD (state .kinds) logical 0) where
+      pub goes-on : readingCopy s d n state block form page buffer ≡ readingPage s d n state logical page buffer
       unfolding resultOf readRequest
       goes-on =
           rw (eq-eqb (refusalOf s d state logical page buffer) 0 (sym told ∙ none-refused))
-          (ap (λ (x : ℕ). readingCopy s d n state x page buffer) entry)
+          (ap₂ (λ (x y : ℕ). readingCopy s d n state x y page buffer) entry form-is)
 
       pub ends-empty : {r : Result} (bytes : List ℕ) → block ≡ none → r ≡ result 0 state d 0 → bytes ≡ replicate (length buffer) 255
           → readResult r bytes ≡ readingPage s d n state logical page buffer
@@ -58,6 +58,6 @@ module _ (s : Setting) (d : Device) (n : ℕ) (state : State) (logical page : �
             let m = mounted-facts state (s .geometry .blocks) (s .geometry .logical) (is-valid .blocks-most) (not-refused .is-mounted) in
             omega (arith, entry, m .copy-below logical (not-refused .logical-below) (λ z. full (entry ∙ z)))
 
-        pub ends-read : {r : ReadResult} → r ≡ readingBlock s d n state block page buffer → r ≡ readingPage s d n state logical page buffer
+        pub ends-read : {r : ReadResult} → r ≡ readingBlock s d n state block form page buffer → r ≡ readingPage s d n state logical page buffer
         unfolding resultOf copyRequest
         ends-read e = e ∙ sym (rw (ne-eqb block none full)) ∙ goes-on

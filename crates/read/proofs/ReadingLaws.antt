@@ -23,11 +23,11 @@ use Rattle.bus_sequences.specs.Cycles.{readOutcome, readOutputs}
 use Rattle.chip_interface.specs.Interface.{busyOf}
 use Rattle.operations.specs.Ends.{Called, CanRead, End, readEnd, endOfRead, readTotal, wordFor}
 use Rattle.operations.proofs.ReadLaws as operation
-use Rattle.copies.specs.Blocks.{blockIn, mainIn, isCopyOf}
-use Rattle.copies.specs.Current.{reading, pageOf, currentCopy, numberAt, unlisted}
+use Rattle.copies.specs.Blocks.{blockIn, mainIn, formed, isCopyOf}
+use Rattle.copies.specs.Current.{reading, pageOf, kindAt, currentCopy, numberAt, unlisted}
 use Rattle.copies.specs.Pick.{Pick, nothing, at, Picked}
 use Rattle.copies.proofs.PickLaws.{pick-is}
-use Rattle.scan_found.specs.Contents.{entryOf, mapOf}
+use Rattle.scan_found.specs.Contents.{entryOf, mapOf, kindsOf}
 use Rattle.scan_found.proofs.MapLaws.{getD-tabulate}
 use Rattle.copies.proofs.PlaceLaws.{row-is-page}
 use Rattle.state.specs.State.{none}
@@ -81,18 +81,21 @@ module _ (s : Setting) (d : Device) (n : ℕ) (state : State) (logical page : �
   abbrev entry : ℕ
   entry = getD (state .map) logical 0
 
+  abbrev form : ℕ
+  form = getD (state .kinds) logical 0
+
   unrefused : 0 ≡ refusalOf s d state logical page buffer
   unrefused = sym (accepted (s .geometry) (sizedFor s d) state logical page (length buffer) a)
 
   pub no-copy : entry ≡ none → readingPage s d n state logical page buffer ≡ readResult (result 0 state d 0) (replicate (s .geometry .main) 255)
   unfolding resultOf copyRequest
   no-copy z =
-      sym (goes-on s d n state logical page buffer 0 unrefused refl entry refl) ∙ rw (eq-eqb entry none z)
+      sym (goes-on s d n state logical page buffer 0 unrefused refl entry form refl refl) ∙ rw (eq-eqb entry none z)
 
-  pub one-copy : (entry ≡ none → ⊥) → readingPage s d n state logical page buffer ≡ readingBlock s d n state entry page buffer
+  pub one-copy : (entry ≡ none → ⊥) → readingPage s d n state logical page buffer ≡ readingBlock s d n state entry form page buffer
   unfolding resultOf copyRequest
   one-copy x =
-      sym (goes-on s d n state logical page buffer 0 unrefused refl entry refl) ∙ rw (ne-eqb entry none x)
+      sym (goes-on s d n state logical page buffer 0 unrefused refl entry form refl refl) ∙ rw (ne-eqb entry none x)
 
   module _ (ready : d .interface .phase ≤ 2) where
     abbrev start : Line
@@ -141,7 +144,7 @@ module _ (s : Setting) (d : Device) (n : ℕ) (state : State) (logical page : �
       unfolding endOfRead readEnd
       history-is = ap (λ (x : Line). x .chip .history) (page-line s d n b page) ∙ ap (λ (e : End). e .history) end-is
 
-      block-ends : Ends s d n state (readingBlock s d n state b page buffer)
+      block-ends : Ends s d n state (readingBlock s d n state b form page buffer)
       unfolding readingBlock
       block-ends =
           record {
@@ -174,7 +177,7 @@ module _ (s : Setting) (d : Device) (n : ℕ) (state : State) (logical page : �
         passed-so : isPassed (readOutcome s start (row b) 0 (s .geometry .main)) ≡ true
         passed-so = ap isPassed (sym (page-outcome s d n b page) ∙ outcome-is) ∙ p
 
-        pub block-gives : Gives s d state (mainIn (s .geometry) (blockIn (s .geometry) (d .array) b) page) (readingBlock s d n state b page buffer)
+        pub block-gives : Gives s d state (formed form page (mainIn (s .geometry) (blockIn (s .geometry) (d .array) b) page)) (readingBlock s d n state b form page buffer)
         unfolding readingBlock fetched
         block-gives =
             record {
@@ -182,7 +185,7 @@ module _ (s : Setting) (d : Device) (n : ℕ) (state : State) (logical page : �
               same-state = rw (ap isPassed outcome-is ∙ p);
               same-array = array-is;
               same-history = history-is;
-              bytes-are = rw passed-so main-bytes;
+              bytes-are = rw passed-so (ap (formed form page) main-bytes);
               still-sized = sized-after;
               still-ready = after .ready;
             }
@@ -190,7 +193,7 @@ module _ (s : Setting) (d : Device) (n : ℕ) (state : State) (logical page : �
     -- a read with a copy, whatever the fate words and the allowance
     pub request-ends : (entry ≡ none → ⊥) → Ends s d n state (readingPage s d n state logical page buffer)
     request-ends x =
-        subst (Ends s d n state) (sym (one-copy x)) (block-ends entry (block-below s d n state logical page buffer 0 unrefused refl entry refl x))
+        subst (Ends s d n state) (sym (one-copy x)) (block-ends entry (block-below s d n state logical page buffer 0 unrefused refl entry form refl refl x))
 
     -- no cycle is answered illegal, so the answer is 0, 10 or 11
     pub read-legal : (entry ≡ none → ⊥)
@@ -202,8 +205,8 @@ module _ (s : Setting) (d : Device) (n : ℕ) (state : State) (logical page : �
         (λ t. inr (inr (e ∙ rw t)))
         (λ t. cases (ltb (busyOf (wordFor s (start .chip))) 256) (λ u. inl (e ∙ rw (t, u))) (λ u. inr (inl (e ∙ rw (t, u)))))
 
-    -- the reading of a logical page, under a map as a mount leaves it
-    module _ (table : ℕ) (map-is : state .map ≡ mapOf (s .geometry) (d .array) table) (p : readEnd s start (s .geometry .main) .outcome ≡ Passed) where
+    -- the reading of a logical page, under a map and kinds as a mount leaves them
+    module _ (table : ℕ) (map-is : state .map ≡ mapOf (s .geometry) (d .array) table) (kinds-is : state .kinds ≡ kindsOf (s .geometry) (d .array) table) (p : readEnd s start (s .geometry .main) .outcome ≡ Passed) where
       valid-geometry : Valid (s .geometry)
       valid-geometry = called .is-valid
 
@@ -214,13 +217,20 @@ module _ (s : Setting) (d : Device) (n : ℕ) (state : State) (logical page : �
           ∙ getD-tabulate _ 4096 logical (in-map s d n state logical page buffer 0 unrefused refl)
           ∙ rw (lt-ltb logical (s .geometry .logical) (a .logical-below))
 
+      form-is : form ≡ kindAt (s .geometry) (d .array) (currentCopy (s .geometry) (d .array) table logical)
+      unfolding kindsOf
+      form-is =
+          ap (λ (x : List ℕ). getD x logical 0) kinds-is
+          ∙ getD-tabulate _ 4096 logical (in-map s d n state logical page buffer 0 unrefused refl)
+          ∙ rw (lt-ltb logical (s .geometry .logical) (a .logical-below))
+
       passes : isPassed (readEnd s start (s .geometry .main) .outcome) ≡ true
       unfolding isPassed
       passes = ap isPassed p
 
-      of-pick : (o : Pick) → ((b : ℕ) → o ≡ at b → b < s .geometry .blocks) → entry ≡ entryOf o → Gives s d state (pageOf (s .geometry) (d .array) page o) (readingPage s d n state logical page buffer)
-      unfolding entryOf pageOf
-      of-pick nothing below e =
+      of-pick : (o : Pick) → ((b : ℕ) → o ≡ at b → b < s .geometry .blocks) → entry ≡ entryOf o → form ≡ kindAt (s .geometry) (d .array) o → Gives s d state (pageOf (s .geometry) (d .array) page o) (readingPage s d n state logical page buffer)
+      unfolding entryOf pageOf kindAt
+      of-pick nothing below e f =
           subst (Gives s d state (replicate (s .geometry .main) 255)) (sym (no-copy e))
           (record {
             done = refl;
@@ -231,12 +241,13 @@ module _ (s : Setting) (d : Device) (n : ℕ) (state : State) (logical page : �
             still-sized = a .sizes-fit;
             still-ready = ready;
           })
-      of-pick (at b) below e =
+      of-pick (at b) below e f =
           let h = below b refl in
           let full : entry ≡ none → ⊥ = λ z. omega (arith, e, z, h, valid-geometry .blocks-most) in
-          subst (Gives s d state (mainIn (s .geometry) (blockIn (s .geometry) (d .array) b) page))
-          (sym (one-copy full ∙ ap (λ (x : ℕ). readingBlock s d n state x page buffer) e))
-          (block-gives b h passes)
+          subst (λ (k : ℕ). Gives s d state (formed k page (mainIn (s .geometry) (blockIn (s .geometry) (d .array) b) page)) (readingPage s d n state logical page buffer)) f
+          (subst (Gives s d state (formed form page (mainIn (s .geometry) (blockIn (s .geometry) (d .array) b) page)))
+          (sym (one-copy full ∙ ap (λ (x : ℕ). readingBlock s d n state x form page buffer) e))
+          (block-gives b h passes))
 
       picked-below : (o : Pick) → Picked (copyTest (s .geometry) (d .array) table logical) (numberAt (s .geometry) (d .array)) (s .geometry .blocks) o → (b : ℕ) → o ≡ at b → b < s .geometry .blocks
       picked-below o k b e = subst (Picked (copyTest (s .geometry) (d .array) table logical) (numberAt (s .geometry) (d .array)) (s .geometry .blocks)) e k .below
@@ -246,6 +257,7 @@ module _ (s : Setting) (d : Device) (n : ℕ) (state : State) (logical page : �
           of-pick (currentCopy (s .geometry) (d .array) table logical)
           (picked-below (currentCopy (s .geometry) (d .array) table logical) (copy-picked (s .geometry) (d .array) table logical))
           entry-is
+          form-is
 
 -- the buffer changes only with the answer 0, whatever is handed in
 pub read-keeps : (s : Setting) (d : Device) (n : ℕ) (state : State) (logical page : ℕ) (buffer : List ℕ) → (readingPage s d n state logical page buffer .returned .answer ≡ 0 → ⊥)

@@ -54,14 +54,14 @@ read-most s l row column n =
     (λ t. rw t (omega (arith, length-append (first ++ replicate polled status) [], begun)))
 
 module _ (s : Setting) (d : Device) (n : ℕ) (state : State) where
-  block-sent : (block page : ℕ) (buffer : List ℕ) → readingBlock s d n state block page buffer .returned .sent ≡ length (pageProgress s d n block page .cycles)
+  block-sent : (block form page : ℕ) (buffer : List ℕ) → readingBlock s d n state block form page buffer .returned .sent ≡ length (pageProgress s d n block page .cycles)
   unfolding readingBlock
-  block-sent block page buffer =
+  block-sent block form page buffer =
       omega (arith, allowance-kept s _ .read (rowOf (s .geometry) block page) 0 (s .geometry .main) (progress (callLine d n) Passed [] []) refl)
 
-  block-most : (block page : ℕ) (buffer : List ℕ) → readingBlock s d n state block page buffer .returned .sent ≤ 6 + 2 + 256 + 1 + s .geometry .main
+  block-most : (block form page : ℕ) (buffer : List ℕ) → readingBlock s d n state block form page buffer .returned .sent ≤ 6 + 2 + 256 + 1 + s .geometry .main
   unfolding readingBlock
-  block-most block page buffer =
+  block-most block form page buffer =
       let cs = readCycles s (callLine d n) (rowOf (s .geometry) block page) 0 (s .geometry .main) in
       omega (
         arith,
@@ -77,7 +77,7 @@ module _ (s : Setting) (d : Device) (n : ℕ) (state : State) where
         → readingPage s d n state logical page buffer .returned .sent ≡ length (pageProgress s d n (getD (state .map) logical 0) page .cycles)
     read-sent a x =
         ap (λ (r : ReadResult). r .returned .sent) (one-copy s d n state logical page buffer a x)
-        ∙ block-sent (getD (state .map) logical 0) page buffer
+        ∙ block-sent (getD (state .map) logical 0) (getD (state .kinds) logical 0) page buffer
 
     pub read-sent-none : Accepted (s .geometry) (sizedFor s d) state logical page (length buffer) → getD (state .map) logical 0 ≡ none
         → readingPage s d n state logical page buffer .returned .sent ≡ 0
@@ -90,5 +90,5 @@ module _ (s : Setting) (d : Device) (n : ℕ) (state : State) where
         cases (eqb (refusalOf s d state logical page buffer) 0)
         (λ t. cases (eqb (getD (state .map) logical 0) none)
         (λ z. rw (t, z) (omega arith))
-        (λ z. rw (t, z) (block-most (getD (state .map) logical 0) page buffer)))
+        (λ z. rw (t, z) (block-most (getD (state .map) logical 0) (getD (state .kinds) logical 0) page buffer)))
         (λ t. rw t (omega arith))

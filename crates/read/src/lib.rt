@@ -52,6 +52,8 @@ pub fn read(
         cells::erase_whole(buffer);
         return request_refusals::unchanged(0, state, interface);
     }
+    let kinds = state.kinds;
+    let form = kinds[logical];
     read_page::read_block(
         state,
         g,
@@ -63,6 +65,7 @@ pub fn read(
         fates,
         allowed,
         block,
+        form,
         page,
         buffer,
     )

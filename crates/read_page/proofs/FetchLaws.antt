@@ -8,6 +8,7 @@ use lib.Dec.{eqb}
 use lib.ListN.{length, replicate}
 use Rattle.cells.specs.Cells.{over}
 use Rattle.chip_array.specs.Device.{Setting}
+use Rattle.copies.specs.Blocks.{formed}
 use Rattle.chip.specs.Chip.{Cycle}
 use Rattle.chip.specs.Chip.Cycle.{command, dataOut}
 use Rattle.bus.specs.Line.{Line, send, sendAll, goesOn}
@@ -51,7 +52,7 @@ module _ (s : Setting) where
       (λ t. absurd (false≢true (sym (ap isPassed (rw t) ∙ t) ∙ h)))
 
 -- a read of as many bytes as the main part has
-module _ (s : Setting) (l : Line) (row : ℕ) (buffer bytes : List ℕ) (m : Line) (o : Outcome) (long : length bytes ≡ s .geometry .main)
+module _ (s : Setting) (l : Line) (row form page : ℕ) (buffer bytes : List ℕ) (m : Line) (o : Outcome) (long : length bytes ≡ s .geometry .main)
     (reached : m ≡ sendAll s l (readCycles s l row 0 (length bytes))) (ended : o ≡ readOutcome s l row 0 (length bytes)) where
   pub fetch-line : m ≡ sendAll s l (readCycles s l row 0 (s .geometry .main))
   fetch-line = reached ∙ ap (λ (x : ℕ). sendAll s l (readCycles s l row 0 x)) long
@@ -59,17 +60,17 @@ module _ (s : Setting) (l : Line) (row : ℕ) (buffer bytes : List ℕ) (m : Lin
   pub fetch-outcome : o ≡ readOutcome s l row 0 (s .geometry .main)
   fetch-outcome = ended ∙ ap (readOutcome s l row 0) long
 
-  -- the buffer where it did not pass, and where its bytes were copied on
-  pub fetch-stopped : isPassed o ≡ false → buffer ≡ fetched s l row buffer
+  -- the buffer where it did not pass, and where its bytes were copied on and undone
+  pub fetch-stopped : isPassed o ≡ false → buffer ≡ fetched s l row form page buffer
   unfolding fetched
   fetch-stopped f = rw (sym (ap isPassed fetch-outcome) ∙ f)
 
-  pub fetch-passed : isPassed o ≡ true → length buffer ≡ s .geometry .main → (read into : List ℕ) → read ≡ over (readOutputs s l row 0 (length bytes)) bytes
-      → into ≡ over read buffer → into ≡ fetched s l row buffer
+  pub fetch-passed : isPassed o ≡ true → length buffer ≡ s .geometry .main → (read into undone : List ℕ) → read ≡ over (readOutputs s l row 0 (length bytes)) bytes
+      → into ≡ over read buffer → undone ≡ formed form page into → undone ≡ fetched s l row form page buffer
   unfolding fetched
-  fetch-passed t fits read into e f =
+  fetch-passed t fits read into undone e f u =
       let p = sym (ap isPassed fetch-outcome) ∙ t in
       let full = passed-outputs-long s l row 0 (s .geometry .main) p in
       let whole : read ≡ readOutputs s l row 0 (s .geometry .main) =
       e ∙ ap (λ (x : ℕ). over (readOutputs s l row 0 x) bytes) long ∙ over-all (readOutputs s l row 0 (s .geometry .main)) bytes (long ∙ sym full) in
-      rw p (f ∙ ap (λ (x : List ℕ). over x buffer) whole ∙ over-all (readOutputs s l row 0 (s .geometry .main)) buffer (fits ∙ sym full))
+      rw p (u ∙ ap (formed form page) (f ∙ ap (λ (x : List ℕ). over x buffer) whole ∙ over-all (readOutputs s l row 0 (s .geometry .main)) buffer (fits ∙ sym full)))

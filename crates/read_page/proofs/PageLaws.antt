@@ -32,8 +32,8 @@ module _ (s : Setting) (d : Device) (n block page : ℕ) where
   page-outcome = read-outcome s (rowOf (s .geometry) block page) 0 (s .geometry .main) (progress (callLine d n) Passed [] []) (callLine d n) refl passes-first
 
 -- a page of a block was read
-module _ (s : Setting) (d : Device) (n : ℕ) (state : State) (block page : ℕ) (buffer : List ℕ) (l m : Line) (o : Outcome) (row : ℕ) (bytes : List ℕ) (begun : l ≡ callLine d n) (row-is : row ≡ rowOf (s .geometry) block page)
-    (reached : m ≡ sendAll s l (readCycles s l row 0 (s .geometry .main))) (ended : o ≡ readOutcome s l row 0 (s .geometry .main)) (left-in : bytes ≡ fetched s l row buffer) where
+module _ (s : Setting) (d : Device) (n : ℕ) (state : State) (block form page : ℕ) (buffer : List ℕ) (l m : Line) (o : Outcome) (row : ℕ) (bytes : List ℕ) (begun : l ≡ callLine d n) (row-is : row ≡ rowOf (s .geometry) block page)
+    (reached : m ≡ sendAll s l (readCycles s l row 0 (s .geometry .main))) (ended : o ≡ readOutcome s l row 0 (s .geometry .main)) (left-in : bytes ≡ fetched s l row form page buffer) where
   line-is : m ≡ pageProgress s d n block page .line
   line-is =
       reached
@@ -48,11 +48,11 @@ module _ (s : Setting) (d : Device) (n : ℕ) (state : State) (block page : ℕ)
       ∙ ap (λ (x : ℕ). readOutcome s (callLine d n) x 0 (s .geometry .main)) row-is
       ∙ sym (page-outcome s d n block page)
 
-  bytes-are : bytes ≡ fetched s (callLine d n) (rowOf (s .geometry) block page) buffer
+  bytes-are : bytes ≡ fetched s (callLine d n) (rowOf (s .geometry) block page) form page buffer
   bytes-are =
       left-in
-      ∙ ap (λ (x : Line). fetched s x row buffer) begun
-      ∙ ap (λ (x : ℕ). fetched s (callLine d n) x buffer) row-is
+      ∙ ap (λ (x : Line). fetched s x row form page buffer) begun
+      ∙ ap (λ (x : ℕ). fetched s (callLine d n) x form page buffer) row-is
 
   pub left-most : m .left ≤ n
   left-most =
@@ -63,7 +63,7 @@ module _ (s : Setting) (d : Device) (n : ℕ) (state : State) (block page : ℕ)
         ap (λ (x : Line). x .left) begun,
       )
 
-  ends-so : {r : Result} → r ≡ endAt n (answerFor o) (stateFor o state) m → readResult r bytes ≡ readingBlock s d n state block page buffer
+  ends-so : {r : Result} → r ≡ endAt n (answerFor o) (stateFor o state) m → readResult r bytes ≡ readingBlock s d n state block form page buffer
   unfolding readingBlock
   ends-so e =
       ap (λ (x : Result). readResult x bytes)
@@ -72,10 +72,10 @@ module _ (s : Setting) (d : Device) (n : ℕ) (state : State) (block page : ℕ)
       ∙ ap (λ (x : Outcome). endAt n (answerFor x) (stateFor x state) (pageProgress s d n block page .line)) outcome-is)
       ∙ ap (readResult (endAt n (answerFor (pageProgress s d n block page .outcome)) (stateFor (pageProgress s d n block page .outcome) state) (pageProgress s d n block page .line))) bytes-are
 
-  pub ends-passed : {r : Result} → isPassed o ≡ true → r ≡ endAt n 0 state m → readResult r bytes ≡ readingBlock s d n state block page buffer
+  pub ends-passed : {r : Result} → isPassed o ≡ true → r ≡ endAt n 0 state m → readResult r bytes ≡ readingBlock s d n state block form page buffer
   ends-passed t e = ends-so (e ∙ sym (rw t))
 
   pub ends-stopped : {r : Result} (answer : ℕ) (stopped : State) → isPassed o ≡ false → answer ≡ stopAnswer o → stopped ≡ blank 2 → r ≡ endAt n answer stopped m
-      → readResult r bytes ≡ readingBlock s d n state block page buffer
+      → readResult r bytes ≡ readingBlock s d n state block form page buffer
   ends-stopped answer stopped f a b e =
       ends-so (e ∙ ap (λ (x : ℕ). endAt n x stopped m) a ∙ ap (λ (x : State). endAt n (stopAnswer o) x m) b ∙ sym (rw f))

@@ -20,9 +20,11 @@ use Rattle.bus_polling.specs.Polling.{waiting, polls, outcomeOf, endedAs}
 use Rattle.bus_polling.specs.Outcomes.{isPassed, isFailed, isSilent, isCut, isProtected}
 use Rattle.bus_sequences.specs.Cycles.{readCycles, readOutcome, putOut, readOutputs}
 use Rattle.operations.specs.Trace.{ArrayOperation, startedBy}
+use Rattle.whitening.specs.Stream.{shifted, stepped, bitsGiven, bytesGiven}
+use Rattle.whitening.specs.Whitened.{xored}
 use Rattle.pages.specs.Check.{zeroBits}
-use Rattle.pages.specs.Layout.{tableKind, label, whole, allOnes, storedCheck, countedCheck, kindOf, numberWidth, isDataKind, isTableKind, labelOf, numberOf, bytesOf, labelBytes, encoded}
-use Rattle.copies.specs.Blocks.{isMarked, agrees, completeTo, isComplete, isTable, isData, isCopyOf}
+use Rattle.pages.specs.Layout.{tableKind, label, whole, allOnes, storedCheck, countedCheck, kindOf, numberWidth, isDataKind, isTableKind, isWhiteKind, labelOf, numberOf, bytesOf, labelBytes, encoded}
+use Rattle.copies.specs.Blocks.{formed, isMarked, agrees, completeTo, isComplete, isTable, isData, isCopyOf}
 use Rattle.copies.specs.Pick.{better, pick, someBelow}
 use Rattle.copies.specs.Table as table
 use Rattle.copies.specs.Current as current
@@ -58,7 +60,7 @@ formatted = tablePages 0 ++ (tablePages 1 ++ (tablePages 2 ++ (tablePages 3 ++ r
 
 abbrev state : State
 state =
-    record { status = 1; table = 0; last = 0; number = 1; marked = replicate 512 0; invalid = replicate 512 0; map = replicate 4096 65535 }
+    record { status = 1; table = 0; last = 0; number = 1; marked = replicate 512 0; invalid = replicate 512 0; map = replicate 4096 65535; kinds = replicate 4096 0 }
 
 -- a write of logical block 0, page 0 that sends 237 cycles, cut before the last: its mask lets all or nothing of an operation
 -- under way through
@@ -76,7 +78,7 @@ told t =
 
 -- a cut write that survives, one that does not, and one that would have changed no byte
 cut-writes : told (cut 255 165) ++ (told (cut 0 165) ++ told (cut 255 255)) ≡ 11 ∷ 1 ∷ 0 ∷ 165 ∷ 11 ∷ 0 ∷ 0 ∷ 255 ∷ 11 ∷ 1 ∷ 0 ∷ 255 ∷ []
-unfolding ones begun statusMode readMode plainCommand addressFits latched addressed fateWord nextFate started statusByte fitting readStarted programStarted eraseStarted completed isConfirm confirmed confirmable commanded dataTaken dataGiven dataByte finished statusRead exec programmed weakened raised put mayGo cutAfter send byteOut sendAll sent goesOn waiting polls outcomeOf isPassed endedAs readCycles readOutcome putOut readOutputs startedBy readOn statusOn statusEnd afterStatus statusAnswer statusState isProtected stopAnswer isSilent isCut bitAt withBit zeroBits numberWidth bytesOf numberOf labelBytes encoded kindOf eraseOn programOn isFailed mainOf mainRead pageFilled pagesFilled tableMain permitted searchAfter afterFill tryBlock tryTable tablesFilled table.tablePage isDataKind isTableKind copyBits copyTried afterTry copiesFilled thenTable dataSource isGiven hasCopy sentPages sentPage isDataProgram someBelow better pick isMarked agrees completeTo isComplete isTable isData isCopyOf currentTable currentCopy current.pageOf sharesNumber clashesAt clashes judgeTable mountAnswer whole allOnes storedCheck countedCheck labelOf countBits clearFrom table.clearWhere table.rightFirst table.rightPage table.rightTo table.rightTable
+unfolding ones begun statusMode readMode plainCommand addressFits latched addressed fateWord nextFate started statusByte fitting readStarted programStarted eraseStarted completed isConfirm confirmed confirmable commanded dataTaken dataGiven dataByte finished statusRead exec programmed weakened raised put mayGo cutAfter send byteOut sendAll sent goesOn waiting polls outcomeOf isPassed endedAs readCycles readOutcome putOut readOutputs startedBy readOn statusOn statusEnd afterStatus statusAnswer statusState isProtected stopAnswer isSilent isCut bitAt withBit zeroBits numberWidth bytesOf numberOf labelBytes encoded kindOf eraseOn programOn isFailed mainOf mainRead pageFilled pagesFilled tableMain permitted searchAfter afterFill tryBlock tryTable tablesFilled table.tablePage isDataKind isTableKind copyBits copyTried afterTry copiesFilled thenTable dataSource isGiven hasCopy sentPages sentPage isDataProgram someBelow better pick isMarked agrees completeTo isComplete isTable isData isCopyOf currentTable currentCopy current.pageOf formed isWhiteKind sharesNumber clashesAt clashes judgeTable mountAnswer whole allOnes storedCheck countedCheck labelOf countBits clearFrom table.clearWhere table.rightFirst table.rightPage table.rightTo table.rightTable xored bytesGiven bitsGiven stepped shifted
 cut-writes = refl
 
 -- the book after it, a silent mount and a mount answered 0: first byte of logical block 0, page 0

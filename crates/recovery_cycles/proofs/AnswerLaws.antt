@@ -43,7 +43,7 @@ use Rattle.read.specs.Reading.{copyRequest, readRequest}
 use Rattle.fill_cursor.specs.Cursor.{ended, filling, onBlock, choiceOf, prepared, pageAfter, filledWhole, unfilled, afterAction, programs, isOpen}
 use Rattle.fill_cursor.specs.declared.Cursor.{Cursor}
 use Rattle.fill_cursor.specs.declared.Running.{Running}
-use Rattle.fill_driver.specs.Driver.{Ran, performed, gone, acted, ran}
+use Rattle.fill_driver.specs.Driver.{formNow, Ran, performed, gone, acted, ran}
 use Rattle.open_write.specs.Open.{OpenState, cursorOf, isOpened}
 use Rattle.open_write.specs.Requests.{OpenResult, beside, openRefusal, through, unless, openReadRequest, openWriteRequest, openEraseRequest, openMountRequest, openEnd, openRequest, advanceRun, advanceEnd, advanceRequest}
 use Rattle.recovery.specs.Calls.{Lent, toMount, toRead, toWrite, toErase, toIdentify, toOpen, toAdvance, LineKept, Store, stateOf, settingOf, runOf, chipOf}
@@ -248,7 +248,7 @@ run-told s bytes (suc n) left r p w =
     let next : RunTold (acted s bytes r p .running .cursor) (acted s bytes r p .progress .outcome) =
     cases (eqb (r .cursor .step) 0)
     (λ z. rw z (prepared-told (s .geometry) (r .cursor) (r .state) (p .outcome) h (w .passes h)))
-    (λ z. rw z (after-told (s .geometry .pages) (r .cursor) (performed s (r .cursor) (r .state .invalid) bytes p .outcome) h)) in
+    (λ z. rw z (after-told (s .geometry .pages) (r .cursor) (performed s (r .cursor) (formNow r) (r .state .invalid) bytes p .outcome) h)) in
     rw t (run-told s bytes n (left - programs (r .cursor)) (acted s bytes r p .running) (acted s bytes r p .progress) next))
     (λ t. rw t w)
 

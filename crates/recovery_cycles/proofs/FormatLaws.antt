@@ -127,7 +127,7 @@ module _ (s : Setting) (v : Valid (s .geometry)) where
     main-stays : (n : ℕ) (source : Source) (p : Progress) → Stays p → Stays (mainRead s n source p)
     unfolding mainRead
     main-stays n (given main) p h = h
-    main-stays n (kept old) p h = read-stays (rowOf (s .geometry) old n) 0 (s .geometry .main) p h
+    main-stays n (kept old form) p h = read-stays (rowOf (s .geometry) old n) 0 (s .geometry .main) p h
 
     fill-stays : (c : Copy) (source : ℕ → Source) (n : ℕ) → n ≤ s .geometry .pages → (p : Progress) → Stays p → Stays (pagesFilled s block c source n p)
     unfolding pagesFilled pageFilled

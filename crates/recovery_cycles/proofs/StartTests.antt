@@ -18,8 +18,10 @@ use Rattle.bus_polling.specs.Outcomes.{isPassed, isFailed, isSilent, isCut}
 use Rattle.bus_sequences.specs.Cycles.{readCycles, readOutcome, putOut, readOutputs}
 use Rattle.operations.specs.Trace.{startedBy}
 use Rattle.operations.specs.Ends.{statusEnd}
+use Rattle.whitening.specs.Stream.{shifted, stepped, bitsGiven, bytesGiven}
+use Rattle.whitening.specs.Whitened.{xored}
 use Rattle.pages.specs.Check.{zeroBits}
-use Rattle.pages.specs.Layout.{numberWidth, isDataKind, isTableKind, bytesOf, numberOf, labelBytes, encoded, kindOf}
+use Rattle.pages.specs.Layout.{dataKind, numberWidth, isDataKind, isTableKind, bytesOf, numberOf, labelBytes, encoded, kindOf, isWhiteKind}
 use Rattle.copies.specs.Table as table
 use Rattle.state_choose.specs.Choose.{permitted, searchAfter}
 use Rattle.state.specs.State.{copyBits}
@@ -27,6 +29,7 @@ use Rattle.state.specs.declared.State.{State}
 use Rattle.progress.specs.Progress.{readOn, progress, statusOn}
 use Rattle.progress.specs.Steps.{eraseOn, programOn}
 use Rattle.request.specs.Call.{stopAnswer, callLine}
+use Rattle.copies.specs.Blocks.{formed}
 use Rattle.fill.specs.Fill.{mainOf, mainRead, pageFilled, pagesFilled, tableMain, dataSource, isGiven}
 use Rattle.fill_tables.specs.Tables.{afterFill, tryBlock, tryTable, tablesFilled, afterStatus}
 use Rattle.write_changes.specs.Changes.{writeUpdate, afterTry, copyTried, copiesFilled, thenTable, changeCall}
@@ -46,7 +49,7 @@ chip = device poweredOn (replicate 768 255) (replicate 48 255) (replicate 4 0)
 -- the table in block 0, the copy of logical block 0 in block 1, filled last, the next number 3
 abbrev state : State
 state =
-    record { status = 1; table = 0; last = 1; number = 2; marked = replicate 512 0; invalid = replicate 512 0; map = set (replicate 4096 65535) 0 1 }
+    record { status = 1; table = 0; last = 1; number = 2; marked = replicate 512 0; invalid = replicate 512 0; map = set (replicate 4096 65535) 0 1; kinds = set (replicate 4096 0) 0 dataKind }
 
 -- a confirm cycle: its code, the block that the chip names, and 1 where E1h is read after it
 abbrev told : Start → List ℕ
@@ -57,5 +60,5 @@ told t = t .code ∷ blockAt small (t .chip .interface) ∷ cond (t .failed) 1 0
 write-starts : map told (startsIn call (callLine chip 10000 .chip) (changeCall call chip 10000 state (writeUpdate state 0 0 (replicate 32 165)) .progress .cycles))
     ≡ (208 ∷ 2 ∷ 1 ∷ []) ∷ (208 ∷ 3 ∷ 0 ∷ []) ∷ (16 ∷ 3 ∷ 0 ∷ []) ∷ (48 ∷ 1 ∷ 0 ∷ []) ∷ (16 ∷ 3 ∷ 0 ∷ []) ∷ (48 ∷ 1 ∷ 0 ∷ []) ∷ (16 ∷ 3 ∷ 0 ∷ []) ∷ (48 ∷ 1 ∷ 0 ∷ []) ∷ (16 ∷ 3 ∷ 0 ∷ [])
     ∷ (208 ∷ 1 ∷ 0 ∷ []) ∷ (16 ∷ 1 ∷ 0 ∷ []) ∷ (16 ∷ 1 ∷ 0 ∷ []) ∷ (16 ∷ 1 ∷ 0 ∷ []) ∷ (16 ∷ 1 ∷ 0 ∷ []) ∷ []
-unfolding ones begun statusMode readMode plainCommand addressFits latched addressed fateWord nextFate started statusByte fitting readStarted programStarted eraseStarted completed isConfirm confirmed confirmable commanded dataTaken dataGiven dataByte finished statusRead exec programmed weakened raised put mayGo cutAfter send byteOut sendAll sent goesOn waiting polls outcomeOf isPassed endedAs readCycles readOutcome putOut readOutputs startedBy readOn statusOn statusEnd afterStatus stopAnswer isSilent isCut bitAt withBit zeroBits numberWidth bytesOf numberOf labelBytes encoded kindOf eraseOn programOn isFailed mainOf mainRead pageFilled pagesFilled tableMain permitted searchAfter afterFill tryBlock tryTable tablesFilled table.tablePage isDataKind isTableKind copyBits copyTried afterTry copiesFilled thenTable dataSource isGiven statusShown takes givesFailed failsNext startsAt startsIn
+unfolding ones begun statusMode readMode plainCommand addressFits latched addressed fateWord nextFate started statusByte fitting readStarted programStarted eraseStarted completed isConfirm confirmed confirmable commanded dataTaken dataGiven dataByte finished statusRead exec programmed weakened raised put mayGo cutAfter send byteOut sendAll sent goesOn waiting polls outcomeOf isPassed endedAs readCycles readOutcome putOut readOutputs startedBy readOn statusOn statusEnd afterStatus stopAnswer isSilent isCut bitAt withBit zeroBits numberWidth bytesOf numberOf labelBytes encoded kindOf eraseOn programOn isFailed mainOf formed isWhiteKind mainRead pageFilled pagesFilled tableMain permitted searchAfter afterFill tryBlock tryTable tablesFilled table.tablePage isDataKind isTableKind copyBits copyTried afterTry copiesFilled thenTable dataSource isGiven statusShown takes givesFailed failsNext startsAt startsIn xored bytesGiven bitsGiven stepped shifted
 write-starts = refl

@@ -25,9 +25,11 @@ use Rattle.bus_polling.specs.Outcomes.{isPassed, isFailed, isSilent, isCut, isP
 use Rattle.bus_sequences.specs.Cycles.{readCycles, readOutcome, putOut, readOutputs}
 use Rattle.operations.specs.Ends.{statusEnd}
 use Rattle.operations.specs.Trace.{ArrayOperation, startedBy}
+use Rattle.whitening.specs.Stream.{shifted, stepped, bitsGiven, bytesGiven}
+use Rattle.whitening.specs.Whitened.{xored}
 use Rattle.pages.specs.Check.{zeroBits}
-use Rattle.pages.specs.Layout.{tableKind, label, whole, allOnes, storedCheck, countedCheck, kindOf, numberWidth, isDataKind, isTableKind, labelOf, numberOf, bytesOf, labelBytes, encoded}
-use Rattle.copies.specs.Blocks.{blockIn, isMarked, agrees, completeTo, isComplete, isTable, isData, isCopyOf, anyTo, greatestTo, hasNumber, greatest}
+use Rattle.pages.specs.Layout.{tableKind, label, whole, allOnes, storedCheck, countedCheck, kindOf, numberWidth, isDataKind, isTableKind, isWhiteKind, labelOf, numberOf, bytesOf, labelBytes, encoded}
+use Rattle.copies.specs.Blocks.{formed, blockIn, isMarked, agrees, completeTo, isComplete, isTable, isData, isCopyOf, anyTo, greatestTo, hasNumber, greatest}
 use Rattle.copies.specs.Pick.{better, pick, someBelow}
 use Rattle.copies.specs.Table as table
 use Rattle.copies.specs.Carried.{carriedBy}
@@ -87,7 +89,7 @@ tablePages i = encoded 16 (label tableKind 0 i 1) (tableMain small (replicate 51
 
 abbrev state : State
 state =
-    record { status = 1; table = 0; last = 0; number = 1; marked = replicate 512 0; invalid = replicate 512 0; map = replicate 4096 65535 }
+    record { status = 1; table = 0; last = 0; number = 1; marked = replicate 512 0; invalid = replicate 512 0; map = replicate 4096 65535; kinds = replicate 4096 0 }
 
 abbrev chip : Device
 chip =
@@ -95,7 +97,7 @@ chip =
     (tablePages 0 ++ (tablePages 1 ++ (tablePages 2 ++ (tablePages 3 ++ replicate 576 255)))) (tablePages 3) (4 ∷ 0 ∷ 0 ∷ 0 ∷ [])
 
 format-is : formatting (settingOf small (lent 10000)) erased 10000 (blank 0) ≡ result 0 state chip 1196
-unfolding ones begun statusMode readMode plainCommand addressFits latched addressed fateWord nextFate started statusByte fitting readStarted programStarted eraseStarted completed isConfirm confirmed confirmable commanded dataTaken dataGiven dataByte finished statusRead exec programmed weakened raised put mayGo cutAfter send byteOut sendAll sent goesOn waiting polls outcomeOf isPassed endedAs readCycles readOutcome putOut readOutputs startedBy readOn statusOn statusEnd afterStatus statusAnswer statusState isProtected resetOn pagesRead blockRead blocksRead sized stopAnswer isSilent isCut bitAt withBit countBits zeroBits numberWidth bytesOf numberOf labelBytes encoded kindOf labelOf allOnes storedCheck countedCheck whole isMarked marksTo afterErase blockErased failedAt erasedTo eraseOn programOn isFailed mainOf mainRead pageFilled pagesFilled tableMain permitted searchAfter countPermitted afterFill tryBlock tryTable tablesFilled firstState tooFew tablesRun roundRun readsRun statusRun table.tablePage isDataKind isTableKind anyTo greatest joined numbersAt greatestBelow greatestTo hasNumber resultOf formatRequest lateRun afterLate copyBits listBits unionTo passedOver carriedBy entryOf currentTable pick better isTable isComplete completeTo agrees
+unfolding ones begun statusMode readMode plainCommand addressFits latched addressed fateWord nextFate started statusByte fitting readStarted programStarted eraseStarted completed isConfirm confirmed confirmable commanded dataTaken dataGiven dataByte finished statusRead exec programmed weakened raised put mayGo cutAfter send byteOut sendAll sent goesOn waiting polls outcomeOf isPassed endedAs readCycles readOutcome putOut readOutputs startedBy readOn statusOn statusEnd afterStatus statusAnswer statusState isProtected resetOn pagesRead blockRead blocksRead sized stopAnswer isSilent isCut bitAt withBit countBits zeroBits numberWidth bytesOf numberOf labelBytes encoded kindOf labelOf allOnes storedCheck countedCheck whole isMarked marksTo afterErase blockErased failedAt erasedTo eraseOn programOn isFailed mainOf formed isWhiteKind mainRead pageFilled pagesFilled tableMain permitted searchAfter countPermitted afterFill tryBlock tryTable tablesFilled firstState tooFew tablesRun roundRun readsRun statusRun table.tablePage isDataKind isTableKind anyTo greatest joined numbersAt greatestBelow greatestTo hasNumber resultOf formatRequest lateRun afterLate copyBits listBits unionTo passedOver carriedBy entryOf currentTable pick better isTable isComplete completeTo agrees xored bytesGiven bitsGiven stepped shifted
 format-is = refl
 
 -- the write of logical block 0, page 0 that sends 237 cycles, cut before the last, which would read its last program's status
@@ -110,7 +112,7 @@ arrayOf t = t .progress .line .chip .array
 
 -- its answer, whether it has a complete copy, the answer of a mount, and what page 0 of logical block 0 then reads
 pub cut-told : cut .answer ∷ cond (hasCopy small (arrayOf cut) (cut .progress .started)) 1 0 ∷ mountAnswer small (arrayOf cut) ∷ reading small (arrayOf cut) 0 0 0 ≡ 11 ∷ 1 ∷ 0 ∷ page
-unfolding ones begun statusMode readMode plainCommand addressFits latched addressed fateWord nextFate started statusByte fitting readStarted programStarted eraseStarted completed isConfirm confirmed confirmable commanded dataTaken dataGiven dataByte finished statusRead exec programmed weakened raised put mayGo cutAfter send byteOut sendAll sent goesOn waiting polls outcomeOf isPassed endedAs readCycles readOutcome putOut readOutputs startedBy readOn statusOn statusEnd afterStatus statusAnswer statusState isProtected stopAnswer isSilent isCut bitAt withBit zeroBits numberWidth bytesOf numberOf labelBytes encoded kindOf eraseOn programOn isFailed mainOf mainRead pageFilled pagesFilled tableMain permitted searchAfter afterFill tryBlock tryTable tablesFilled table.tablePage isDataKind isTableKind copyBits copyTried afterTry copiesFilled thenTable dataSource isGiven hasCopy sentPages sentPage isDataProgram someBelow better pick isMarked agrees completeTo isComplete isData isCopyOf currentCopy current.pageOf whole allOnes storedCheck countedCheck labelOf countBits clearFrom isTable currentTable sharesNumber clashesAt clashes judgeTable mountAnswer table.clearWhere table.rightFirst table.rightPage table.rightTo table.rightTable
+unfolding ones begun statusMode readMode plainCommand addressFits latched addressed fateWord nextFate started statusByte fitting readStarted programStarted eraseStarted completed isConfirm confirmed confirmable commanded dataTaken dataGiven dataByte finished statusRead exec programmed weakened raised put mayGo cutAfter send byteOut sendAll sent goesOn waiting polls outcomeOf isPassed endedAs readCycles readOutcome putOut readOutputs startedBy readOn statusOn statusEnd afterStatus statusAnswer statusState isProtected stopAnswer isSilent isCut bitAt withBit zeroBits numberWidth bytesOf numberOf labelBytes encoded kindOf eraseOn programOn isFailed mainOf mainRead pageFilled pagesFilled tableMain permitted searchAfter afterFill tryBlock tryTable tablesFilled table.tablePage isDataKind isTableKind copyBits copyTried afterTry copiesFilled thenTable dataSource isGiven hasCopy sentPages sentPage isDataProgram someBelow better pick isMarked agrees completeTo isComplete isData isCopyOf currentCopy current.pageOf formed isWhiteKind whole allOnes storedCheck countedCheck labelOf countBits clearFrom isTable currentTable sharesNumber clashesAt clashes judgeTable mountAnswer table.clearWhere table.rightFirst table.rightPage table.rightTo table.rightTable xored bytesGiven bitsGiven stepped shifted
 cut-told = refl
 
 cut-answer : cut .answer ≡ 11

@@ -18,9 +18,11 @@ use Rattle.bus_polling.specs.Outcomes.{isPassed, isFailed, isSilent, isCut, isP
 use Rattle.bus_sequences.specs.Cycles.{readCycles, readOutcome, putOut, readOutputs}
 use Rattle.operations.specs.Trace.{startedBy}
 use Rattle.operations.specs.Ends.{statusEnd}
+use Rattle.whitening.specs.Stream.{shifted, stepped, bitsGiven, bytesGiven}
+use Rattle.whitening.specs.Whitened.{xored}
 use Rattle.pages.specs.Check.{zeroBits}
-use Rattle.pages.specs.Layout.{label, tableKind, numberWidth, isDataKind, isTableKind, bytesOf, numberOf, labelBytes, encoded, kindOf, labelOf, allOnes, storedCheck, countedCheck, whole}
-use Rattle.copies.specs.Blocks.{isMarked, anyTo, greatestTo, agrees, completeTo, isComplete, isTable, hasNumber, greatest}
+use Rattle.pages.specs.Layout.{label, tableKind, numberWidth, isDataKind, isTableKind, bytesOf, numberOf, labelBytes, encoded, kindOf, labelOf, allOnes, storedCheck, countedCheck, whole, isWhiteKind}
+use Rattle.copies.specs.Blocks.{isMarked, anyTo, greatestTo, agrees, completeTo, isComplete, isTable, hasNumber, greatest, formed}
 use Rattle.copies.specs.Carried.{carriedBy, listedBy}
 use Rattle.copies.specs.Current.{currentTable, greatestBelow}
 use Rattle.copies.specs.Pick.{better, pick}
@@ -73,7 +75,7 @@ formats-tell : told (formatted 1 8 947) ∷ told (formatted 1 8 1186) ∷ told (
     ∷ (0 ∷ 1189 ∷ 1 ∷ 0 ∷ 0 ∷ 0 ∷ 1 ∷ [])
     ∷ (0 ∷ 1196 ∷ 0 ∷ 0 ∷ 0 ∷ 0 ∷ 0 ∷ [])
     ∷ []
-unfolding resultOf ones begun statusMode readMode plainCommand addressFits latched addressed fateWord nextFate started statusByte fitting readStarted programStarted eraseStarted completed isConfirm confirmed confirmable commanded dataTaken dataGiven dataByte finished statusRead exec programmed weakened raised put mayGo cutAfter send byteOut sendAll sent goesOn waiting polls outcomeOf isPassed endedAs readCycles readOutcome putOut readOutputs startedBy readOn resetOn statusOn pagesRead blockRead blocksRead sized stopAnswer isSilent isCut bitAt withBit countBits zeroBits numberWidth bytesOf numberOf labelBytes encoded kindOf labelOf allOnes storedCheck countedCheck whole isMarked marksTo afterErase blockErased failedAt erasedTo eraseOn programOn isFailed mainOf mainRead pageFilled pagesFilled tableMain permitted searchAfter countPermitted afterFill tryBlock tryTable tablesFilled firstState tooFew tablesRun roundRun statusRun readsRun formatRequest table.tablePage isDataKind isTableKind anyTo greatest joined numbersAt greatestBelow greatestTo hasNumber statusEnd afterStatus afterLate lateRun unionTo passedOver listBits entryOf carriedBy listedBy currentTable better pick isTable isComplete completeTo agrees table.laidTable table.rightTable table.rightTo table.rightPage table.rightFirst table.clearWhere clearFrom copyBits statusAnswer statusState isProtected
+unfolding resultOf ones begun statusMode readMode plainCommand addressFits latched addressed fateWord nextFate started statusByte fitting readStarted programStarted eraseStarted completed isConfirm confirmed confirmable commanded dataTaken dataGiven dataByte finished statusRead exec programmed weakened raised put mayGo cutAfter send byteOut sendAll sent goesOn waiting polls outcomeOf isPassed endedAs readCycles readOutcome putOut readOutputs startedBy readOn resetOn statusOn pagesRead blockRead blocksRead sized stopAnswer isSilent isCut bitAt withBit countBits zeroBits numberWidth bytesOf numberOf labelBytes encoded kindOf labelOf allOnes storedCheck countedCheck whole isMarked marksTo afterErase blockErased failedAt erasedTo eraseOn programOn isFailed mainOf formed isWhiteKind mainRead pageFilled pagesFilled tableMain permitted searchAfter countPermitted afterFill tryBlock tryTable tablesFilled firstState tooFew tablesRun roundRun statusRun readsRun formatRequest table.tablePage isDataKind isTableKind anyTo greatest joined numbersAt greatestBelow greatestTo hasNumber statusEnd afterStatus afterLate lateRun unionTo passedOver listBits entryOf carriedBy listedBy currentTable better pick isTable isComplete completeTo agrees table.laidTable table.rightTable table.rightTo table.rightPage table.rightFirst table.clearWhere clearFrom copyBits statusAnswer statusState isProtected xored bytesGiven bitsGiven stepped shifted
 formats-tell = refl
 
 -- formatted again after that cut: block 3 is still listed, and for 2 logical blocks too few blocks are left, which loses no entry either
@@ -81,5 +83,5 @@ abbrev again : ℕ → Result
 again logical = formatting (setting (chip logical) (replicate 192 0) []) (formatted 1 8 947 .chip) 10000 (blank 0)
 
 again-tells : told (again 1) ∷ told (again 2) ∷ [] ≡ (0 ∷ 1189 ∷ 1 ∷ 0 ∷ 0 ∷ 0 ∷ 1 ∷ []) ∷ (8 ∷ 947 ∷ 0 ∷ 0 ∷ 0 ∷ 0 ∷ 1 ∷ []) ∷ []
-unfolding resultOf ones begun statusMode readMode plainCommand addressFits latched addressed fateWord nextFate started statusByte fitting readStarted programStarted eraseStarted completed isConfirm confirmed confirmable commanded dataTaken dataGiven dataByte finished statusRead exec programmed weakened raised put mayGo cutAfter send byteOut sendAll sent goesOn waiting polls outcomeOf isPassed endedAs readCycles readOutcome putOut readOutputs startedBy readOn resetOn statusOn pagesRead blockRead blocksRead sized stopAnswer isSilent isCut bitAt withBit countBits zeroBits numberWidth bytesOf numberOf labelBytes encoded kindOf labelOf allOnes storedCheck countedCheck whole isMarked marksTo afterErase blockErased failedAt erasedTo eraseOn programOn isFailed mainOf mainRead pageFilled pagesFilled tableMain permitted searchAfter countPermitted afterFill tryBlock tryTable tablesFilled firstState tooFew tablesRun roundRun statusRun readsRun formatRequest table.tablePage isDataKind isTableKind anyTo greatest joined numbersAt greatestBelow greatestTo hasNumber statusEnd afterStatus afterLate lateRun unionTo passedOver listBits entryOf carriedBy listedBy currentTable better pick isTable isComplete completeTo agrees table.laidTable table.rightTable table.rightTo table.rightPage table.rightFirst table.clearWhere clearFrom copyBits statusAnswer statusState isProtected
+unfolding resultOf ones begun statusMode readMode plainCommand addressFits latched addressed fateWord nextFate started statusByte fitting readStarted programStarted eraseStarted completed isConfirm confirmed confirmable commanded dataTaken dataGiven dataByte finished statusRead exec programmed weakened raised put mayGo cutAfter send byteOut sendAll sent goesOn waiting polls outcomeOf isPassed endedAs readCycles readOutcome putOut readOutputs startedBy readOn resetOn statusOn pagesRead blockRead blocksRead sized stopAnswer isSilent isCut bitAt withBit countBits zeroBits numberWidth bytesOf numberOf labelBytes encoded kindOf labelOf allOnes storedCheck countedCheck whole isMarked marksTo afterErase blockErased failedAt erasedTo eraseOn programOn isFailed mainOf formed isWhiteKind mainRead pageFilled pagesFilled tableMain permitted searchAfter countPermitted afterFill tryBlock tryTable tablesFilled firstState tooFew tablesRun roundRun statusRun readsRun formatRequest table.tablePage isDataKind isTableKind anyTo greatest joined numbersAt greatestBelow greatestTo hasNumber statusEnd afterStatus afterLate lateRun unionTo passedOver listBits entryOf carriedBy listedBy currentTable better pick isTable isComplete completeTo agrees table.laidTable table.rightTable table.rightTo table.rightPage table.rightFirst table.clearWhere clearFrom copyBits statusAnswer statusState isProtected xored bytesGiven bitsGiven stepped shifted
 again-tells = refl

@@ -29,10 +29,10 @@ pub takings-agree : (p q : Pages) (most : ℕ) → ((k : ℕ) → k < most → p
 takings-agree p q most e =
     takings-same p q (records p most) (λ k h. e k (omega (arith, h, records-end p most .within))) ∙ ap (takings q) (records-same p q most e)
 
--- a map whose entries read as a book
-module _ (g : Geometry) (v : Valid g) (array map : List ℕ) (book : Book) (entries : (l : ℕ) → l < g .logical → EntryReads g array (getD map l 0) (book l)) where
+-- a map and kinds whose entries read as a book
+module _ (g : Geometry) (v : Valid g) (array map kinds : List ℕ) (book : Book) (entries : (l : ℕ) → l < g .logical → EntryReads g array (getD map l 0) (getD kinds l 0) (book l)) where
   -- the pages by the map are the book's
-  pub pages-book : (k : ℕ) → k < room g → pagesBy g array map k ≡ journalOf g book k
+  pub pages-book : (k : ℕ) → k < room g → pagesBy g array map kinds k ≡ journalOf g book k
   unfolding pagesBy
   pages-book k h =
       let logical = div-lt-iff-lt-mul {k = g .pages} {x = k} {y = g .logical} (omega (arith, v .pages-least)) .1 (omega (arith, h, room-within g)) in
@@ -43,10 +43,10 @@ module _ (g : Geometry) (v : Valid g) (array map : List ℕ) (book : Book) (entr
   pub map-below : (l : ℕ) → l < g .logical → (getD map l 0 ≡ none → ⊥) → getD map l 0 < g .blocks
   map-below l h x = entries l h .below x
 
-  pub records-book : records (pagesBy g array map) (room g) ≡ records (journalOf g book) (room g)
+  pub records-book : records (pagesBy g array map kinds) (room g) ≡ records (journalOf g book) (room g)
   records-book = records-same _ _ (room g) pages-book
 
-  pub takings-book : takingsOf (pagesBy g array map) (room g) ≡ bookTakings g book
+  pub takings-book : takingsOf (pagesBy g array map kinds) (room g) ≡ bookTakings g book
   takings-book = takings-agree _ _ (room g) pages-book
 
 -- a record entered after those of the book's journal. The page after it is no record, as an erased one is none

@@ -39,17 +39,17 @@ module _ (s : Setting) (d : Device) (n : ℕ) (v : Valid (s .geometry)) (map : L
   abbrev g : Geometry
   g = s .geometry
 
-  part-spends : (k column m : ℕ) → k < g .logical * g .pages → column + m ≤ g .main → (p : Progress) → Went s d n p → Spent p (partOn s map k column m p) (readMost m)
+  part-spends : (k m : ℕ) → k < g .logical * g .pages → m ≤ g .main → (p : Progress) → Went s d n p → Spent p (partOn s map k m p) (readMost m)
   unfolding partOn
-  part-spends k column m h w p x =
+  part-spends k m h w p x =
       cases (eqb (blockOf g map k) none)
       (λ t. rw t (omega arith))
       (λ t.
       let logical = div-lt-iff-lt-mul {k = g .pages} {x = k} {y = g .logical} (omega (arith, v .pages-least)) .1 h in
       let block = below (k / g .pages) logical (eqb-false (blockOf g map k) none t) in
       rw t
-      (read-spends s (d .array) (d .history) (rowOf g (blockOf g map k) (k % g .pages)) column m (row-below g v (blockOf g map k) (k % g .pages) block (row-page-below g v k))
-      (omega (arith, w, v .spare-least)) (omega (arith, w)) p (x .unchanged)))
+      (read-spends s (d .array) (d .history) (rowOf g (blockOf g map k) (k % g .pages)) 0 m (row-below g v (blockOf g map k) (k % g .pages) block (row-page-below g v k))
+      (omega (arith, v .main-least)) (omega (arith, w)) p (x .unchanged)))
 
   pub pages-spend : (m : ℕ) → m ≤ g .logical * g .pages → (p : Progress) → Went s d n p → Spent p (pagesOn s map m p) (m * readMost (g .main))
   unfolding pagesOn
@@ -57,17 +57,17 @@ module _ (s : Setting) (d : Device) (n : ℕ) (v : Valid (s .geometry)) (map : L
   pages-spend (suc m) h p x =
       omega (
         arith,
-        part-spends m 0 (g .main) h (omega arith) (pagesOn s map m p) (pages-go s d n v map below m (omega (arith, h)) p x),
+        part-spends m (g .main) h (omega arith) (pagesOn s map m p) (pages-go s d n v map below m (omega (arith, h)) p x),
         pages-spend m (omega (arith, h)) p x,
         suc-mul m (readMost (g .main)),
       )
 
-  amount-spends : (pages : Pages) (e m : ℕ) → m < g .logical * g .pages → (p : Progress) → Went s d n p → Spent p (amountOn s map pages e m p) (readMost 6)
+  amount-spends : (pages : Pages) (e m : ℕ) → m < g .logical * g .pages → (p : Progress) → Went s d n p → Spent p (amountOn s map pages e m p) (readMost 9)
   unfolding amountOn
   amount-spends pages e m h p x =
-      cases (replacedBy (targets pages) e (suc m)) (λ t. rw t (omega arith)) (λ t. rw t (part-spends m 3 6 h (omega (arith, v .main-least)) p x))
+      cases (replacedBy (targets pages) e (suc m)) (λ t. rw t (omega arith)) (λ t. rw t (part-spends m 9 h (omega (arith, v .main-least)) p x))
 
-  pub amounts-spend : (pages : Pages) (e m : ℕ) → m ≤ g .logical * g .pages → (p : Progress) → Went s d n p → Spent p (amountsOn s map pages e m p) (m * readMost 6)
+  pub amounts-spend : (pages : Pages) (e m : ℕ) → m ≤ g .logical * g .pages → (p : Progress) → Went s d n p → Spent p (amountsOn s map pages e m p) (m * readMost 9)
   unfolding amountsOn
   amounts-spend pages e zero h p x = omega arith
   amounts-spend pages e (suc m) h p x =
@@ -75,7 +75,7 @@ module _ (s : Setting) (d : Device) (n : ℕ) (v : Valid (s .geometry)) (map : L
         arith,
         amount-spends pages e m h (amountsOn s map pages e m p) (amounts-go s d n v map below pages e m (omega (arith, h)) p x),
         amounts-spend pages e m (omega (arith, h)) p x,
-        suc-mul m (readMost 6),
+        suc-mul m (readMost 9),
       )
 
 -- no page is read twice to find the end
@@ -108,12 +108,12 @@ module _ (g : Geometry) (y : Store) (i : Inv g y) (a : Lent) where
         let pages : reach * readMost (g .main) ≤ 65535 * 4361 = mul-le-mul {n₂ = 65535} {m₂ = 4361} (omega (arith, few, room-most g)) (omega (arith, v .main-most)) in
         omega (arith, pass, pages)
 
-    run-spends : a .allowed ≤ takingsRun s d (a .allowed) (y .state) .line .left + (65535 * 4361 + 65535 * 271)
+    run-spends : a .allowed ≤ takingsRun s d (a .allowed) (y .state) .line .left + (65535 * 4361 + 65535 * 274)
     unfolding takingsRun
     run-spends =
         let sums =
         amounts-spend s d (a .allowed) v (y .state .map) (below g y i a fit m) (journalPages s d (y .state)) (recordsIn s d (y .state)) (recordsIn s d (y .state)) (omega (arith, within, room-within g)) (passRun s d (a .allowed) (y .state)) (pass-went g y i a fit m) in
-        let amounts : recordsIn s d (y .state) * readMost 6 ≤ 65535 * 271 = mul-le-mul {n₂ = 65535} {m₂ = 271} (omega (arith, within, room-most g)) (omega arith) in
+        let amounts : recordsIn s d (y .state) * readMost 9 ≤ 65535 * 274 = mul-le-mul {n₂ = 65535} {m₂ = 274} (omega (arith, within, room-most g)) (omega arith) in
         omega (arith, pass-spends, sums, amounts)
 
   -- a request for the takings sends no more cycles than that

@@ -80,7 +80,7 @@ module _ (g : Geometry) (y : Store) (i : Inv g y) (a : Lent) where
       (λ q.
       rw (t, unrefused g y i a fit m, q)
       (record {
-        gives = λ _. takings-book g (valid-geometry g y i a fit m) (y .chip .array) (y .state .map) (shown g y) (entries g y i a fit m);
+        gives = λ _. takings-book g (valid-geometry g y i a fit m) (y .chip .array) (y .state .map) (y .state .kinds) (shown g y) (entries g y i a fit m);
         else-none = λ x. absurd (x refl);
       }))
       (λ q. rw (t, unrefused g y i a fit m, q) (record { gives = λ z. absurd (omega (arith, z, stop-least (p .outcome))); else-none = λ _. refl })))
@@ -138,7 +138,7 @@ module _ (g : Geometry) (y : Store) (i : Inv g y) (a : Lent) (sale : Sale) where
   same t =
       let fit = allowed-in g y i a t .sizes-fit in
       let m = allowed-in g y i a t .is-mounted in
-      records-book g (valid-geometry g y i a fit m) (y .chip .array) (y .state .map) (shown g y) (entries g y i a fit m)
+      records-book g (valid-geometry g y i a fit m) (y .chip .array) (y .state .map) (y .state .kinds) (shown g y) (entries g y i a fit m)
       ∙ ap (λ (b : Book). records (journalOf g b) (room g)) (shown-quiet g y (up g y i a t .quiet))
 
   number-told : appendOn g a sale y .returned .answer ≡ 0 → appendOn g a sale y .told ≡ suc (records (journalOf g (y .account .book)) (room g))

@@ -55,7 +55,7 @@ use Rattle.recovery_write.specs.Changed.{Agrees, Proper, updateOf, arrayOf, Cha
 use Rattle.recovery_write.proofs.ChangeLaws.{change-from}
 use Rattle.recovery_write.proofs.EntryLaws.{EntryReads, entry-reads}
 use Rattle.recovery_write.proofs.StandsLaws.{stands-reads}
-use Rattle.recovery_stored.proofs.KnowsLaws.{knows-entry}
+use Rattle.recovery_stored.proofs.KnowsLaws.{knows-entry, knows-kind}
 use Rattle.recovery_proof.specs.Invariant.{dueOf, Up, Open, Inv}
 use Rattle.recovery_proof.proofs.InvariantLaws.{agrees-moved, up-inv, stopped-inv, stopped-unmounted, is-mounted, is-up, failed-none, foundBy, found-inv, leftWith, left-state, left-kept, left-shut}
 use Rattle.recovery_proof.proofs.OpenLaws.{Admitted, admits, base-mounted, kept-inv}
@@ -79,17 +79,17 @@ pub reads-within : (e most all : ℕ) → e ≤ most → most ≤ all → readsF
 reads-within e most all h k = cases (ltb e most) (λ t. rw t (omega (arith, ltb-true e most t, k))) (λ t. rw t k)
 
 -- an entry of the map reads what is shown
-up-entry : (g : Geometry) (y : Store) → Up g y → (l : ℕ) → l < g .logical → EntryReads g (y .chip .array) (getD (y .state .map) l 0) (shown g y l)
+up-entry : (g : Geometry) (y : Store) → Up g y → (l : ℕ) → l < g .logical → EntryReads g (y .chip .array) (getD (y .state .map) l 0) (getD (y .state .kinds) l 0) (shown g y l)
 unfolding shownWith
 up-entry g y u l h =
-    subst (λ (o : Option Note). EntryReads g (y .chip .array) (getD (y .state .map) l 0) (shownWith g o (y .account .book) l)) (sym (u .quiet))
-    (entry-reads g (u .agrees .stored .is-valid) (y .chip .array) (y .state .table) l (getD (y .state .map) l 0) (y .account .book l)
-    (knows-entry g (y .chip .array) (y .state) (u .agrees .stored) (u .agrees .knows) l h) (λ i k. u .agrees .reads l i h k))
+    subst (λ (o : Option Note). EntryReads g (y .chip .array) (getD (y .state .map) l 0) (getD (y .state .kinds) l 0) (shownWith g o (y .account .book) l)) (sym (u .quiet))
+    (entry-reads g (u .agrees .stored .is-valid) (y .chip .array) (y .state .table) l (getD (y .state .map) l 0) (getD (y .state .kinds) l 0) (y .account .book l)
+    (knows-entry g (y .chip .array) (y .state) (u .agrees .stored) (u .agrees .knows) l h) (knows-kind g (y .chip .array) (y .state) (u .agrees .stored) (u .agrees .knows) l h) (λ i k. u .agrees .reads l i h k))
 
-open-entry : (g : Geometry) (y : Store) → Open g y → (l : ℕ) → l < g .logical → EntryReads g (y .chip .array) (getD (y .state .map) l 0) (shown g y l)
+open-entry : (g : Geometry) (y : Store) → Open g y → (l : ℕ) → l < g .logical → EntryReads g (y .chip .array) (getD (y .state .map) l 0) (getD (y .state .kinds) l 0) (shown g y l)
 unfolding shownWith
 open-entry g y o l h =
-    subst (λ (n : Option Note). EntryReads g (y .chip .array) (getD (y .state .map) l 0) (shownWith g n (y .account .book) l)) (sym (o .noted-is))
+    subst (λ (n : Option Note). EntryReads g (y .chip .array) (getD (y .state .map) l 0) (getD (y .state .kinds) l 0) (shownWith g n (y .account .book) l)) (sym (o .noted-is))
     (stands-reads g (o .array₀) (o .long₀) (o .st₀) (write (o .logical) (o .first) (o .bytes)) (y .account .book) (y .marked) (o .failed₀) (o .marks₀) (o .agrees) (o .proper) (o .stands) l h)
 
 -- where nothing is under way the book is shown
@@ -186,7 +186,7 @@ module _ (g : Geometry) (y : Store) (i : Inv g y) (a : Lent) where
     pub unrefused : eqb (journalRefusalOf s d st) 0 ≡ true
     unrefused = eq-eqb (journalRefusalOf s d st) 0 (sym (not-refused g (sizedFor s d) st fit (base-mounted g (stateOf y) m)))
 
-    pub entries : (l : ℕ) → l < g .logical → EntryReads g (y .chip .array) (getD (st .map) l 0) (shown g y l)
+    pub entries : (l : ℕ) → l < g .logical → EntryReads g (y .chip .array) (getD (st .map) l 0) (getD (st .kinds) l 0) (shown g y l)
     entries l h = ⊎-elim (λ u. up-entry g y u l h) (λ o. open-entry g y o l h) which
 
     pub called : Called s (callLine d n)
@@ -207,7 +207,7 @@ module _ (g : Geometry) (y : Store) (i : Inv g y) (a : Lent) where
     valid-geometry = called .is-valid
 
     pub below : (l : ℕ) → l < g .logical → (getD (st .map) l 0 ≡ state.none → ⊥) → getD (st .map) l 0 < g .blocks
-    below = map-below g valid-geometry (y .chip .array) (st .map) (shown g y) entries
+    below = map-below g valid-geometry (y .chip .array) (st .map) (st .kinds) (shown g y) entries
 
     pub pass-went : Went s d n (passRun s d n st)
     pass-went =

@@ -70,27 +70,27 @@ module _ (s : Setting) (d : Device) (n : ℕ) (v : Valid (s .geometry)) (map : L
   abbrev g : Geometry
   g = s .geometry
 
-  part-goes : (k column m : ℕ) → k < g .logical * g .pages → column + m ≤ g .main → (p : Progress) → Went s d n p → Went s d n (partOn s map k column m p)
+  part-goes : (k m : ℕ) → k < g .logical * g .pages → m ≤ g .main → (p : Progress) → Went s d n p → Went s d n (partOn s map k m p)
   unfolding partOn
-  part-goes k column m h w p x =
+  part-goes k m h w p x =
       cases (eqb (blockOf g map k) none)
       (λ t. rw t x)
       (λ t.
       let logical = div-lt-iff-lt-mul {k = g .pages} {x = k} {y = g .logical} (omega (arith, v .pages-least)) .1 h in
       let block = below (k / g .pages) logical (eqb-false (blockOf g map k) none t) in
       rw t
-      (went-read s d n (rowOf g (blockOf g map k) (k % g .pages)) column m (row-below g v (blockOf g map k) (k % g .pages) block (row-page-below g v k))
-      (omega (arith, w, v .spare-least)) (omega (arith, w)) p x))
+      (went-read s d n (rowOf g (blockOf g map k) (k % g .pages)) 0 m (row-below g v (blockOf g map k) (k % g .pages) block (row-page-below g v k))
+      (omega (arith, v .main-least)) (omega (arith, w)) p x))
 
   pub pages-go : (m : ℕ) → m ≤ g .logical * g .pages → (p : Progress) → Went s d n p → Went s d n (pagesOn s map m p)
   unfolding pagesOn
   pages-go zero h p x = x
-  pages-go (suc m) h p x = part-goes m 0 (g .main) h (omega arith) (pagesOn s map m p) (pages-go m (omega (arith, h)) p x)
+  pages-go (suc m) h p x = part-goes m (g .main) h (omega arith) (pagesOn s map m p) (pages-go m (omega (arith, h)) p x)
 
   amount-goes : (pages : Pages) (e m : ℕ) → m < g .logical * g .pages → (p : Progress) → Went s d n p → Went s d n (amountOn s map pages e m p)
   unfolding amountOn
   amount-goes pages e m h p x =
-      cases (replacedBy (targets pages) e (suc m)) (λ t. rw t x) (λ t. rw t (part-goes m 3 6 h (omega (arith, v .main-least)) p x))
+      cases (replacedBy (targets pages) e (suc m)) (λ t. rw t x) (λ t. rw t (part-goes m 9 h (omega (arith, v .main-least)) p x))
 
   pub amounts-go : (pages : Pages) (e m : ℕ) → m ≤ g .logical * g .pages → (p : Progress) → Went s d n p → Went s d n (amountsOn s map pages e m p)
   unfolding amountsOn

@@ -19,9 +19,9 @@ AppendsSend g y =
     (a : Lent) (sale : Sale) → Bytes (a .mask) → SaleFits sale
     → Sends (settingOf g a) (chipOf a (y .chip)) (a .allowed) (sentIn (appendRunOf g a sale y)) (appendOn g a sale y .returned .chip) (appendOn g a sale y .returned .sent)
 
--- 65,535 reads of a page and as many of count and price, each with 256 status reads, at the largest geometry: 65,535 × (4,361 + 271)
+-- 65,535 reads of a page and as many of the nine bytes up to the price, each with 256 status reads, at the largest geometry: 65,535 × (4,361 + 274)
 abbrev pub takingsMost : ℕ
-takingsMost = 303558120
+takingsMost = 303754725
 
 abbrev pub TakingsBounded : Geometry → Store → Type 0
 TakingsBounded g y = (a : Lent) → takingsOn g a y .returned .sent ≤ takingsMost

@@ -12,7 +12,7 @@ use lib.ListN.{length, getD}
 use Rattle.chip_array.specs.Device.{Device, Setting}
 use Rattle.bus_polling.specs.Outcomes.{isPassed}
 use Rattle.operations.specs.Ends.{readEnd}
-use Rattle.copies.specs.Blocks.{blockIn, mainIn}
+use Rattle.copies.specs.Blocks.{blockIn, mainIn, formed}
 use Rattle.state.specs.State.{none}
 use Rattle.state.specs.declared.State.{State}
 use Rattle.request.specs.Call.{sizedFor, callLine}
@@ -27,7 +27,7 @@ use Rattle.request_laws.proofs.PageReadLaws.{read-silent, read-cut}
 use Rattle.recovery_write.proofs.EntryLaws.{EntryReads}
 
 module _ (s : Setting) (d : Device) (n : ℕ) (state : State) (logical page : ℕ) (buffer : List ℕ) (a : Accepted (s .geometry) (sizedFor s d) state logical page (length buffer)) (ready : d .interface .phase ≤ 2)
-    (pages : ℕ → List ℕ) (e : EntryReads (s .geometry) (d .array) (getD (state .map) logical 0) pages) where
+    (pages : ℕ → List ℕ) (e : EntryReads (s .geometry) (d .array) (getD (state .map) logical 0) (getD (state .kinds) logical 0) pages) where
   abbrev r : ReadResult
   r = readingPage s d n state logical page buffer
 
@@ -51,7 +51,7 @@ module _ (s : Setting) (d : Device) (n : ℕ) (state : State) (logical page : �
         (λ t.
         let x = eqb-false entry none t in
         subst (λ (bytes : List ℕ). Gives s d state bytes r) (sym (e .copy-is x page (a .page-below)))
-        (subst (Gives s d state (mainIn (s .geometry) (blockIn (s .geometry) (d .array) entry) page)) (sym (one-copy s d n state logical page buffer a x))
+        (subst (Gives s d state (formed (getD (state .kinds) logical 0) page (mainIn (s .geometry) (blockIn (s .geometry) (d .array) entry) page))) (sym (one-copy s d n state logical page buffer a x))
         (block-gives s d n state logical page buffer a ready entry (e .below x) (passed x))))
 
   pub reads-entry : ReadsAs s d n state (pages page) r

@@ -33,7 +33,7 @@ use Rattle.request_laws.proofs.PageReadLaws.{read-replayed, read-unfailed}
 use Rattle.request_laws.proofs.UnreadyLaws.{read-answers-any, read-255}
 use Rattle.open_write.specs.Open.{OpenState, withState, closed, mountedOpen}
 use Rattle.open_write.specs.Requests.{OpenRead, stops, beside, readBeside, openRefusal, openReadRequest}
-use Rattle.recovery_stored.proofs.KnowsLaws.{knows-entry}
+use Rattle.recovery_stored.proofs.KnowsLaws.{knows-entry, knows-kind}
 use Rattle.recovery_write.proofs.EntryLaws.{EntryReads, entry-reads}
 use Rattle.recovery_write.proofs.StandsLaws.{stands-reads}
 use Rattle.recovery.specs.Book.{Note, write, fed}
@@ -50,17 +50,17 @@ failed-same : (f : ℕ → Bool) (os : List ArrayOperation) → ((b : ℕ) → f
 failed-same f os none = fun-ext (λ b. ap (cond (f b) true) (none b) ∙ or-none (f b))
 
 -- what an entry of the map reads: the book on a mounted state, what is shown where a write is open
-up-entry : (g : Geometry) (y : Store) → Up g y → (l : ℕ) → l < g .logical → EntryReads g (y .chip .array) (getD (y .state .map) l 0) (shown g y l)
+up-entry : (g : Geometry) (y : Store) → Up g y → (l : ℕ) → l < g .logical → EntryReads g (y .chip .array) (getD (y .state .map) l 0) (getD (y .state .kinds) l 0) (shown g y l)
 unfolding shownWith
 up-entry g y u l h =
-    subst (λ (o : Option Note). EntryReads g (y .chip .array) (getD (y .state .map) l 0) (shownWith g o (y .account .book) l)) (sym (u .quiet))
-    (entry-reads g (u .agrees .stored .is-valid) (y .chip .array) (y .state .table) l (getD (y .state .map) l 0) (y .account .book l)
-    (knows-entry g (y .chip .array) (y .state) (u .agrees .stored) (u .agrees .knows) l h) (λ i k. u .agrees .reads l i h k))
+    subst (λ (o : Option Note). EntryReads g (y .chip .array) (getD (y .state .map) l 0) (getD (y .state .kinds) l 0) (shownWith g o (y .account .book) l)) (sym (u .quiet))
+    (entry-reads g (u .agrees .stored .is-valid) (y .chip .array) (y .state .table) l (getD (y .state .map) l 0) (getD (y .state .kinds) l 0) (y .account .book l)
+    (knows-entry g (y .chip .array) (y .state) (u .agrees .stored) (u .agrees .knows) l h) (knows-kind g (y .chip .array) (y .state) (u .agrees .stored) (u .agrees .knows) l h) (λ i k. u .agrees .reads l i h k))
 
-open-entry : (g : Geometry) (y : Store) → Open g y → (l : ℕ) → l < g .logical → EntryReads g (y .chip .array) (getD (y .state .map) l 0) (shown g y l)
+open-entry : (g : Geometry) (y : Store) → Open g y → (l : ℕ) → l < g .logical → EntryReads g (y .chip .array) (getD (y .state .map) l 0) (getD (y .state .kinds) l 0) (shown g y l)
 unfolding shownWith
 open-entry g y o l h =
-    subst (λ (n : Option Note). EntryReads g (y .chip .array) (getD (y .state .map) l 0) (shownWith g n (y .account .book) l)) (sym (o .noted-is))
+    subst (λ (n : Option Note). EntryReads g (y .chip .array) (getD (y .state .map) l 0) (getD (y .state .kinds) l 0) (shownWith g n (y .account .book) l)) (sym (o .noted-is))
     (stands-reads g (o .array₀) (o .long₀) (o .st₀) (write (o .logical) (o .first) (o .bytes)) (y .account .book) (y .marked) (o .failed₀) (o .marks₀) (o .agrees) (o .proper) (o .stands) l h)
 
 pub refusal-small : (g : Geometry) (fits : Bool) (st : State) (logical page long : ℕ) → refusal g fits st logical page long < 8

@@ -10,11 +10,11 @@ use lib.Dec.{eqb}
 use Rattle.geometry.specs.declared.Geometry.{Geometry}
 use Rattle.geometry.specs.Limits.{Valid}
 use Rattle.bools.proofs.BoolLaws.{both, clash}
-use Rattle.copies.specs.Blocks.{SamePages, blockIn, pageIn, mainIn, labelIn, isMarked, isComplete, isTable, isData, isCopyOf}
+use Rattle.copies.specs.Blocks.{SamePages, blockIn, pageIn, mainIn, plainIn, labelIn, isMarked, isComplete, isTable, isData, isCopyOf}
 use Rattle.copies.specs.Pick.{Pick, nothing, at, pick, Best, Picked}
 use Rattle.copies.specs.Table.{bitmapOf, lists, rightTable}
 use Rattle.copies.specs.Current as current
-use Rattle.copies.specs.Current.{currentTable, currentCopy, numberAt, counts, unlisted, reading}
+use Rattle.copies.specs.Current.{currentTable, currentCopy, kindAt, numberAt, counts, unlisted, reading}
 use Rattle.copies.proofs.PickLaws.{pick-is, picked-is, pick-fewer, pick-same}
 use Rattle.copies.proofs.CompleteLaws.{complete-pages, table-complete, data-complete, copy-data, number-same, label-same, complete-same, table-same, data-same, copy-same}
 use Rattle.mount_laws.proofs.StateLaws.{Right, right-at, right-parts, mounts-by, clear-picked, picked-clear}
@@ -137,19 +137,28 @@ module _ (g : Geometry) (before after : List ℕ) (t b : ℕ) (y : ℕ → List 
               (s .left t c i e h j (sym (marks c h) ∙ m) (more c h free)));
         }
 
-  -- a page of the picked block, which is not b
+  -- the block of a current copy is not b
+  picked-off : (l : ℕ) → l < g .logical → (c : ℕ) → currentCopy g before t l ≡ at c → (c < g .blocks) × (c ≡ b → ⊥)
+  unfolding currentCopy
+  picked-off l low c o = (picked-best (λ k. cond (unlisted g before t k) (isCopyOf g l (old k)) false) (numberAt g before) (g .blocks) c o .below, λ x. f .off-copies l low (o ∙ ap at x))
+
+  -- a page of such a block, and its kind
   page-stays : (p : ℕ) (o : Pick) → ((c : ℕ) → o ≡ at c → (c < g .blocks) × (c ≡ b → ⊥)) → current.pageOf g after p o ≡ current.pageOf g before p o
   unfolding current.pageOf
   page-stays p nothing there = refl
-  page-stays p (at c) there = ap (λ (z : List ℕ). mainIn g z p) (r .others c (there c refl .0) (there c refl .1))
+  page-stays p (at c) there = ap (λ (z : List ℕ). plainIn g z p) (r .others c (there c refl .0) (there c refl .1))
 
-  -- readings of a logical block whose current copy stays
+  label-stays : (o : Pick) → ((c : ℕ) → o ≡ at c → (c < g .blocks) × (c ≡ b → ⊥)) → kindAt g after o ≡ kindAt g before o
+  unfolding kindAt
+  label-stays nothing there = refl
+  label-stays (at c) there = ap (λ (z : List ℕ). labelIn g z 0 .kind) (r .others c (there c refl .0) (there c refl .1))
+
+  -- readings and kind of a logical block whose current copy stays
   pub reads-stay : (u l p : ℕ) → l < g .logical → currentCopy g after u l ≡ currentCopy g before t l → reading g after u l p ≡ reading g before t l p
-  unfolding currentCopy
-  reads-stay u l p low q =
-      ap (current.pageOf g after p) q
-      ∙ page-stays p (currentCopy g before t l)
-      (λ c o. (picked-best (λ k. cond (unlisted g before t k) (isCopyOf g l (old k)) false) (numberAt g before) (g .blocks) c o .below, λ x. f .off-copies l low (o ∙ ap at x)))
+  reads-stay u l p low q = ap (current.pageOf g after p) q ∙ page-stays p (currentCopy g before t l) (picked-off l low)
+
+  pub kind-stays : (u l : ℕ) → l < g .logical → currentCopy g after u l ≡ currentCopy g before t l → kindAt g after (currentCopy g after u l) ≡ kindAt g before (currentCopy g before t l)
+  kind-stays u l low q = ap (kindAt g after) q ∙ label-stays (currentCopy g before t l) (picked-off l low)
 
   -- under the same table
   pub lists-old : (c : ℕ) → c < g .blocks → lists g (new t) c ≡ false → lists g (old t) c ≡ false
@@ -192,6 +201,7 @@ module _ (g : Geometry) (before after : List ℕ) (t b : ℕ) (y : ℕ → List 
           table-is = table-is;
           table-same = table-row;
           copies = copies-are;
+          kinds = λ l low. kind-stays t l low (copies-are l low);
           reads = λ l p low h. reads-stay t l p low (copies-are l low);
         }
 

@@ -17,9 +17,9 @@ use Rattle.bitmaps.specs.Bitmap.{bitAt, bitmapBytes}
 use Rattle.bitmaps.proofs.BitmapLaws.{Bitmap, bits-none}
 use Rattle.copies.specs.Blocks.{blockIn, pageIn, mainIn, isMarked}
 use Rattle.copies.specs.Table.{bitmapOf, lists}
-use Rattle.copies.specs.Current.{currentTable, currentCopy, mountAnswer}
+use Rattle.copies.specs.Current.{currentTable, currentCopy, kindAt, mountAnswer}
 use Rattle.copies.proofs.CompleteLaws.{complete-pages, table-complete}
-use Rattle.scan_found.specs.Contents.{entryOf}
+use Rattle.scan_found.specs.Contents.{entryOf, kindsOf}
 use Rattle.scan_found.specs.Found.{bitsAt}
 use Rattle.state.specs.State.{mounted, Mounted, heldBits}
 use Rattle.state.specs.declared.State.{State}
@@ -32,7 +32,7 @@ use Rattle.scan_summary.specs.declared.Depth.{Depth}
 use Rattle.scan_summary.specs.declared.Depth.the-variants.{Full}
 use Rattle.scan_summary.proofs.DepthLaws.{copy-below}
 use Rattle.mount.proofs.MountLaws.{mark-bit}
-use Rattle.mount_laws.proofs.StateLaws.{Right, right-table, right-at, bits-long, byte-past, invalid-is, invalid-ends, last-on-chip, entry-is, known-mounted}
+use Rattle.mount_laws.proofs.StateLaws.{Right, right-table, right-at, bits-long, byte-past, invalid-is, invalid-ends, last-on-chip, entry-is, kinds-entry, known-mounted}
 use Rattle.recovery_stored.specs.Stored.{Stored}
 use Rattle.recovery_stored.specs.After.{Free}
 use Rattle.recovery_stored.specs.Knows.{Knows}
@@ -48,6 +48,7 @@ mounted-knows depth g v array long z =
       marked-is = refl;
       invalid-is = refl;
       map-is = refl;
+      kinds-is = refl;
       last-below = last-on-chip g v array long t r depth;
       numbers = λ b h c. omega (arith, copy-below depth g v array b h c);
     })
@@ -90,8 +91,8 @@ module _ (g : Geometry) (array : List ℕ) (st : State) (s : Stored g array) (k 
   pub knows-mounted : mounted st (g .blocks) (g .logical) ≡ true
   knows-mounted =
       subst (λ (x : State). mounted x (g .blocks) (g .logical) ≡ true)
-      (sym (mounted-told st (k .status-one) refl refl refl (k .marked-is) (k .invalid-is) (k .map-is)))
-      (known-mounted g v array (s .array-long) (st .table) found (st .number) (st .last) (k .last-below))
+      (sym (mounted-told st (k .status-one) refl refl refl (k .marked-is) (k .invalid-is) (k .map-is) (k .kinds-is)))
+      (known-mounted g v array (s .array-long) (st .table) found (st .number) (st .last) (kindsOf g array (st .table)) (k .last-below))
 
   pub knows-facts : Mounted st (g .blocks) (g .logical)
   knows-facts = mounted-facts st (g .blocks) (g .logical) (v .blocks-most) knows-mounted
@@ -110,6 +111,9 @@ module _ (g : Geometry) (array : List ℕ) (st : State) (s : Stored g array) (k 
 
   pub knows-entry : (l : ℕ) → l < g .logical → getD (st .map) l 0 ≡ entryOf (currentCopy g array (st .table) l)
   knows-entry l h = ap (λ (x : List ℕ). getD x l 0) (k .map-is) ∙ entry-is g v array (s .array-long) (st .table) found l h
+
+  pub knows-kind : (l : ℕ) → l < g .logical → getD (st .kinds) l 0 ≡ kindAt g array (currentCopy g array (st .table) l)
+  knows-kind l h = ap (λ (x : List ℕ). getD x l 0) (k .kinds-is) ∙ kinds-entry g array (st .table) l h (omega (arith, h, v .logical-most, v .blocks-most))
 
   -- a block that is not marked, not invalid and not held may be filled
   pub knows-free : (b : ℕ) → b < g .blocks → bitAt (st .marked) b ≡ false → bitAt (st .invalid) b ≡ false → bitAt (heldBits st (g .logical)) b ≡ false → Free g array (st .table) b

@@ -81,5 +81,6 @@ module _ (g : Geometry) (before after : List ℕ) (t b n : ℕ) (s : Stored g be
           table-is = table-is;
           lists-are = lists-are;
           copies = copies-are;
+          kinds = λ l h. calm.kind-stays g before after t b y s e f r b l h (copies-are l h);
           reads = λ l p h k. calm.reads-stay g before after t b y s e f r b l p h (copies-are l h);
         }

@@ -16,7 +16,7 @@ use Rattle.pages.proofs.LayoutLaws.{data-is, data-width}
 use Rattle.copies.specs.Blocks.{blockIn, pageIn, labelIn, isComplete, isTable, isData, isCopyOf}
 use Rattle.copies.specs.Pick.{at}
 use Rattle.copies.specs.Current as current
-use Rattle.copies.specs.Current.{currentTable, currentCopy, numberAt, unlisted}
+use Rattle.copies.specs.Current.{currentTable, currentCopy, kindAt, numberAt, unlisted}
 use Rattle.copies.proofs.CompleteLaws.{complete-pages, data-complete, copy-data}
 use Rattle.fill.specs.Fill.{copy, copyPage}
 use Rattle.state.specs.State.{numberEnd}
@@ -105,8 +105,11 @@ module _ (g : Geometry) (before after : List ℕ) (t b n logical : ℕ) (s : Sto
       calm.copy-stays g before after t b y s e f r t (calm.lists-old g before after t b y s e f r) l h
       (λ c k w. base.pages-kept g before after t b y based r c k (not-this l c x w)) (calm.copy-free g before after t b y s e f r l)
 
+  kind-is : labelIn g row 0 .kind ≡ dataKind
+  kind-is = ap (λ (l : Label). l .kind) first
+
   pub near-data : Renewed g before after t logical b main
-  unfolding current.pageOf
+  unfolding current.pageOf kindAt
   near-data =
       record {
         stored = calm.stored-same g before after t b y s e f r table-is
@@ -115,7 +118,9 @@ module _ (g : Geometry) (before after : List ℕ) (t b n logical : ℕ) (s : Sto
         table-is = table-is;
         table-same = base.table-row g before after t b y based r;
         copy-is = copy-is;
+        kind-new = ap (kindAt g after) copy-is ∙ kind-is;
         copies = copies-are;
+        kinds = λ l h x. calm.kind-stays g before after t b y s e f r t l h (copies-are l h x);
         reads-new = λ p h. ap (current.pageOf g after p) copy-is ∙ copy-main g v (copy dataKind logical n) fits main size bytes row pages-are p h;
         reads = λ l p h k x. calm.reads-stay g before after t b y s e f r t l p h (copies-are l h x);
       }

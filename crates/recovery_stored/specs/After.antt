@@ -11,7 +11,8 @@ use Rattle.bitmaps.specs.Bitmap.{bitAt}
 use Rattle.copies.specs.Blocks.{blockIn, pageIn, wholeIn, isMarked, isComplete}
 use Rattle.copies.specs.Pick.{at}
 use Rattle.copies.specs.Table.{lists}
-use Rattle.copies.specs.Current.{currentTable, currentCopy, numberAt, reading}
+use Rattle.pages.specs.Layout.{dataKind}
+use Rattle.copies.specs.Current.{currentTable, currentCopy, kindAt, numberAt, reading}
 use Rattle.recovery_stored.specs.Stored.{Left, Stored}
 
 -- every other block is as it was; in block b only the pages y can be whole, and all are pages that this store can leave
@@ -56,6 +57,7 @@ pub record Calm (g : Geometry) (before after : List ℕ) (t : ℕ) : Type 0 wher
   pub table-is : currentTable g after ≡ at t
   pub table-same : blockIn g after t ≡ blockIn g before t
   pub copies : (l : ℕ) → l < g .logical → currentCopy g after t l ≡ currentCopy g before t l
+  pub kinds : (l : ℕ) → l < g .logical → kindAt g after (currentCopy g after t l) ≡ kindAt g before (currentCopy g before t l)
   pub reads : (l p : ℕ) → l < g .logical → p < g .pages → reading g after t l p ≡ reading g before t l p
 
 -- block b is complete as the new copy of one logical block, whose pages now read as main
@@ -65,7 +67,9 @@ pub record Renewed (g : Geometry) (before after : List ℕ) (t logical b : ℕ) 
   pub table-is : currentTable g after ≡ at t
   pub table-same : blockIn g after t ≡ blockIn g before t
   pub copy-is : currentCopy g after t logical ≡ at b
+  pub kind-new : kindAt g after (currentCopy g after t logical) ≡ dataKind
   pub copies : (l : ℕ) → l < g .logical → (l ≡ logical → ⊥) → currentCopy g after t l ≡ currentCopy g before t l
+  pub kinds : (l : ℕ) → l < g .logical → (l ≡ logical → ⊥) → kindAt g after (currentCopy g after t l) ≡ kindAt g before (currentCopy g before t l)
   pub reads-new : (p : ℕ) → p < g .pages → reading g after t logical p ≡ main p
   pub reads : (l p : ℕ) → l < g .logical → p < g .pages → (l ≡ logical → ⊥) → reading g after t l p ≡ reading g before t l p
 
@@ -76,4 +80,5 @@ pub record Listed (g : Geometry) (before after : List ℕ) (t b : ℕ) (invalid 
   pub table-is : currentTable g after ≡ at b
   pub lists-are : (c : ℕ) → c < g .blocks → lists g (blockIn g after b) c ≡ bitAt invalid c
   pub copies : (l : ℕ) → l < g .logical → currentCopy g after b l ≡ currentCopy g before t l
+  pub kinds : (l : ℕ) → l < g .logical → kindAt g after (currentCopy g after b l) ≡ kindAt g before (currentCopy g before t l)
   pub reads : (l p : ℕ) → l < g .logical → p < g .pages → reading g after b l p ≡ reading g before t l p

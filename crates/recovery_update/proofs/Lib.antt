@@ -1,3 +1,3 @@
-pub mod NarrowLaws
+pub mod OlderLaws
 pub mod UpdateLaws
 pub mod UpdateTests

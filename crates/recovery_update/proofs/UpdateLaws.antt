@@ -21,7 +21,7 @@ use Rattle.recovery_proof.proofs.RecoveryLaws.{after-inv, reads-by, spared-by}
 use Rattle.recovery_proof.proofs.MountReads.{inv-recovered}
 use Rattle.recovery_proof.proofs.AnswerLaws.{comes-by}
 use Rattle.recovery_update.specs.Found.{foundOn, AlwaysFrom, AlwaysUpdated}
-use Rattle.recovery_update.proofs.NarrowLaws.{narrow-stored}
+use Rattle.recovery_update.proofs.OlderLaws.{older-stored}
 
 -- the invariant holds of a chip as it is found
 found-inv : (g : Geometry) (d : Device) (x : OpenState) → Stored g (d .array) → lengthsFit g d ≡ true → mountedOpen g x ≡ false → length (x .page) ≡ keptBytes → Inv g (foundOn g d x)
@@ -42,7 +42,7 @@ module _ (P : Geometry → Store → Type 0) (by : (g : Geometry) (y : Store) �
   from-inv g d x s fits unmounted kept es t = by g _ (after-inv g es (foundOn g d x) t (found-inv g d x s fits unmounted kept))
 
   updated-inv : AlwaysUpdated P
-  updated-inv g d x s fits unmounted kept es t = from-inv g d x (narrow-stored g (d .array) (s .0) (s .1)) fits unmounted kept es t
+  updated-inv kinds g d x s fits unmounted kept es t = from-inv g d x (older-stored kinds g (d .array) (s .0) (s .1)) fits unmounted kept es t
 
 pub recovers-from : AlwaysFrom Recovers
 recovers-from = from-inv Recovers inv-recovered

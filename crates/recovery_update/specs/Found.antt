@@ -14,7 +14,7 @@ use Rattle.mount.specs.Mount.{blockOf}
 use Rattle.recovery_stored.specs.Stored.{Stored}
 use Rattle.recovery.specs.Book.{account}
 use Rattle.recovery.specs.Calls.{Event, AllPossible, Store, store, after}
-use Rattle.recovery_update.specs.Narrow.{NarrowStored, ListedNarrow}
+use Rattle.recovery_update.specs.Older.{OlderStored, ListedOlder}
 
 -- nothing is mounted and nothing under way; the book is what the current table and copies read, the marks are those of the chip
 abbrev pub foundOn : Geometry → Device → OpenState → Store
@@ -28,9 +28,9 @@ AlwaysFound Start P =
     (g : Geometry) (d : Device) (x : OpenState) → Start g (d .array) → lengthsFit g d ≡ true → mountedOpen g x ≡ false → length (x .page) ≡ keptBytes
     → (es : List Event) → AllPossible g es (foundOn g d x) → P g (after g es (foundOn g d x))
 
--- a chip that this store can leave, and one that a store can leave that knows kinds 44h and 54h alone
+-- a chip that this store can leave, and one that an older store can leave, whatever kinds it knows (`beforeWide`, `beforeWhite`)
 abbrev pub AlwaysFrom : (Geometry → Store → Type 0) → Type 0
 AlwaysFrom P = AlwaysFound Stored P
 
 abbrev pub AlwaysUpdated : (Geometry → Store → Type 0) → Type 0
-AlwaysUpdated P = AlwaysFound (λ g array. NarrowStored g array × ListedNarrow g array) P
+AlwaysUpdated P = (kinds : List ℕ) → AlwaysFound (λ g array. OlderStored kinds g array × ListedOlder kinds g array) P

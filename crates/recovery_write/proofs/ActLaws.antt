@@ -31,7 +31,7 @@ use Rattle.request.proofs.CallLaws.{stop-least}
 use Rattle.progress.specs.Progress.{Progress, progress, lineOf}
 use Rattle.progress.specs.Steps.{resumed, eraseOn}
 use Rattle.progress.proofs.WordLaws.{erase-keeps, line-kept}
-use Rattle.fill.specs.Fill.{copy, copyPage, dataSource, tableCopy, tableMain, tableSource, pageFilled}
+use Rattle.fill.specs.Fill.{copy, copyPage, tableCopy, tableMain, tableSource, pageFilled}
 use Rattle.fill.proofs.KeepLaws.{page-keeps}
 use Rattle.fill_tables.specs.Tables.{tabled}
 use Rattle.fill_cursor.specs.Cursor.{running, moved, firstCursor, ended, filling, onPage, replaced, inTable, choiceOf, onBlock, prepared, filledWhole, unfilled, withdrawn, settled, afterDue, programs, isOpen}
@@ -41,7 +41,7 @@ use Rattle.fill_driver.specs.Driver.{Ran, copyOf, sourceOf, performed, gone, go
 use Rattle.fill_laws.proofs.BlockLaws.{afterFill, erase-decides, page-decides, erase-goes, page-goes}
 use Rattle.fill_laws.proofs.TableLaws.{prepared-open, prepared-none}
 use Rattle.bools.proofs.BoolLaws.{clash}
-use Rattle.write_changes.specs.Changes.{Update, stoppedAt}
+use Rattle.write_changes.specs.Changes.{Update, stoppedAt, updateSource}
 use Rattle.write_changes.proofs.LoopLaws.{chosen-permitted}
 use Rattle.write_laws.specs.Changing.{ChangeAnswer, is-worn, is-spent}
 use Rattle.recovery.specs.Book.{Book, Change, entered}
@@ -242,16 +242,16 @@ module _ (s : Setting) (mask-bytes : Bytes (s .mask)) (first : Line) (called : C
 
   -- a data fill has ended so
   module _ (st : State) (b n : ℕ) (q : Progress) where
-    fill-whole : (f : Bool) → isPassed (q .outcome) ≡ true → Done (withCopy (u .logical) b (taken st)) f q → At (afterFill (filling b n (dataCursor f)) (taken st) (q .outcome)) (goneOn q)
+    fill-whole : (f : Bool) → isPassed (q .outcome) ≡ true → Done (withCopy dataKind (u .logical) b (taken st)) f q → At (afterFill (filling b n (dataCursor f)) (taken st) (q .outcome)) (goneOn q)
     unfolding afterFill filledWhole settled
     fill-whole true y d =
         as-due (rw y) (gone-same q (passed-unfailed (q .outcome) y))
-        (before-table (withCopy (u .logical) b (taken st)) q d (record { st = withCopy (u .logical) b (taken st); mid = tables.mid-first s mask-bytes first called st₀ c book marked₀ failed₀ marks₀ agrees proper (withCopy (u .logical) b (taken st)) true q d; r-is = refl }))
+        (before-table (withCopy dataKind (u .logical) b (taken st)) q d (record { st = withCopy dataKind (u .logical) b (taken st); mid = tables.mid-first s mask-bytes first called st₀ c book marked₀ failed₀ marks₀ agrees proper (withCopy dataKind (u .logical) b (taken st)) true q d; r-is = refl }))
     fill-whole false y d =
         as-due (rw y) (gone-same q (passed-unfailed (q .outcome) y))
-        (has-ended (record { answer = 0; unprotected = λ z. omega (arith, z); state = withCopy (u .logical) b (taken st); changed = tables.data-change s mask-bytes first called st₀ c book marked₀ failed₀ marks₀ agrees proper (withCopy (u .logical) b (taken st)) false q d refl; r-is = refl }))
+        (has-ended (record { answer = 0; unprotected = λ z. omega (arith, z); state = withCopy dataKind (u .logical) b (taken st); changed = tables.data-change s mask-bytes first called st₀ c book marked₀ failed₀ marks₀ agrees proper (withCopy dataKind (u .logical) b (taken st)) false q d refl; r-is = refl }))
 
-    data-filled : (f : Bool) → (isPassed (q .outcome) ≡ true → Done (withCopy (u .logical) b (taken st)) f q) → (isFailed (q .outcome) ≡ true → Mid (withInvalid b (taken st)) true (resumed q))
+    data-filled : (f : Bool) → (isPassed (q .outcome) ≡ true → Done (withCopy dataKind (u .logical) b (taken st)) f q) → (isFailed (q .outcome) ≡ true → Mid (withInvalid b (taken st)) true (resumed q))
         → (isPassed (q .outcome) ≡ false → isFailed (q .outcome) ≡ false → phase.Ends s mask-bytes first called st₀ c book marked₀ failed₀ marks₀ agrees proper (stoppedAt q)) → At (afterFill (filling b n (dataCursor f)) (taken st) (q .outcome)) (goneOn q)
     data-filled f done again ends =
         cases (isPassed (q .outcome))
@@ -327,7 +327,7 @@ module _ (s : Setting) (mask-bytes : Bytes (s .mask)) (first : Line) (called : C
   module _ {r : Running} {p : Progress} (w : InData r p) where
     abbrev dataNext : Progress
     dataNext =
-        pageFilled s (w .block) (copy dataKind (u .logical) (nextNumber (w .st))) (w .page) (dataSource g (u .old) (u .first) (u .count) (u .bytes) (w .page)) (progress (w .line) Passed (w .cycles) (w .started))
+        pageFilled s (w .block) (copy dataKind (u .logical) (nextNumber (w .st))) (w .page) (updateSource g (w .st) u (w .page)) (progress (w .line) Passed (w .cycles) (w .started))
 
     abbrev dataFill : Cursor
     dataFill = filling (w .block) (nextNumber (w .st)) (dataCursor (w .failed))

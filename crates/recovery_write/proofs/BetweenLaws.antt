@@ -157,7 +157,7 @@ module _ (s : Setting) (mask-bytes : Bytes (s .mask)) (first : Line) (called : C
   module _ (st₁ : State) (p₁ : Progress) (d : phase.Done s mask-bytes first called st₀ c book marked₀ failed₀ marks₀ agrees proper st₁ true p₁) where
     abbrev listing : State
     listing =
-        record { status = st₁ .status; table = st₁ .table; last = st₁ .last; number = st₁ .number; marked = st₁ .marked; invalid = st₀ .invalid; map = st₁ .map }
+        record { status = st₁ .status; table = st₁ .table; last = st₁ .last; number = st₁ .number; marked = st₁ .marked; invalid = st₀ .invalid; map = st₁ .map; kinds = st₁ .kinds }
 
     facts₁ : Mounted listing (g .blocks) (g .logical)
     facts₁ = knows-facts g (p₁ .line .chip .array) listing (d .stored) (tables.listing-knows s mask-bytes first called st₀ c book marked₀ failed₀ marks₀ agrees proper st₁ true p₁ d)

@@ -3,7 +3,7 @@ use Prim.Native.Nat.{ℕ, _+_, _-_, _*_, _≤_, _<_}
 use mathlib.Core.Bool.{Bool, true, false, cond}
 use mathlib.Core.List.{List, []}
 use mathlib.Core.Logic.{_⊎_, inl, inr, ⊎-elim}
-use mathlib.Core.Path.{_≡_, refl, sym, ap, subst, _∙_}
+use mathlib.Core.Path.{_≡_, refl, sym, ap, ap₂, subst, _∙_}
 use native.Mathlib.Nat.{sub-self, zero-mul}
 use native.Mathlib.Omega.{arith}
 use borrow.Table.Steps.{cases}
@@ -21,24 +21,25 @@ use Rattle.bitmaps.specs.Bitmap.{bitAt}
 use Rattle.chip_array.specs.Device.{Setting}
 use Rattle.pages.specs.Layout.{dataKind}
 use Rattle.pages.proofs.OverLaws.{over-bytes-to}
-use Rattle.copies.specs.Blocks.{blockIn, pageIn, mainIn, isMarked, isData, isCopyOf, isComplete}
+use Rattle.copies.specs.Blocks.{blockIn, pageIn, mainIn, formed, plainIn, labelIn, isMarked, isData, isCopyOf, isComplete}
 use Rattle.copies.specs.Pick.{Pick, nothing, at, pick, Picked}
 use Rattle.copies.specs.Current as current
-use Rattle.copies.specs.Current.{currentTable, currentCopy, numberAt, unlisted, reading}
+use Rattle.copies.specs.Current.{currentTable, currentCopy, kindAt, numberAt, unlisted, reading}
 use Rattle.copies.specs.Table.{lists}
 use Rattle.copies.proofs.PickLaws.{pick-is}
 use Rattle.copies.proofs.CompleteLaws.{complete-pages}
+use Rattle.copies.proofs.FormLaws.{length-formed, bytes-formed}
 use Rattle.scan_found.specs.Contents.{entryOf}
 use Rattle.fill.specs.Fill.{Source, given, kept, copy, copyPage, dataSource, isGiven, givenMain}
-use Rattle.state.specs.State.{none, heldBits}
+use Rattle.state.specs.State.{none, heldBits, formOf}
 use Rattle.state.specs.declared.State.{State}
 use Rattle.state.proofs.HeldLaws.{held-entry}
-use Rattle.write_changes.specs.Changes.{Update}
+use Rattle.write_changes.specs.Changes.{Update, updateSource}
 use Rattle.damage.specs.Run.{Labelled, Meant, Provides, from-caller, from-copy}
 use Rattle.damage.proofs.CopyLaws.{copy-long, copy-bytes}
 use Rattle.damage.proofs.PlaceLaws.{page-long}
 use Rattle.recovery_stored.proofs.StoredLaws.{same-at}
-use Rattle.recovery_stored.proofs.KnowsLaws.{knows-entry}
+use Rattle.recovery_stored.proofs.KnowsLaws.{knows-entry, knows-kind}
 use Rattle.recovery.specs.Book.{Book, Same, Change, write, erase, entered}
 use Rattle.recovery_write.specs.Changed.{Agrees, Proper, updateOf}
 
@@ -75,25 +76,25 @@ pub by-current : {P : Type 0} (o : Pick) → (o ≡ nothing → P) → ((b : ℕ
 by-current nothing f h = f refl
 by-current (at b) f h = h b refl
 
--- a page that is kept: from the old copy, which is held
-pub record Keeps (g : Geometry) (array held : List ℕ) (old i : ℕ) (main : List ℕ) : Type 0 where
+-- a page that is kept: from the old copy, which is held, undone by its kind
+pub record Keeps (g : Geometry) (array held : List ℕ) (old form i : ℕ) (main : List ℕ) : Type 0 where
   pub old-below : old < g .blocks
   pub old-held : bitAt held old ≡ true
-  pub main-is : main ≡ mainIn g (blockIn g array old) i
+  pub main-is : main ≡ formed form i (mainIn g (blockIn g array old) i)
 
 -- the pages of the copy
-pub record Content (g : Geometry) (array held : List ℕ) (u : Update) (main : ℕ → List ℕ) : Type 0 where
+pub record Content (g : Geometry) (array held : List ℕ) (st : State) (u : Update) (main : ℕ → List ℕ) : Type 0 where
   pub logical-below : u .logical < g .logical
   pub long : (i : ℕ) → i < g .pages → length (main i) ≡ g .main
   pub bytes : (i : ℕ) → i < g .pages → Bytes (main i)
   pub source : (i : ℕ) → i < g .pages
-      → (dataSource g (u .old) (u .first) (u .count) (u .bytes) i ≡ given (main i))
-      ⊎ ((dataSource g (u .old) (u .first) (u .count) (u .bytes) i ≡ kept (u .old)) × Keeps g array held (u .old) i (main i))
+      → (updateSource g st u i ≡ given (main i))
+      ⊎ ((updateSource g st u i ≡ kept (u .old) (formOf st (u .logical))) × Keeps g array held (u .old) (formOf st (u .logical)) i (main i))
 
 -- they are what a fill of block b is to leave, while the held blocks are as they were
-module _ (s : Setting) (v : Valid (s .geometry)) (first held : List ℕ) (u : Update) (main : ℕ → List ℕ) (x : Content (s .geometry) first held u main) (number : ℕ) (fits : Labelled (copy dataKind (u .logical) number)) where
+module _ (s : Setting) (v : Valid (s .geometry)) (first held : List ℕ) (st : State) (u : Update) (main : ℕ → List ℕ) (x : Content (s .geometry) first held st u main) (number : ℕ) (fits : Labelled (copy dataKind (u .logical) number)) where
   pub content-meant : (array : List ℕ) (b : ℕ) → bitAt held b ≡ false → ((c : ℕ) → c < s .geometry .blocks → bitAt held c ≡ true → blockIn (s .geometry) array c ≡ blockIn (s .geometry) first c)
-      → Meant s array b (copy dataKind (u .logical) number) (dataSource (s .geometry) (u .old) (u .first) (u .count) (u .bytes)) (λ i. copyPage (s .geometry) (copy dataKind (u .logical) number) i (main i))
+      → Meant s array b (copy dataKind (u .logical) number) (updateSource (s .geometry) st u) (λ i. copyPage (s .geometry) (copy dataKind (u .logical) number) i (main i))
   content-meant array b unheld same =
       record {
         long = copy-long (s .geometry) v (copy dataKind (u .logical) number) fits main (x .long) (x .bytes);
@@ -101,14 +102,15 @@ module _ (s : Setting) (v : Valid (s .geometry)) (first held : List ℕ) (u : Up
         provides = λ i h. ⊎-elim (λ e. subst (λ (z : Source). Provides (s .geometry) array b (copy dataKind (u .logical) number) i z (copyPage (s .geometry) (copy dataKind (u .logical) number) i (main i))) (sym e) (from-caller (main i))) (λ e. kept-provides i (e .0) (e .1)) (x .source i h);
       }
     where
-      kept-provides : (i : ℕ) → dataSource (s .geometry) (u .old) (u .first) (u .count) (u .bytes) i ≡ kept (u .old) → Keeps (s .geometry) first held (u .old) i (main i)
-          → Provides (s .geometry) array b (copy dataKind (u .logical) number) i (dataSource (s .geometry) (u .old) (u .first) (u .count) (u .bytes) i) (copyPage (s .geometry) (copy dataKind (u .logical) number) i (main i))
+      kept-provides : (i : ℕ) → updateSource (s .geometry) st u i ≡ kept (u .old) (formOf st (u .logical)) → Keeps (s .geometry) first held (u .old) (formOf st (u .logical)) i (main i)
+          → Provides (s .geometry) array b (copy dataKind (u .logical) number) i (updateSource (s .geometry) st u i) (copyPage (s .geometry) (copy dataKind (u .logical) number) i (main i))
       kept-provides i e k =
           let off : u .old ≡ b → ⊥ = λ z. true-false (sym (k .old-held) ∙ ap (bitAt held) z ∙ unheld) in
-          let bytes-are : mainIn (s .geometry) (blockIn (s .geometry) array (u .old)) i ≡ main i = ap (λ (row : List ℕ). mainIn (s .geometry) row i) (same (u .old) (k .old-below) (k .old-held)) ∙ sym (k .main-is) in
+          let form = formOf st (u .logical) in
+          let bytes-are : formed form i (mainIn (s .geometry) (blockIn (s .geometry) array (u .old)) i) ≡ main i = ap (λ (row : List ℕ). formed form i (mainIn (s .geometry) row i)) (same (u .old) (k .old-below) (k .old-held)) ∙ sym (k .main-is) in
           subst (λ (z : Source). Provides (s .geometry) array b (copy dataKind (u .logical) number) i z (copyPage (s .geometry) (copy dataKind (u .logical) number) i (main i))) (sym e)
-          (subst (λ (m : List ℕ). Provides (s .geometry) array b (copy dataKind (u .logical) number) i (kept (u .old)) (copyPage (s .geometry) (copy dataKind (u .logical) number) i m)) bytes-are
-          (from-copy (u .old) (k .old-below) off))
+          (subst (λ (m : List ℕ). Provides (s .geometry) array b (copy dataKind (u .logical) number) i (kept (u .old) form) (copyPage (s .geometry) (copy dataKind (u .logical) number) i m)) bytes-are
+          (from-copy (u .old) form (k .old-below) off))
         where
           true-false : true ≡ false → ⊥
           true-false z = let q : _≡_ {A = ℕ} 0 1 = cc in omega arith
@@ -126,18 +128,25 @@ module _ (g : Geometry) (array : List ℕ) (st : State) (book : Book) (failed : 
     found : Copied g array t logical b
     found = current-copied g array t logical b e
 
-    main-long : (i : ℕ) → i < g .pages → length (mainIn g (blockIn g array b) i) ≡ g .main
+    main-long : (i : ℕ) → i < g .pages → length (plainIn g (blockIn g array b) i) ≡ g .main
     main-long i h =
-        length-take-le (g .main) (pageIn g (blockIn g array b) i) (omega (arith, page-long g v array (a .stored .array-long) b (found .below) i h))
+        length-formed (labelIn g (blockIn g array b) 0 .kind) i (mainIn g (blockIn g array b) i)
+        ∙ length-take-le (g .main) (pageIn g (blockIn g array b) i) (omega (arith, page-long g v array (a .stored .array-long) b (found .below) i h))
 
-    main-bytes : (i : ℕ) → i < g .pages → Bytes (mainIn g (blockIn g array b) i)
+    main-bytes : (i : ℕ) → i < g .pages → Bytes (plainIn g (blockIn g array b) i)
     main-bytes i h =
-        bytes-take (g .main) (pageIn g (blockIn g array b) i)
-        (over-bytes-to (a .stored .left t b i (a .knows .table-is) (found .below) h (complete-pages g (blockIn g array b) (found .complete) .unmarked) (found .unlisted) .is-over))
+        bytes-formed (labelIn g (blockIn g array b) 0 .kind) i (mainIn g (blockIn g array b) i)
+        (bytes-take (g .main) (pageIn g (blockIn g array b) i)
+        (over-bytes-to (a .stored .left t b i (a .knows .table-is) (found .below) h (complete-pages g (blockIn g array b) (found .complete) .unmarked) (found .unlisted) .is-over)))
 
-    reads-copy : (i : ℕ) → i < g .pages → logical < g .logical → book logical i ≡ mainIn g (blockIn g array b) i
+    reads-copy : (i : ℕ) → i < g .pages → logical < g .logical → book logical i ≡ plainIn g (blockIn g array b) i
     unfolding current.pageOf
     reads-copy i h l = sym (a .reads logical i l h) ∙ ap (current.pageOf g array i) e
+
+    -- the state has its kind
+    form-is : logical < g .logical → formOf st logical ≡ labelIn g (blockIn g array b) 0 .kind
+    unfolding kindAt
+    form-is l = knows-kind g array st (a .stored) (a .knows) logical l ∙ ap (kindAt g array) e
 
   reads-none : (logical i : ℕ) → i < g .pages → logical < g .logical → currentCopy g array t logical ≡ nothing → book logical i ≡ replicate (g .main) 255
   unfolding current.pageOf
@@ -177,7 +186,8 @@ module _ (g : Geometry) (array : List ℕ) (st : State) (book : Book) (failed : 
     entry-at b e = entry-is ∙ ap entryOf e
 
     kept-source : (first count : ℕ) (bytes : List ℕ) (i : ℕ) → i < g .pages → isGiven first count i ≡ false
-        → (dataSource g entry first count bytes i ≡ given (book logical i)) ⊎ ((dataSource g entry first count bytes i ≡ kept entry) × Keeps g array held entry i (book logical i))
+        → (dataSource g entry (formOf st logical) first count bytes i ≡ given (book logical i))
+        ⊎ ((dataSource g entry (formOf st logical) first count bytes i ≡ kept entry (formOf st logical)) × Keeps g array held entry (formOf st logical) i (book logical i))
     unfolding dataSource
     kept-source first count bytes i h f =
         by-current (currentCopy g array t logical)
@@ -190,7 +200,7 @@ module _ (g : Geometry) (array : List ℕ) (st : State) (book : Book) (failed : 
         let near : entry < g .blocks = omega (arith, here, c .below) in
         inr (
           rw (f, lt-ltb entry (g .blocks) near),
-          record { old-below = near; old-held = held-entry st (g .logical) logical l (omega (arith, near, v .blocks-most)); main-is = reads-copy logical b e i h l ∙ ap (λ (k : ℕ). mainIn g (blockIn g array k) i) (sym here) },
+          record { old-below = near; old-held = held-entry st (g .logical) logical l (omega (arith, near, v .blocks-most)); main-is = reads-copy logical b e i h l ∙ ap₂ (λ (form k : ℕ). formed form i (mainIn g (blockIn g array k) i)) (sym (form-is logical b e l)) (sym here) },
         ))
 
   -- a write gives its page
@@ -223,11 +233,11 @@ module _ (g : Geometry) (array : List ℕ) (st : State) (book : Book) (failed : 
         ∙ ap (λ (k : ℕ). take (g .main) (drop k bytes)) (zero-mul (g .main))
         ∙ take-all (g .main) bytes (omega (arith, proper .2))
 
-    source-here : dataSource g (getD (st .map) logical 0) page 1 bytes page ≡ given bytes
+    source-here : dataSource g (getD (st .map) logical 0) (formOf st logical) page 1 bytes page ≡ given bytes
     unfolding dataSource
     source-here = rw given-here (ap given part-is)
 
-    pub write-content : Content g array (heldBits st (g .logical)) (updateOf st (write logical page bytes)) written
+    pub write-content : Content g array (heldBits st (g .logical)) st (updateOf st (write logical page bytes)) written
     unfolding updateOf
     write-content =
         record {
@@ -238,10 +248,10 @@ module _ (g : Geometry) (array : List ℕ) (st : State) (book : Book) (failed : 
               cases (eqb i page)
               (λ e.
               let z = eqb-true i page e in
-              inl (ap (dataSource g (getD (st .map) logical 0) page 1 bytes) z ∙ source-here ∙ ap given (sym (here-is i z))))
+              inl (ap (dataSource g (getD (st .map) logical 0) (formOf st logical) page 1 bytes) z ∙ source-here ∙ ap given (sym (here-is i z))))
               (λ e.
               let z = eqb-false i page e in
-              subst (λ (m : List ℕ). (dataSource g (getD (st .map) logical 0) page 1 bytes i ≡ given m) ⊎ ((dataSource g (getD (st .map) logical 0) page 1 bytes i ≡ kept (getD (st .map) logical 0)) × Keeps g array (heldBits st (g .logical)) (getD (st .map) logical 0) i m))
+              subst (λ (m : List ℕ). (dataSource g (getD (st .map) logical 0) (formOf st logical) page 1 bytes i ≡ given m) ⊎ ((dataSource g (getD (st .map) logical 0) (formOf st logical) page 1 bytes i ≡ kept (getD (st .map) logical 0) (formOf st logical)) × Keeps g array (heldBits st (g .logical)) (getD (st .map) logical 0) (formOf st logical) i m))
               (sym (other-is i z)) (kept-source logical (proper .0) page 1 bytes i h (given-other i z)));
         }
 
@@ -254,11 +264,11 @@ module _ (g : Geometry) (array : List ℕ) (st : State) (book : Book) (failed : 
     unfolding entered
     cleared-is i = rw (eq-eqb logical logical refl)
 
-    blank-source : (i : ℕ) → dataSource g none 0 0 [] i ≡ given (replicate (g .main) 255)
+    blank-source : (i : ℕ) → dataSource g none (formOf st logical) 0 0 [] i ≡ given (replicate (g .main) 255)
     unfolding dataSource isGiven
     blank-source i = rw (le-leb 0 i (omega arith), le-ltb i 0 (omega arith), le-ltb none (g .blocks) (omega (arith, v .blocks-most)))
 
-    pub erase-content : Content g array (heldBits st (g .logical)) (updateOf st (erase logical)) cleared
+    pub erase-content : Content g array (heldBits st (g .logical)) st (updateOf st (erase logical)) cleared
     unfolding updateOf
     erase-content =
         record {
@@ -269,7 +279,7 @@ module _ (g : Geometry) (array : List ℕ) (st : State) (book : Book) (failed : 
         }
 
   -- the new copy of the request's logical block is the book with the request entered
-  pub change-content : (c : Change) → Proper g c → Content g array (heldBits st (g .logical)) (updateOf st c) (entered g c book (updateOf st c .logical))
+  pub change-content : (c : Change) → Proper g c → Content g array (heldBits st (g .logical)) st (updateOf st c) (entered g c book (updateOf st c .logical))
   unfolding updateOf
   change-content (write logical page bytes) p = write-content logical page bytes p
   change-content (erase logical) p = erase-content logical p

@@ -19,7 +19,8 @@ use Rattle.state_choose.specs.Choose.{permitted}
 use Rattle.operations.specs.Trace.{ArrayOperation}
 use Rattle.pages.specs.Layout.{Label, label, labelOf, kindOf, numberWidth, isDataKind, Fits}
 use Rattle.pages.proofs.LayoutLaws.{encoded-label}
-use Rattle.copies.specs.Blocks.{blockIn, isComplete}
+use Rattle.copies.specs.Blocks.{blockIn, isComplete, formed}
+use Rattle.copies.proofs.FormLaws.{length-formed}
 use Rattle.fill.specs.Fill.{Copy, copyPage}
 use Rattle.damage.specs.Run.{Labelled}
 use Rattle.damage.specs.Touched.{Each, Some, Programs}
@@ -67,8 +68,8 @@ pub page-kind : (g : Geometry) → Valid g → (c : Copy) → Labelled c → (ma
 unfolding labelOf
 page-kind g v c fits main long i h =
     ap (λ (l : Label). l .kind)
-    (subst (λ (k : ℕ). labelOf k (copyPage g c i (main i)) ≡ label (c .kind) (c .logical) i (c .number)) (long i h)
-    (encoded-label (g .spare) (label (c .kind) (c .logical) i (c .number)) (main i)
+    (subst (λ (k : ℕ). labelOf k (copyPage g c i (main i)) ≡ label (c .kind) (c .logical) i (c .number)) (length-formed (c .kind) i (main i) ∙ long i h)
+    (encoded-label (g .spare) (label (c .kind) (c .logical) i (c .number)) (formed (c .kind) i (main i))
     (record { width-some = fits .width-some; kind-byte = fits .kind-byte; logical-fits = fits .logical-fits; page-byte = omega (arith, h, v .pages-most); number-fits = fits .number-fits })))
 
 -- a block without a program of its page 0 was not sent whole

@@ -29,7 +29,7 @@ use Rattle.pages.proofs.LayoutLaws.{data-is}
 use Rattle.copies.specs.Blocks.{blockIn, isMarked, isComplete}
 use Rattle.copies.specs.Pick.{at}
 use Rattle.copies.specs.Table.{lists}
-use Rattle.copies.specs.Current.{currentTable, currentCopy, reading}
+use Rattle.copies.specs.Current.{currentTable, currentCopy, kindAt, reading}
 use Rattle.scan_found.specs.Contents.{entryOf}
 use Rattle.state_choose.specs.Choose.{permitted}
 use Rattle.state.specs.State.{blank, heldBits, nextNumber, numberEnd, numbersLeft, taken, withInvalid, withCopy}
@@ -38,14 +38,14 @@ use Rattle.state.proofs.HeldLaws.{held-table, held-entry}
 use Rattle.request.proofs.CallLaws.{stop-answer, stop-silent, stop-cut}
 use Rattle.progress.specs.Progress.{Progress, progress, lineOf}
 use Rattle.progress.specs.Steps.{resumed}
-use Rattle.fill.specs.Fill.{copy, copyPage, dataSource}
+use Rattle.fill.specs.Fill.{copy, copyPage}
 use Rattle.fill.proofs.KeepLaws.{filled-keeps}
 use Rattle.damage.specs.Run.{Labelled, Meant, Sound, Slow, Filled, failedIn, fillMost}
 use Rattle.damage.specs.Touched.{Each, Touched}
 use Rattle.damage.proofs.EachLaws.{each-append}
 use Rattle.recovery_write.proofs.LongLaws.{Long, long-kept}
 use Rattle.mount_laws.proofs.StateLaws.{right-at}
-use Rattle.write_changes.specs.Changes.{Update, Copied, copied, copyFilled, stoppedAt, copiesFilled}
+use Rattle.write_changes.specs.Changes.{Update, Copied, copied, copyFilled, stoppedAt, copiesFilled, updateSource}
 use Rattle.write_changes.proofs.LoopLaws.{Copying, copies-end}
 use Rattle.recovery_stored.specs.Stored.{Stored}
 use Rattle.recovery_stored.specs.After.{Below, Free, MarksSame, Renewed}
@@ -114,7 +114,7 @@ module _ (s : Setting) (mask-bytes : Bytes (s .mask)) (first : Line) (called : C
   v : Valid g
   v = called .is-valid
 
-  x : content.Content g array₀ held u main
+  x : content.Content g array₀ held st₀ u main
   x = content.change-content g array₀ st₀ book failed₀ agrees c proper
 
   logical-fits : logical < 65536
@@ -137,7 +137,7 @@ module _ (s : Setting) (mask-bytes : Bytes (s .mask)) (first : Line) (called : C
   -- the state with other invalid blocks and another number
   abbrev pub moved : ℕ → List ℕ → State
   moved n invalid =
-      record { status = st₀ .status; table = st₀ .table; last = st₀ .last; number = n; marked = st₀ .marked; invalid = invalid; map = st₀ .map }
+      record { status = st₀ .status; table = st₀ .table; last = st₀ .last; number = n; marked = st₀ .marked; invalid = invalid; map = st₀ .map; kinds = st₀ .kinds }
 
   -- array and trace, while n is the next number and these blocks are invalid
   pub record Rest (n : ℕ) (invalid array : List ℕ) (os : List ArrayOperation) : Type 0 where
@@ -149,6 +149,7 @@ module _ (s : Setting) (mask-bytes : Bytes (s .mask)) (first : Line) (called : C
     pub more : (b : ℕ) → bitAt (st₀ .invalid) b ≡ true → bitAt invalid b ≡ true
     pub numbers : Below g array n
     pub copies : (l : ℕ) → l < g .logical → (l ≡ logical → ⊥) → currentCopy g array t l ≡ currentCopy g array₀ t l
+    pub copy-kinds : (l : ℕ) → l < g .logical → (l ≡ logical → ⊥) → kindAt g array (currentCopy g array t l) ≡ kindAt g array₀ (currentCopy g array₀ t l)
     pub copy-from : (b : ℕ) → currentCopy g array t logical ≡ at b → (currentCopy g array₀ t logical ≡ at b) ⊎ (bitAt invalid b ≡ true)
     pub valid : (b : ℕ) → bitAt held b ≡ true → bitAt (st₀ .invalid) b ≡ false → bitAt invalid b ≡ false
     pub apart : (b : ℕ) → b < g .blocks → isMarked g (blockIn g array₀ b) ≡ true → bitAt invalid b ≡ false
@@ -171,7 +172,7 @@ module _ (s : Setting) (mask-bytes : Bytes (s .mask)) (first : Line) (called : C
   pub record Done (st : State) (failed : Bool) (p : Progress) : Type 0 where
     pub block : ℕ
     pub below : block < g .blocks
-    pub state-is : st ≡ withCopy logical block (moved (st .number) (st .invalid))
+    pub state-is : st ≡ withCopy dataKind logical block (moved (st .number) (st .invalid))
     pub passed : isPassed (p .outcome) ≡ true
     pub sound : Sound s p
     pub long : Long (chipSize g) p
@@ -184,7 +185,9 @@ module _ (s : Setting) (mask-bytes : Bytes (s .mask)) (first : Line) (called : C
     pub more : (b : ℕ) → bitAt (st₀ .invalid) b ≡ true → bitAt (st .invalid) b ≡ true
     pub numbers : Below g (p .line .chip .array) (nextNumber st)
     pub copies : (l : ℕ) → l < g .logical → (l ≡ logical → ⊥) → currentCopy g (p .line .chip .array) t l ≡ currentCopy g array₀ t l
+    pub copy-kinds : (l : ℕ) → l < g .logical → (l ≡ logical → ⊥) → kindAt g (p .line .chip .array) (currentCopy g (p .line .chip .array) t l) ≡ kindAt g array₀ (currentCopy g array₀ t l)
     pub copy-is : currentCopy g (p .line .chip .array) t logical ≡ at block
+    pub kind-is : kindAt g (p .line .chip .array) (currentCopy g (p .line .chip .array) t logical) ≡ dataKind
     pub valid : (b : ℕ) → bitAt held b ≡ true → bitAt (st₀ .invalid) b ≡ false → bitAt (st .invalid) b ≡ false
     pub block-valid : bitAt (st .invalid) block ≡ false
     pub apart : (b : ℕ) → b < g .blocks → isMarked g (blockIn g array₀ b) ≡ true → bitAt (st .invalid) b ≡ false
@@ -214,6 +217,7 @@ module _ (s : Setting) (mask-bytes : Bytes (s .mask)) (first : Line) (called : C
         more = λ b e. e;
         numbers = agrees .knows .numbers;
         copies = λ l h e. refl;
+        copy-kinds = λ l h e. refl;
         copy-from = λ b e. inl e;
         valid = λ b e f. f;
         apart = λ b h m. knows-facts g array₀ st₀ (agrees .stored) (agrees .knows) .apart b (omega (arith, h, v .blocks-most)) (knows-marked g array₀ st₀ (agrees .stored) (agrees .knows) b h ∙ m);
@@ -288,8 +292,10 @@ module _ (s : Setting) (mask-bytes : Bytes (s .mask)) (first : Line) (called : C
     fits : Labelled (copy dataKind logical n)
     fits = data-label logical n logical-fits number-fits
 
-    pub meant : Meant s before b (copy dataKind logical n) (dataSource g (u .old) (u .first) (u .count) (u .bytes)) (λ i. copyPage g (copy dataKind logical n) i (main i))
-    meant = content.content-meant s v array₀ held u main x n fits before b (is .unheld) (r .kept)
+    pub meant : Meant s before b (copy dataKind logical n) (updateSource g st u) (λ i. copyPage g (copy dataKind logical n) i (main i))
+    meant =
+        subst (λ (z : State). Meant s before b (copy dataKind logical n) (updateSource g z u) (λ i. copyPage g (copy dataKind logical n) i (main i))) (sym (m .state-is))
+        (content.content-meant s v array₀ held st₀ u main x n fits before b (is .unheld) (r .kept))
 
     p-called : Called s (p .line)
     p-called = m .sound .called (passed-answered (p .outcome) (m .passed))
@@ -364,10 +370,11 @@ module _ (s : Setting) (mask-bytes : Bytes (s .mask)) (first : Line) (called : C
       -- what follows whether or not the block is complete
       rest-with : Stored g after → currentTable g after ≡ at t → MarksSame g before after → Below g after (n + 1)
           → ((l : ℕ) → l < g .logical → (l ≡ logical → ⊥) → currentCopy g after t l ≡ currentCopy g before t l)
+          → ((l : ℕ) → l < g .logical → (l ≡ logical → ⊥) → kindAt g after (currentCopy g after t l) ≡ kindAt g before (currentCopy g before t l))
           → ((k : ℕ) → currentCopy g after t logical ≡ at k → (currentCopy g before t logical ≡ at k) ⊎ (k ≡ b))
           → Same g (reading g after t) (cond (hasCopy g after (os ++ adds)) (entered g c book) book)
           → Rest (n + 1) more-invalid after (os ++ adds)
-      rest-with stored table-is marks numbers copies copy-from reads =
+      rest-with stored table-is marks numbers copies copy-kinds copy-from reads =
           record {
             stored = stored;
             table-is = table-is;
@@ -377,6 +384,7 @@ module _ (s : Setting) (mask-bytes : Bytes (s .mask)) (first : Line) (called : C
             more = λ k y. still-set (g .blocks) invalid b few below (r .bits) k (r .more k y);
             numbers = numbers;
             copies = λ l h e. copies l h e ∙ r .copies l h e;
+            copy-kinds = λ l h e. copy-kinds l h e ∙ r .copy-kinds l h e;
             copy-from = λ k e.
                 ⊎-elim (λ y. ⊎-elim inl (λ z. inr (still-set (g .blocks) invalid b few below (r .bits) k z)) (r .copy-from k y))
                 (λ y. inr (ap (bitAt more-invalid) y ∙ now-set (g .blocks) invalid b few below (r .bits))) (copy-from k e);
@@ -394,7 +402,7 @@ module _ (s : Setting) (mask-bytes : Bytes (s .mask)) (first : Line) (called : C
       rest-quiet : tries.Quiet g before after t b adds → Rest (n + 1) more-invalid after (os ++ adds)
       rest-quiet k =
           rest-with (k .calm .stored) (k .calm .table-is) (k .calm .marks) (λ j h y. omega (arith, k .below n (r .numbers) j h y))
-          (λ l h e. k .calm .copies l h) (λ j e. inl (sym (k .calm .copies logical (x .logical-below)) ∙ e))
+          (λ l h e. k .calm .copies l h) (λ l h e. k .calm .kinds l h) (λ j e. inl (sym (k .calm .copies logical (x .logical-below)) ∙ e))
           (λ l i h j. k .calm .reads l i h j ∙ r .reads l i h j ∙ ap (λ (z : Bool). cond z (entered g c book) book l i) (sym same-has))
         where
           same-has : hasCopy g after (os ++ adds) ≡ hasCopy g before os
@@ -424,7 +432,7 @@ module _ (s : Setting) (mask-bytes : Bytes (s .mask)) (first : Line) (called : C
 
         rest-made : Rest (n + 1) more-invalid after (os ++ adds)
         rest-made =
-            rest-with (renewed .0 .stored) (renewed .0 .table-is) (renewed .0 .marks) (renewed .1) (renewed .0 .copies)
+            rest-with (renewed .0 .stored) (renewed .0 .table-is) (renewed .0 .marks) (renewed .1) (renewed .0 .copies) (renewed .0 .kinds)
             (λ j e. inr (same-at (sym e ∙ renewed .0 .copy-is)))
             (λ l i h j. reads-new l i h j ∙ ap (λ (z : Bool). cond z (entered g c book) book l i) (sym has))
 
@@ -449,12 +457,12 @@ module _ (s : Setting) (mask-bytes : Bytes (s .mask)) (first : Line) (called : C
             ∙ ap (cond (failedAfter failed₀ os k) true) (try .touched .failures k ∙ ap (λ (z : Bool). cond (eqb b k) z false) (passed-unfailed (q .outcome) y) ∙ and-none (eqb b k))
             ∙ or-none (failedAfter failed₀ os k)
 
-        pub data-done : Done (withCopy logical b (taken st)) failed q
+        pub data-done : Done (withCopy dataKind logical b (taken st)) failed q
         data-done =
             record {
               block = b;
               below = below;
-              state-is = ap (λ (z : State). withCopy logical b (taken z)) (m .state-is);
+              state-is = ap (λ (z : State). withCopy dataKind logical b (taken z)) (m .state-is);
               passed = y;
               sound = try .leaves .sound;
               long = long;
@@ -467,7 +475,9 @@ module _ (s : Setting) (mask-bytes : Bytes (s .mask)) (first : Line) (called : C
               more = r .more;
               numbers = rest-next .numbers;
               copies = rest-next .copies;
+              copy-kinds = rest-next .copy-kinds;
               copy-is = renewed made .0 .copy-is;
+              kind-is = renewed made .0 .kind-new;
               valid = r .valid;
               block-valid = is .valid;
               apart = r .apart;

@@ -21,10 +21,10 @@ use Rattle.request.specs.Call.{stopAnswer}
 use Rattle.request.proofs.CallLaws.{stop-least}
 use Rattle.progress.specs.Progress.{Progress}
 use Rattle.progress.specs.Steps.{resumed, eraseOn}
-use Rattle.fill.specs.Fill.{copy, copyPage, dataSource, tableCopy, tableMain, tableSource}
+use Rattle.fill.specs.Fill.{copy, copyPage, tableCopy, tableMain, tableSource}
 use Rattle.fill_tables.specs.Tables.{tabled}
 use Rattle.damage.specs.Run.{Meant}
-use Rattle.write_changes.specs.Changes.{Update, stoppedAt}
+use Rattle.write_changes.specs.Changes.{Update, stoppedAt, updateSource}
 use Rattle.recovery.specs.Book.{Book, Change, entered}
 use Rattle.fill_paused.specs.Paused.{Paused}
 use Rattle.fill_paused.proofs.ErasedLaws as erases
@@ -54,16 +54,16 @@ module _ (s : Setting) (mask-bytes : Bytes (s .mask)) (first : Line) (called : C
     p-called : Called s (p .line)
     p-called = m .sound .called (passed-answered (p .outcome) (m .passed))
 
-    meant : Meant s (p .line .chip .array) b (copy dataKind (u .logical) (nextNumber st)) (dataSource g (u .old) (u .first) (u .count) (u .bytes)) pages
+    meant : Meant s (p .line .chip .array) b (copy dataKind (u .logical) (nextNumber st)) (updateSource g st u) pages
     meant = phase.meant s mask-bytes first called st₀ c book marked₀ failed₀ marks₀ agrees proper st failed p m number-fits b below may
 
     -- it passed: the fill stands at page 0
     pub data-begins : isPassed (erased .outcome) ≡ true → Paused g (p .line .chip .array) (p .started) b pages 0 (erased .line .chip) (erased .started)
-    data-begins = erases.paused-first s p b below (copy dataKind (u .logical) (nextNumber st)) (dataSource g (u .old) (u .first) (u .count) (u .bytes)) pages meant mask-bytes (m .high) (m .passed) p-called
+    data-begins = erases.paused-first s p b below (copy dataKind (u .logical) (nextNumber st)) (updateSource g st u) pages meant mask-bytes (m .high) (m .passed) p-called
 
     -- and the chip takes the next command
     pub data-begins-called : isPassed (erased .outcome) ≡ true → Called s (erased .line)
-    data-begins-called = erases.erased-called s p b below (copy dataKind (u .logical) (nextNumber st)) (dataSource g (u .old) (u .first) (u .count) (u .bytes)) pages meant mask-bytes (m .high) (m .passed) p-called
+    data-begins-called = erases.erased-called s p b below (copy dataKind (u .logical) (nextNumber st)) (updateSource g st u) pages meant mask-bytes (m .high) (m .passed) p-called
 
     erased-long : Long (chipSize g) erased
     erased-long = long-kept s (chipSize g) .erase b p (m .long)
@@ -71,8 +71,8 @@ module _ (s : Setting) (mask-bytes : Bytes (s .mask)) (first : Line) (called : C
     try : isPassed (erased .outcome) ≡ false → tries.Tried s p erased (st₀ .table) b pages
     try f =
         phase.tried-so s mask-bytes first called st₀ c book marked₀ failed₀ marks₀ agrees proper st failed p m number-fits b below may erased
-        (erases.unerased-leaves s p b below (copy dataKind (u .logical) (nextNumber st)) (dataSource g (u .old) (u .first) (u .count) (u .bytes)) pages meant mask-bytes (m .high) (m .passed) p-called f)
-        (erases.unerased-touches s p b below (copy dataKind (u .logical) (nextNumber st)) (dataSource g (u .old) (u .first) (u .count) (u .bytes)) pages meant mask-bytes (m .high) (m .passed) p-called f)
+        (erases.unerased-leaves s p b below (copy dataKind (u .logical) (nextNumber st)) (updateSource g st u) pages meant mask-bytes (m .high) (m .passed) p-called f)
+        (erases.unerased-touches s p b below (copy dataKind (u .logical) (nextNumber st)) (updateSource g st u) pages meant mask-bytes (m .high) (m .passed) p-called f)
 
     -- it failed: the block is invalid, and another is tried
     pub data-erase-failed : isFailed (erased .outcome) ≡ true → phase.Mid s mask-bytes first called st₀ c book marked₀ failed₀ marks₀ agrees proper (withInvalid b (taken st)) true (resumed erased)

@@ -29,7 +29,7 @@ use Rattle.operations.specs.Ends.{Called}
 use Rattle.operations.specs.Trace.{ArrayOperation, startedBy, readStarts, programStarts, eraseStarts}
 use Rattle.pages.specs.Layout.{kindOf, isDataKind, dataKind}
 use Rattle.pages.proofs.LayoutLaws.{data-is}
-use Rattle.copies.specs.Blocks.{mainIn}
+use Rattle.copies.specs.Blocks.{mainIn, formed}
 use Rattle.state.specs.State.{nextNumber, spent, taken}
 use Rattle.state.specs.declared.State.{State}
 use Rattle.state_choose.specs.declared.Choice.{Choice}
@@ -37,19 +37,19 @@ use Rattle.state_choose.proofs.ChooseLaws.{by-choice}
 use Rattle.progress.specs.Progress.{Progress, progress, readOn, resetOn}
 use Rattle.progress.specs.Steps.{eraseOn, programOn}
 use Rattle.progress.specs.Kept.{Kept}
-use Rattle.fill.specs.Fill.{Copy, copy, Source, given, kept, copyPage, mainOf, mainRead, pageFilled, dataSource}
+use Rattle.fill.specs.Fill.{Copy, copy, Source, given, kept, copyPage, mainOf, mainRead, pageFilled}
 use Rattle.fill.proofs.KeepLaws.{page-keeps}
 use Rattle.fill_cursor.specs.Cursor.{running, onPage, filling, onBlock, choiceOf, prepared, pageAfter, filledWhole, unfilled, afterAction, programs, isOpen}
 use Rattle.fill_cursor.specs.declared.Cursor.{Cursor}
 use Rattle.fill_cursor.specs.declared.Running.{Running}
-use Rattle.fill_driver.specs.Driver.{copyOf, sourceOf, performed, acted, ran}
+use Rattle.fill_driver.specs.Driver.{copyOf, sourceOf, performed, acted, ran, formNow}
 use Rattle.damage.specs.Run.{Provides, from-caller, from-copy}
 use Rattle.damage.specs.Touched.{Each}
 use Rattle.damage.proofs.TraceLaws.{or-assoc}
 use Rattle.damage.proofs.EachLaws.{each-map}
 use Rattle.damage.proofs.TouchLaws.{reads-only}
 use Rattle.fill_paused.specs.Paused.{Paused}
-use Rattle.write_changes.specs.Changes.{Update}
+use Rattle.write_changes.specs.Changes.{Update, updateSource}
 use Rattle.recovery_stored.proofs.RenewedLaws.{data-label}
 use Rattle.recovery.specs.Book.{Book, Change, entered}
 use Rattle.recovery.specs.Copy.{isLastPassed, lastPassed}
@@ -138,7 +138,7 @@ module _ (s : Setting) (v : Valid (s .geometry)) (l : Line) (b n : ℕ) (below :
 main-still : (s : Setting) (n : ℕ) (source : Source) (p : Progress) → lastPassed (s .geometry) (p .started) ≡ false → lastPassed (s .geometry) (mainRead s n source p .started) ≡ false
 unfolding mainRead readOn
 main-still s n (given main) p f = f
-main-still s n (kept old) p f =
+main-still s n (kept old form) p f =
     cases (isPassed (p .outcome))
     (λ t. rw t (last-still (s .geometry) (p .started) _ f (reads-last s (p .line) (rowOf (s .geometry) old n) 0)))
     (λ t. rw t f)
@@ -262,7 +262,7 @@ module _ (s : Setting) (v : Valid (s .geometry)) (bytes : List ℕ) (r : Running
   c = r .cursor
 
   abbrev source : Source
-  source = sourceOf (s .geometry) c (r .state .invalid) bytes (c .page)
+  source = sourceOf (s .geometry) c (formNow r) (r .state .invalid) bytes (c .page)
 
   -- a page that is due in the data phase is on the chip, and a data page
   abbrev PageDue : Type 0
@@ -341,7 +341,7 @@ provided-bytes : (g : Geometry) (A : List ℕ) (before : List ArrayOperation) (b
     → (c : Copy) (m : ℕ) (from : Source) (page : List ℕ) → Provides g A b c m from page → copyPage g c m (mainOf g (d .array) m from) ≡ page
 unfolding mainOf
 provided-bytes g A before b pages n d started w c m from page (from-caller main) = refl
-provided-bytes g A before b pages n d started w c m from page (from-copy old below other) = ap (λ (row : List ℕ). copyPage g c m (mainIn g row m)) (w .others old below other)
+provided-bytes g A before b pages n d started w c m from page (from-copy old form below other) = ap (λ (row : List ℕ). copyPage g c m (formed form m (mainIn g row m))) (w .others old below other)
 
 module _ (s : Setting) (mask-bytes : Bytes (s .mask)) (first : Line) (called : Called s first) (st₀ : State) (c : Change) (book : Book) (marked₀ failed₀ : ℕ → Bool)
     (marks₀ : MarkedBy (s .geometry) (first .chip .array) marked₀) (agrees : Agrees (s .geometry) (first .chip .array) st₀ book failed₀) (proper : Proper (s .geometry) c) where
@@ -366,7 +366,7 @@ module _ (s : Setting) (mask-bytes : Bytes (s .mask)) (first : Line) (called : C
       let fits = data-label (u .logical) n (omega (arith, x .logical-below, called .is-valid .logical-most, called .is-valid .blocks-most)) (w .fits) in
       let meant = pause.meant s mask-bytes first called st₀ c book marked₀ failed₀ marks₀ agrees proper (w .line) (w .line-called) (w .line-high) (w .st) (w .failed) (w .fits) (w .A) (w .long-A) (w .before) (w .state-is) (w .rest) (w .clean) (w .block) (w .below) (w .may) in
       let bytes-are = provided-bytes g (w .A) (w .before) (w .block) _ (w .page) (w .line .chip) (w .started) (w .stands) (copy dataKind (u .logical) n) (w .page) _ _ (meant .provides (w .page) (w .page-below)) in
-      let kind : isDataKind (kindOf (g .main) (copyPage g (copy dataKind (u .logical) n) (w .page) (mainOf g (w .line .chip .array) (w .page) (dataSource g (u .old) (u .first) (u .count) (u .bytes) (w .page))))) ≡ true =
+      let kind : isDataKind (kindOf (g .main) (copyPage g (copy dataKind (u .logical) n) (w .page) (mainOf g (w .line .chip .array) (w .page) (updateSource g (w .st) u (w .page))))) ≡ true =
       ap (λ (z : List ℕ). isDataKind (kindOf (g .main) z)) bytes-are
       ∙ ap isDataKind (page-kind g (called .is-valid) (copy dataKind (u .logical) n) fits (entered g c book (u .logical)) (x .long) (w .page) (w .page-below)) ∙ data-is in
       subst (λ (z : Running). Due z p) (sym (w .r-is)) (subst (Due (running (onPage (w .page) (filling (w .block) n (act.dataCursor s mask-bytes first called st₀ c book marked₀ failed₀ marks₀ agrees proper (w .failed)))) (taken (w .st)))) (sym (w .p-is)) (w .page-below, kind))

@@ -51,6 +51,7 @@ module _ (g : Geometry) (mask fates : List ℕ) (mask-bytes : Bytes mask) (first
         more = r .more;
         numbers = r .numbers;
         copies = r .copies;
+        copy-kinds = r .copy-kinds;
         copy-from = r .copy-from;
         valid = r .valid;
         apart = r .apart;
@@ -80,7 +81,9 @@ module _ (g : Geometry) (mask fates : List ℕ) (mask-bytes : Bytes mask) (first
         more = d .more;
         numbers = d .numbers;
         copies = d .copies;
+        copy-kinds = d .copy-kinds;
         copy-is = d .copy-is;
+        kind-is = d .kind-is;
         valid = d .valid;
         block-valid = d .block-valid;
         apart = d .apart;
@@ -106,6 +109,7 @@ module _ (g : Geometry) (mask fates : List ℕ) (mask-bytes : Bytes mask) (first
         bits = r .bits;
         numbers = r .numbers;
         copies = r .copies;
+        copy-kinds = r .copy-kinds;
         valid = r .valid;
         table-valid = r .table-valid;
         apart = r .apart;

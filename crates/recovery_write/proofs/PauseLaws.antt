@@ -23,10 +23,10 @@ use Rattle.state.specs.declared.State.{State}
 use Rattle.request.specs.Call.{stopAnswer}
 use Rattle.progress.specs.Progress.{Progress, progress}
 use Rattle.progress.specs.Steps.{resumed}
-use Rattle.fill.specs.Fill.{copy, copyPage, dataSource, pageFilled}
+use Rattle.fill.specs.Fill.{copy, copyPage, pageFilled}
 use Rattle.fill.proofs.KeepLaws.{page-keeps}
 use Rattle.damage.specs.Run.{Meant}
-use Rattle.write_changes.specs.Changes.{Update, stoppedAt}
+use Rattle.write_changes.specs.Changes.{Update, stoppedAt, updateSource}
 use Rattle.recovery.specs.Book.{Book, Change, entered}
 use Rattle.fill_paused.specs.Paused.{Paused}
 use Rattle.fill_paused.proofs.PausedLaws as paused
@@ -64,7 +64,7 @@ module _ (s : Setting) (mask-bytes : Bytes (s .mask)) (first : Line) (first-call
     abbrev pages : ℕ → List ℕ
     pages i = copyPage g (copy dataKind (u .logical) (nextNumber st)) i (main i)
 
-    pub meant : Meant s A b (copy dataKind (u .logical) (nextNumber st)) (dataSource g (u .old) (u .first) (u .count) (u .bytes)) pages
+    pub meant : Meant s A b (copy dataKind (u .logical) (nextNumber st)) (updateSource g st u) pages
     meant = phase.meant s mask-bytes first first-called st₀ c book marked₀ failed₀ marks₀ agrees proper st failed from mid number-fits b below may
 
     -- it stands at page n, and no cycle is left: what the chip shows
@@ -80,7 +80,7 @@ module _ (s : Setting) (mask-bytes : Bytes (s .mask)) (first : Line) (first-call
     -- it stands at page n, and that page is filled
     module _ (n : ℕ) (page-below : n < g .pages) (started : List ArrayOperation) (w : Paused g A before b pages n (l .chip) started) (cs : List Cycle) where
       abbrev next : Progress
-      next = pageFilled s b (copy dataKind (u .logical) (nextNumber st)) n (dataSource g (u .old) (u .first) (u .count) (u .bytes) n) (progress l Passed cs started)
+      next = pageFilled s b (copy dataKind (u .logical) (nextNumber st)) n (updateSource g st u n) (progress l Passed cs started)
 
       next-long : Long (chipSize g) next
       next-long = page-keeps s (Long (chipSize g)) (long-kept s (chipSize g)) b _ n _ (progress l Passed cs started) (called .array-long)
@@ -99,7 +99,7 @@ module _ (s : Setting) (mask-bytes : Bytes (s .mask)) (first : Line) (first-call
             (paused.ended-leaves s l called high A before b below pages n started w _ _ meant mask-bytes cs page-below last)
             (paused.ended-touches s l called high A before b below pages n started w _ _ meant mask-bytes cs page-below)
 
-        pub page-done : isPassed (next .outcome) ≡ true → phase.Done s mask-bytes first first-called st₀ c book marked₀ failed₀ marks₀ agrees proper (withCopy (u .logical) b (taken st)) failed next
+        pub page-done : isPassed (next .outcome) ≡ true → phase.Done s mask-bytes first first-called st₀ c book marked₀ failed₀ marks₀ agrees proper (withCopy dataKind (u .logical) b (taken st)) failed next
         page-done = phase.data-done s mask-bytes first first-called st₀ c book marked₀ failed₀ marks₀ agrees proper st failed from mid number-fits b below may next try next-long
 
         pub page-failed : isFailed (next .outcome) ≡ true → phase.Mid s mask-bytes first first-called st₀ c book marked₀ failed₀ marks₀ agrees proper (withInvalid b (taken st)) true (resumed next)

@@ -81,11 +81,11 @@ module _ (g : Geometry) (array₀ : List ℕ) (long₀ : length array₀ ≡ chi
       (subst (λ (a : List ℕ). Shown g c book marked₀ failed₀ a (w .p .started)) (w .array-is)
       (at-shown (setting g (w .mask') (w .fates')) (w .mask-bytes') (holding (w .l') array₀) (holding-called (setting g (w .mask') (w .fates')) (w .l') (w .called') array₀ long₀) st₀ c book marked₀ failed₀ marks₀ agrees proper (w .is-at) (w .unended)))
 
-  -- what a read of a logical block by the state's map gives there: the new bytes once the new copy is filled
-  pub stands-reads : {r : Running} {d : Device} {os : List ArrayOperation} → Stands r d os → (l : ℕ) → l < g .logical → EntryReads g (d .array) (getD (r .state .map) l 0) (cond (lastPassed g os) (entered g c book) book l)
+  -- what a read of a logical block by the state's map and kinds gives there: the new bytes once the new copy is filled
+  pub stands-reads : {r : Running} {d : Device} {os : List ArrayOperation} → Stands r d os → (l : ℕ) → l < g .logical → EntryReads g (d .array) (getD (r .state .map) l 0) (getD (r .state .kinds) l 0) (cond (lastPassed g os) (entered g c book) book l)
   stands-reads {r} {d} {os} w l h =
       let reads = at-reads (setting g (w .mask') (w .fates')) (w .mask-bytes') (holding (w .l') array₀) (holding-called (setting g (w .mask') (w .fates')) (w .l') (w .called') array₀ long₀) st₀ c book marked₀ failed₀ marks₀ agrees proper l h (w .is-at) (w .unended) in
-      subst (λ (a : List ℕ). EntryReads g a (getD (r .state .map) l 0) (cond (lastPassed g os) (entered g c book) book l)) (w .array-is)
+      subst (λ (a : List ℕ). EntryReads g a (getD (r .state .map) l 0) (getD (r .state .kinds) l 0) (cond (lastPassed g os) (entered g c book) book l)) (w .array-is)
       (cases (eqb (r .cursor .phase) 0)
       (λ z. rw (w .last .unfilled (eqb-true (r .cursor .phase) 0 z)) (rw z at reads))
       (λ z. rw (w .last .filled (omega (arith, w .unended, eqb-false (r .cursor .phase) 0 z))) (rw z at reads)))

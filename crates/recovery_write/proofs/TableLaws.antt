@@ -25,11 +25,12 @@ use Rattle.bus_polling.specs.Outcomes.{isPassed, isFailed, isSilent, isCut, isI
 use Rattle.bus_polling.proofs.OutcomeLaws.{passed-answered, failed-answered, passed-unfailed, unfailed-end}
 use Rattle.operations.specs.Ends.{Called}
 use Rattle.operations.specs.Trace.{ArrayOperation}
+use Rattle.pages.specs.Layout.{dataKind}
 use Rattle.copies.specs.Blocks.{blockIn, mainIn, isMarked, isComplete}
 use Rattle.copies.specs.Pick.{at}
 use Rattle.copies.specs.Table.{lists, bitmapOf}
-use Rattle.copies.specs.Current.{currentTable, currentCopy, reading}
-use Rattle.scan_found.specs.Contents.{entryOf, mapOf}
+use Rattle.copies.specs.Current.{currentTable, currentCopy, kindAt, reading}
+use Rattle.scan_found.specs.Contents.{entryOf, mapOf, kindsOf}
 use Rattle.scan_found.specs.Found.{bitsAt}
 use Rattle.scan_found.proofs.MapLaws.{length-tabulate}
 use Rattle.state_choose.specs.Choose.{permitted}
@@ -53,7 +54,7 @@ use Rattle.recovery_stored.specs.Knows.{Knows}
 use Rattle.recovery_stored.specs.After.{Below, Free, MarksSame, Listed}
 use Rattle.format_laws.proofs.TableBlockLaws.{table-label, table-long, table-bytes}
 use Rattle.recovery_stored.proofs.StoredLaws.{same-at}
-use Rattle.recovery_stored.proofs.FollowLaws.{marks-follow, map-renewed}
+use Rattle.recovery_stored.proofs.FollowLaws.{marks-follow, map-renewed, kinds-renewed}
 use Rattle.recovery_stored.proofs.KnowsLaws.{knows-facts, knows-marked, knows-invalid, knows-entry}
 use Rattle.recovery_stored.proofs.ListedLaws.{near-table, bits-are, table-below}
 use Rattle.recovery.specs.Book.{Book, Same, Change, entered}
@@ -126,6 +127,9 @@ module _ (s : Setting) (mask-bytes : Bytes (s .mask)) (first : Line) (called : C
   map-is : st₁ .map ≡ set (st₀ .map) logical (d .block)
   map-is = ap (λ (z : State). z .map) (d .state-is)
 
+  kinds-is : st₁ .kinds ≡ set (st₀ .kinds) logical dataKind
+  kinds-is = ap (λ (z : State). z .kinds) (d .state-is)
+
   table-same : st₁ .table ≡ t
   table-same = ap (λ (z : State). z .table) (d .state-is)
 
@@ -146,6 +150,12 @@ module _ (s : Setting) (mask-bytes : Bytes (s .mask)) (first : Line) (called : C
   map-of array table copies =
       map-is ∙ ap (λ (z : List ℕ). set z logical (d .block)) (agrees .knows .map-is)
       ∙ sym (map-renewed g array₀ array t table logical (d .block) logical-below (copies logical logical-below ∙ d .copy-is) (λ l h x. copies l h ∙ d .copies l h x))
+
+  -- and the kinds, where they are of these kinds too
+  pub kinds-of : (array : List ℕ) (table : ℕ) → ((l : ℕ) → l < g .logical → kindAt g array (currentCopy g array table l) ≡ kindAt g array₁ (currentCopy g array₁ t l)) → st₁ .kinds ≡ kindsOf g array table
+  kinds-of array table same =
+      kinds-is ∙ ap (λ (z : List ℕ). set z logical dataKind) (agrees .knows .kinds-is)
+      ∙ sym (kinds-renewed g array₀ array t table logical dataKind logical-below (same logical logical-below ∙ d .kind-is) (λ l h x. same l h ∙ d .copy-kinds l h x))
 
   -- the blocks of the table and of the current copies are held
   table-held : bitAt held t ≡ true
@@ -174,7 +184,7 @@ module _ (s : Setting) (mask-bytes : Bytes (s .mask)) (first : Line) (called : C
   -- the state with other invalid blocks and another number
   abbrev pub moved : ℕ → List ℕ → State
   moved n invalid =
-      record { status = st₁ .status; table = st₁ .table; last = st₁ .last; number = n; marked = st₁ .marked; invalid = invalid; map = st₁ .map }
+      record { status = st₁ .status; table = st₁ .table; last = st₁ .last; number = n; marked = st₁ .marked; invalid = invalid; map = st₁ .map; kinds = st₁ .kinds }
 
   -- array and trace, while n is the next number, these blocks are invalid and this table is current
   pub record Rest (n : ℕ) (invalid : List ℕ) (table : ℕ) (array : List ℕ) (os : List ArrayOperation) : Type 0 where
@@ -186,6 +196,7 @@ module _ (s : Setting) (mask-bytes : Bytes (s .mask)) (first : Line) (called : C
     pub bits : Bitmap (g .blocks) invalid
     pub numbers : Below g array n
     pub copies : (l : ℕ) → l < g .logical → currentCopy g array table l ≡ currentCopy g array₁ t l
+    pub copy-kinds : (l : ℕ) → l < g .logical → kindAt g array (currentCopy g array table l) ≡ kindAt g array₁ (currentCopy g array₁ t l)
     pub valid : (l b : ℕ) → l < g .logical → currentCopy g array₁ t l ≡ at b → bitAt invalid b ≡ false
     pub table-valid : bitAt invalid t ≡ false
     pub apart : (b : ℕ) → b < g .blocks → isMarked g (blockIn g array₀ b) ≡ true → bitAt invalid b ≡ false
@@ -223,6 +234,7 @@ module _ (s : Setting) (mask-bytes : Bytes (s .mask)) (first : Line) (called : C
           bits = d .bits;
           numbers = d .numbers;
           copies = λ l h. refl;
+          copy-kinds = λ l h. refl;
           valid = valid-first;
           table-valid = d .valid t (phase.table-held s mask-bytes first called st₀ c book marked₀ failed₀ marks₀ agrees proper) (knows-facts g array₀ st₀ (agrees .stored) (agrees .knows) .table-valid);
           apart = d .apart;
@@ -365,9 +377,10 @@ module _ (s : Setting) (mask-bytes : Bytes (s .mask)) (first : Line) (called : C
       -- what follows whether or not the block is complete
       rest-with : (now : ℕ) → Stored g after → currentTable g after ≡ at now → (now ≡ t) ⊎ (bitAt more-invalid now ≡ true)
           → ((k : ℕ) → k < g .blocks → lists g (blockIn g after now) k ≡ true → bitAt invalid k ≡ true) → MarksSame g before after → Below g after (n + 1)
-          → ((l : ℕ) → l < g .logical → currentCopy g after now l ≡ currentCopy g before table l) → ((l i : ℕ) → l < g .logical → i < g .pages → reading g after now l i ≡ reading g before table l i)
+          → ((l : ℕ) → l < g .logical → currentCopy g after now l ≡ currentCopy g before table l)
+          → ((l : ℕ) → l < g .logical → kindAt g after (currentCopy g after now l) ≡ kindAt g before (currentCopy g before table l)) → ((l i : ℕ) → l < g .logical → i < g .pages → reading g after now l i ≡ reading g before table l i)
           → Rest (n + 1) more-invalid now after (os ++ adds)
-      rest-with now stored table-is table-from listed marks numbers copies reads =
+      rest-with now stored table-is table-from listed marks numbers copies copy-kinds reads =
           record {
             stored = stored;
             table-is = table-is;
@@ -377,6 +390,7 @@ module _ (s : Setting) (mask-bytes : Bytes (s .mask)) (first : Line) (called : C
             bits = bits-more (g .blocks) invalid b few below (r .bits);
             numbers = numbers;
             copies = λ l h. copies l h ∙ r .copies l h;
+            copy-kinds = λ l h. copy-kinds l h ∙ r .copy-kinds l h;
             valid = λ l k h e. still-clear (g .blocks) invalid b few below (r .bits) k (off-held k (copy-held l k h e)) (r .valid l k h e);
             table-valid = still-clear (g .blocks) invalid b few below (r .bits) t (off-held t table-held) (r .table-valid);
             apart = λ k h y. still-clear (g .blocks) invalid b few below (r .bits) k (off-marked k h y) (r .apart k h y);
@@ -391,7 +405,7 @@ module _ (s : Setting) (mask-bytes : Bytes (s .mask)) (first : Line) (called : C
       rest-quiet k =
           rest-with table (k .calm .stored) (k .calm .table-is) (⊎-elim inl (λ z. inr (more-set table z)) (r .table-from))
           (λ j h y. r .listed j h (ap (λ (row : List ℕ). lists g row j) (sym (k .calm .table-same)) ∙ y))
-          (k .calm .marks) (λ j h y. omega (arith, k .below n (r .numbers) j h y)) (k .calm .copies) (k .calm .reads)
+          (k .calm .marks) (λ j h y. omega (arith, k .below n (r .numbers) j h y)) (k .calm .copies) (k .calm .kinds) (k .calm .reads)
 
       -- the block is complete
       module _ (k : tries.Made g before after b pages adds) where
@@ -405,7 +419,7 @@ module _ (s : Setting) (mask-bytes : Bytes (s .mask)) (first : Line) (called : C
 
         rest-made : Rest (n + 1) more-invalid b after (os ++ adds)
         rest-made =
-            rest-with b (renewed .0 .stored) (renewed .0 .table-is) (inr here-set) (λ j h y. sym (renewed .0 .lists-are j h) ∙ y) (renewed .0 .marks) (renewed .2) (renewed .0 .copies) (renewed .0 .reads)
+            rest-with b (renewed .0 .stored) (renewed .0 .table-is) (inr here-set) (λ j h y. sym (renewed .0 .lists-are j h) ∙ y) (renewed .0 .marks) (renewed .2) (renewed .0 .copies) (renewed .0 .kinds) (renewed .0 .reads)
 
       came : ((isPassed (q .outcome) ≡ false) × tries.Quiet g before after table b adds) ⊎ tries.Made g before after b pages adds
       came = try .comes long
@@ -467,6 +481,7 @@ module _ (s : Setting) (mask-bytes : Bytes (s .mask)) (first : Line) (called : C
                 marked-is = ap (λ (z : State). z .marked) (m .state-is) ∙ marked-same ∙ agrees .knows .marked-is ∙ sym (marks-follow g array₀ after (λ k h. renewed made .0 .marks k h ∙ r .marks k h));
                 invalid-is = sym (renewed made .1);
                 map-is = ap (λ (z : State). z .map) (m .state-is) ∙ map-of after b (λ l h. renewed made .0 .copies l h ∙ r .copies l h);
+                kinds-is = ap (λ (z : State). z .kinds) (m .state-is) ∙ kinds-of after b (λ l h. renewed made .0 .kinds l h ∙ r .copy-kinds l h);
                 last-below = below;
                 numbers = renewed made .2;
               };
@@ -542,7 +557,7 @@ module _ (s : Setting) (mask-bytes : Bytes (s .mask)) (first : Line) (called : C
   -- the state after the data fill, with the invalid blocks that the table on the chip lists
   abbrev listing : State
   listing =
-      record { status = st₁ .status; table = st₁ .table; last = st₁ .last; number = st₁ .number; marked = st₁ .marked; invalid = st₀ .invalid; map = st₁ .map }
+      record { status = st₁ .status; table = st₁ .table; last = st₁ .last; number = st₁ .number; marked = st₁ .marked; invalid = st₀ .invalid; map = st₁ .map; kinds = st₁ .kinds }
 
   pub listing-knows : Knows g array₁ listing
   listing-knows =
@@ -552,6 +567,7 @@ module _ (s : Setting) (mask-bytes : Bytes (s .mask)) (first : Line) (called : C
         marked-is = marked-same ∙ agrees .knows .marked-is ∙ sym (marks-follow g array₀ array₁ (d .marks));
         invalid-is = agrees .knows .invalid-is ∙ bits-same ∙ ap (bitsAt g array₁) (sym table-same);
         map-is = map-of array₁ t (λ l h. refl) ∙ ap (mapOf g array₁) (sym table-same);
+        kinds-is = kinds-of array₁ t (λ l h. refl) ∙ ap (kindsOf g array₁) (sym table-same);
         last-below = omega (arith, ap (λ (z : State). z .last) (d .state-is), d .below);
         numbers = d .numbers;
       }
@@ -584,4 +600,4 @@ module _ (s : Setting) (mask-bytes : Bytes (s .mask)) (first : Line) (called : C
       }
     where
       listing-is : f₁ ≡ false → listing ≡ st₁
-      listing-is e = ap (λ (z : List ℕ). record { status = st₁ .status; table = st₁ .table; last = st₁ .last; number = st₁ .number; marked = st₁ .marked; invalid = z; map = st₁ .map }) (sym (d .clean e))
+      listing-is e = ap (λ (z : List ℕ). record { status = st₁ .status; table = st₁ .table; last = st₁ .last; number = st₁ .number; marked = st₁ .marked; invalid = z; map = st₁ .map; kinds = st₁ .kinds }) (sym (d .clean e))

@@ -17,7 +17,7 @@ use Rattle.fill.specs.Fill.{Copy, Source, given, kept, copyPage, mainOf, mainRe
 use Rattle.fill_cursor.specs.Cursor.{afterDue, programs, isOpen}
 use Rattle.fill_cursor.specs.declared.Cursor.{Cursor}
 use Rattle.fill_cursor.specs.declared.Running.{Running}
-use Rattle.fill_driver.specs.Driver.{Ran, ranTo, copyOf, sourceOf, performed, goneOn, acted, ran}
+use Rattle.fill_driver.specs.Driver.{Ran, ranTo, copyOf, sourceOf, performed, goneOn, acted, ran, formNow}
 
 -- the same progress after other operations
 abbrev pub after : List ArrayOperation → Progress → Progress
@@ -54,7 +54,7 @@ module _ (s : Setting) (os : List ArrayOperation) where
   main-after : (i : ℕ) (from : Source) (p : Progress) → mainRead s i from (after os p) ≡ after os (mainRead s i from p)
   unfolding mainRead
   main-after i (given main) p = refl
-  main-after i (kept old) p = read-after (rowOf (s .geometry) old i) 0 (s .geometry .main) p
+  main-after i (kept old form) p = read-after (rowOf (s .geometry) old i) 0 (s .geometry .main) p
 
   page-after : (b : ℕ) (c : Copy) (i : ℕ) (from : Source) (p : Progress) → pageFilled s b c i from (after os p) ≡ after os (pageFilled s b c i from p)
   unfolding pageFilled
@@ -62,19 +62,19 @@ module _ (s : Setting) (os : List ArrayOperation) where
       let bytes = copyPage (s .geometry) c i (mainOf (s .geometry) (p .line .chip .array) i from) in
       ap (programOn s b i bytes) (main-after i from p) ∙ program-after b i bytes (mainRead s i from p)
 
-  performed-after : (c : Cursor) (invalid bytes : List ℕ) (p : Progress) → performed s c invalid bytes (after os p) ≡ after os (performed s c invalid bytes p)
+  performed-after : (c : Cursor) (form : ℕ) (invalid bytes : List ℕ) (p : Progress) → performed s c form invalid bytes (after os p) ≡ after os (performed s c form invalid bytes p)
   unfolding performed
-  performed-after c invalid bytes p =
+  performed-after c form invalid bytes p =
       cases (eqb (c .step) 1)
       (λ t. rw t (erase-after (c .block) p))
-      (λ t. rw t (page-after (c .block) (copyOf c) (c .page) (sourceOf (s .geometry) c invalid bytes (c .page)) p))
+      (λ t. rw t (page-after (c .block) (copyOf c) (c .page) (sourceOf (s .geometry) c form invalid bytes (c .page)) p))
 
   acted-after : (bytes : List ℕ) (r : Running) (p : Progress) → acted s bytes r (after os p) ≡ ranAfter os (acted s bytes r p)
   unfolding acted
   acted-after bytes r p =
       cases (eqb (r .cursor .step) 0)
       (λ t. rw t refl)
-      (λ t. rw t (ap (λ (q : Progress). ranTo (goneOn q) (afterDue (s .geometry .pages) r (q .outcome))) (performed-after (r .cursor) (r .state .invalid) bytes p)))
+      (λ t. rw t (ap (λ (q : Progress). ranTo (goneOn q) (afterDue (s .geometry .pages) r (q .outcome))) (performed-after (r .cursor) (formNow r) (r .state .invalid) bytes p)))
 
   -- a run of a call, told after the operations of the calls before it
   pub ran-after : (bytes : List ℕ) (n left : ℕ) (r : Running) (p : Progress) → ran s bytes n left r (after os p) ≡ ranAfter os (ran s bytes n left r p)

@@ -16,7 +16,7 @@ use Rattle.copies.specs.Current.{currentTable, mountAnswer, reading}
 use Rattle.copies.specs.Pick.{at}
 use Rattle.state.specs.State.{mounted}
 use Rattle.state.specs.declared.State.{State}
-use Rattle.scan_found.specs.Contents.{mapOf}
+use Rattle.scan_found.specs.Contents.{mapOf, kindsOf}
 use Rattle.request.specs.Call.{Result, sized, sizedFor}
 use Rattle.scan_summary.specs.declared.Depth.{Depth}
 use Rattle.scan_summary.specs.declared.Depth.the-variants.{Full}
@@ -38,17 +38,20 @@ sized-again s d mask fates t e =
     let fits = both (fitting (s .geometry) (length (d .array)) (length (d .register)) (length (d .history))) _ t .0 in
     rw (fits, eq-eqb (length mask) (blockSize (s .geometry)) e)
 
--- reads from a mounted state whose map is that of the array's current copies
+-- reads from a mounted state whose map and kinds are those of the array's current copies
 pub reads-after : (s : Setting) (r : Result) → mounted (r .state) (s .geometry .blocks) (s .geometry .logical) ≡ true → sizedFor s (r .chip) ≡ true → r .chip .interface .phase ≤ 2
-    → r .state .map ≡ mapOf (s .geometry) (r .chip .array) (r .state .table) → Readable (s .geometry) r (reading (s .geometry) (r .chip .array) (r .state .table))
-reads-after s r m t ready map-is mask fates n logical page buffer mask-long l p long =
+    → r .state .map ≡ mapOf (s .geometry) (r .chip .array) (r .state .table) → r .state .kinds ≡ kindsOf (s .geometry) (r .chip .array) (r .state .table) → Readable (s .geometry) r (reading (s .geometry) (r .chip .array) (r .state .table))
+reads-after s r m t ready map-is kinds-is mask fates n logical page buffer mask-long l p long =
     reads-as (setting (s .geometry) mask fates) (r .chip) n (r .state) logical page buffer
     (record { sizes-fit = sized-again s (r .chip) mask fates t mask-long; is-mounted = m; logical-below = l; page-below = p; buffer-long = long })
-    ready (r .state .table) map-is
+    ready (r .state .table) map-is kinds-is
 
--- the map of a mounted state is that of the array
+-- the map and the kinds of a mounted state are those of the array
 map-of-state : (depth : Depth) (g : Geometry) (array : List ℕ) (st : State) → st ≡ stateBy depth g array → st .map ≡ mapOf g array (st .table)
 map-of-state depth g array st e = subst (λ (x : State). x .map ≡ mapOf g array (x .table)) (state-by depth g array ∙ sym e) refl
+
+kinds-of-state : (depth : Depth) (g : Geometry) (array : List ℕ) (st : State) → st ≡ stateBy depth g array → st .kinds ≡ kindsOf g array (st .table)
+kinds-of-state depth g array st e = subst (λ (x : State). x .kinds ≡ kindsOf g array (x .table)) (state-by depth g array ∙ sym e) refl
 
 table-of-state : (depth : Depth) (g : Geometry) (array : List ℕ) (st : State) → st ≡ stateBy depth g array → mountAnswer g array ≡ 0 → currentTable g array ≡ at (st .table)
 table-of-state depth g array st e z = right-table g array z .is-current ∙ ap at (ap (λ (x : State). x .table) (state-by depth g array ∙ sym e))
@@ -83,7 +86,8 @@ module _ (depth : Depth) (s : Setting) (d : Device) (n : ℕ) (state : State) (z
         table-is = table-of-state depth (s .geometry) (d .array) (r .state) state-is answer-zero;
         reads = subst (λ (a : List ℕ). Readable (s .geometry) r (reading (s .geometry) a (r .state .table))) (m .same-array)
             (reads-after s r (m .counts-mounted z) (m .sizes-kept) (m .still-ready z)
-            (map-of-state depth (s .geometry) (d .array) (r .state) state-is ∙ ap (λ (a : List ℕ). mapOf (s .geometry) a (r .state .table)) (sym (m .same-array))));
+            (map-of-state depth (s .geometry) (d .array) (r .state) state-is ∙ ap (λ (a : List ℕ). mapOf (s .geometry) a (r .state .table)) (sym (m .same-array)))
+            (kinds-of-state depth (s .geometry) (d .array) (r .state) state-is ∙ ap (λ (a : List ℕ). kindsOf (s .geometry) a (r .state .table)) (sym (m .same-array))));
       }
 
 full-state : (g : Geometry) (array : List ℕ) → mountedState g array ≡ stateBy Full g array
@@ -98,4 +102,4 @@ format-then-read s d n state mask-bytes array-bytes z mask fates k logical page 
     let a = format-acknowledged s d n state mask-bytes array-bytes z in
     let f = a .formatted in
     subst (λ (bytes : List ℕ). ReadsAs (setting (s .geometry) mask fates) (r .chip) k (r .state) bytes (readingPage (setting (s .geometry) mask fates) (r .chip) k (r .state) logical page buffer)) (f .reads-blank logical page)
-    (reads-after s r (a .counts-mounted) (a .still-sized) (a .still-ready) (map-of-state Full (s .geometry) (r .chip .array) (r .state) (f .state-is ∙ full-state (s .geometry) (r .chip .array))) mask fates k logical page buffer mask-long l p long)
+    (reads-after s r (a .counts-mounted) (a .still-sized) (a .still-ready) (map-of-state Full (s .geometry) (r .chip .array) (r .state) (f .state-is ∙ full-state (s .geometry) (r .chip .array))) (kinds-of-state Full (s .geometry) (r .chip .array) (r .state) (f .state-is ∙ full-state (s .geometry) (r .chip .array))) mask fates k logical page buffer mask-long l p long)

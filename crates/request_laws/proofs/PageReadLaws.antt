@@ -21,7 +21,7 @@ use Rattle.copies.specs.Blocks.{blockIn, isCopyOf}
 use Rattle.copies.specs.Current.{currentCopy, pageOf, reading, numberAt, unlisted}
 use Rattle.copies.specs.Pick.{Pick, nothing, at, pick, Picked}
 use Rattle.copies.proofs.PickLaws.{pick-is}
-use Rattle.scan_found.specs.Contents.{entryOf, mapOf}
+use Rattle.scan_found.specs.Contents.{entryOf, mapOf, kindsOf}
 use Rattle.scan_found.proofs.MapLaws.{getD-tabulate}
 use Rattle.state.specs.State.{none}
 use Rattle.state.specs.declared.State.{State}
@@ -117,9 +117,9 @@ module _ (s : Setting) (d : Device) (n : ℕ) (state : State) (logical page : �
       read-unchanged s (d .array) (d .history) (rowOf (s .geometry) b page) 0 (s .geometry .main) (row-below (s .geometry) v b page h (a .page-below)) (omega (arith, v .main-least)) (omega arith)
       (progress (callLine d n) Passed [] []) start-unchanged
 
-  block-cut : (b : ℕ) → b < s .geometry .blocks → readingBlock s d n state b page buffer .returned .answer ≡ 11 → readingBlock s d n state b page buffer .returned .sent ≡ n
+  block-cut : (b form : ℕ) → b < s .geometry .blocks → readingBlock s d n state b form page buffer .returned .answer ≡ 11 → readingBlock s d n state b form page buffer .returned .sent ≡ n
   unfolding readingBlock
-  block-cut b h z = omega (arith, block-unchanged b h .sound .used-up (answer-cut (pageProgress s d n b page .outcome) z))
+  block-cut b form h z = omega (arith, block-unchanged b h .sound .used-up (answer-cut (pageProgress s d n b page .outcome) z))
 
   pub read-cut : r .returned .answer ≡ 11 → r .returned .sent ≡ n
   read-cut z =
@@ -128,12 +128,12 @@ module _ (s : Setting) (d : Device) (n : ℕ) (state : State) (logical page : �
       (λ e.
       let x = eqb-false entry none e in
       let same = one-copy s d n state logical page buffer a x in
-      ap (λ (y : ReadResult). y .returned .sent) same ∙ block-cut entry (entry-below x) (sym (ap (λ (y : ReadResult). y .returned .answer) same) ∙ z))
+      ap (λ (y : ReadResult). y .returned .sent) same ∙ block-cut entry (getD (state .kinds) logical 0) (entry-below x) (sym (ap (λ (y : ReadResult). y .returned .answer) same) ∙ z))
 
   -- each cycle is legal where it is sent, and all of them lead to the chip that is left
-  block-replayed : (b : ℕ) → b < s .geometry .blocks → Replayed s (callLine d n .chip) (readingBlock s d n state b page buffer .returned .chip) (pageProgress s d n b page .cycles)
+  block-replayed : (b form : ℕ) → b < s .geometry .blocks → Replayed s (callLine d n .chip) (readingBlock s d n state b form page buffer .returned .chip) (pageProgress s d n b page .cycles)
   unfolding readingBlock
-  block-replayed b h =
+  block-replayed b form h =
       let first = progress (callLine d n) Passed [] [] in
       replayed s (callLine d n .chip) (pageProgress s d n b page)
       (leads-kept s (callLine d n .chip) .read (rowOf (s .geometry) b page) 0 (s .geometry .main) first (leads-first s (callLine d n)))
@@ -142,7 +142,7 @@ module _ (s : Setting) (d : Device) (n : ℕ) (state : State) (logical page : �
   pub read-replayed : (entry ≡ none → ⊥) → Replayed s (callLine d n .chip) (r .returned .chip) (pageProgress s d n entry page .cycles)
   read-replayed x =
       subst (λ (y : ReadResult). Replayed s (callLine d n .chip) (y .returned .chip) (pageProgress s d n entry page .cycles))
-      (sym (one-copy s d n state logical page buffer a x)) (block-replayed entry (entry-below x))
+      (sym (one-copy s d n state logical page buffer a x)) (block-replayed entry (getD (state .kinds) logical 0) (entry-below x))
 
   -- its operation does not fail
   pub read-unfailed : (entry ≡ none → ⊥) → (b : ℕ) → failedIn b (pageProgress s d n entry page .started) ≡ false
@@ -155,7 +155,7 @@ module _ (s : Setting) (d : Device) (n : ℕ) (state : State) (logical page : �
   abbrev copyTest : ℕ → ℕ → Bool
   copyTest table b = cond (unlisted (s .geometry) (d .array) table b) (isCopyOf (s .geometry) logical (blockIn (s .geometry) (d .array) b)) false
 
-  module _ (table : ℕ) (map-is : state .map ≡ mapOf (s .geometry) (d .array) table) where
+  module _ (table : ℕ) (map-is : state .map ≡ mapOf (s .geometry) (d .array) table) (kinds-is : state .kinds ≡ kindsOf (s .geometry) (d .array) table) where
     entry-is : entry ≡ entryOf (currentCopy (s .geometry) (d .array) table logical)
     unfolding mapOf
     entry-is =
@@ -191,7 +191,7 @@ module _ (s : Setting) (d : Device) (n : ℕ) (state : State) (logical page : �
       by-pick (at b) p e =
           let here : entry ≡ b = entry-is ∙ ap entryOf e in
           let full : entry ≡ none → ⊥ = λ z. omega (arith, here, z, p .below, v .blocks-most) in
-          read-gives s d n state logical page buffer a ready table map-is (passed full)
+          read-gives s d n state logical page buffer a ready table map-is kinds-is (passed full)
 
       heard-gives : Gives s d state (reading (s .geometry) (d .array) table logical page) r
       unfolding currentCopy

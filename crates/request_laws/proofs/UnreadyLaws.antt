@@ -8,7 +8,7 @@ use native.Mathlib.Omega.{arith}
 use borrow.Table.Steps.{cases}
 use borrow.Author.Tests.{lt-leb, leb-true, leb-false, eqb-true, eqb-false}
 use lib.Dec.{eqb, leb}
-use lib.ListN.{length, replicate}
+use lib.ListN.{length, getD, replicate}
 use Rattle.geometry.specs.Sizes.{rowOf}
 use Rattle.chip_interface.specs.Interface.{plainCommand, readMode}
 use Rattle.chip_array.specs.Device.{Device, Setting, illegalCycle}
@@ -93,9 +93,9 @@ module _ (s : Setting) (d : Device) (n block page : ℕ) (stop : Line) (first : 
   unfolding readOn isPassed
   page-sends = sent-first s (callLine d n) stop first stops row 0 (s .geometry .main)
 
-  module _ (state : State) (buffer : List ℕ) (answer : ℕ) (cycles : List Cycle) (answered : stopAnswer (outcomeOf stop) ≡ answer) (traced : cond (admits (callLine d n)) (command 0 ∷ []) [] ≡ cycles)
+  module _ (state : State) (form : ℕ) (buffer : List ℕ) (answer : ℕ) (cycles : List Cycle) (answered : stopAnswer (outcomeOf stop) ≡ answer) (traced : cond (admits (callLine d n)) (command 0 ∷ []) [] ≡ cycles)
       (counted : n - stop .left ≡ length cycles) (a : stop .chip .array ≡ d .array) (r : stop .chip .register ≡ d .register) (h : stop .chip .history ≡ d .history) where
-    block-stops : StoppedRead s d n block page buffer answer cycles (readingBlock s d n state block page buffer)
+    block-stops : StoppedRead s d n block page buffer answer cycles (readingBlock s d n state block form page buffer)
     unfolding readingBlock fetched
     block-stops =
         record {
@@ -110,21 +110,21 @@ module _ (s : Setting) (d : Device) (n block page : ℕ) (stop : Line) (first : 
         }
 
 -- no cycle allowed: cut before the first, whatever the chip; one or more: 00h is sent and refused where the chip is not ready
-module _ (s : Setting) (d : Device) (block page : ℕ) (state : State) (buffer : List ℕ) where
-  block-cut : StoppedRead s d 0 block page buffer 11 [] (readingBlock s d 0 state block page buffer)
+module _ (s : Setting) (d : Device) (block page : ℕ) (state : State) (form : ℕ) (buffer : List ℕ) where
+  block-cut : StoppedRead s d 0 block page buffer 11 [] (readingBlock s d 0 state block form page buffer)
   unfolding outcomeOf isPassed isSilent isCut stopAnswer goesOn
   block-cut =
       let l = callLine d 0 in
-      block-stops s d 0 block page (cutLine (l .chip)) (send-none s (l .chip) (command 0) refl) refl refl state buffer 11 []
+      block-stops s d 0 block page (cutLine (l .chip)) (send-none s (l .chip) (command 0) refl) refl refl state form buffer 11 []
       refl (rw (admits-none l (record { uncut = refl; legal = refl }) refl)) refl refl refl refl
 
-  block-refused : (m : ℕ) → Unready d → StoppedRead s d (suc m) block page buffer 255 (command 0 ∷ []) (readingBlock s d (suc m) state block page buffer)
+  block-refused : (m : ℕ) → Unready d → StoppedRead s d (suc m) block page buffer 255 (command 0 ∷ []) (readingBlock s d (suc m) state block form page buffer)
   unfolding outcomeOf isPassed isSilent isCut stopAnswer goesOn
   block-refused m h =
       let l = callLine d (suc m) in
       block-stops s d (suc m) block page (uncutLine (illegalCycle (l .chip)) m)
       (send-one s (l .chip) m (command 0) refl ∙ ap (λ (x : Device). uncutLine x m) (unready-refuses s (l .chip) h))
-      refl refl state buffer 255 (command 0 ∷ [])
+      refl refl state form buffer 255 (command 0 ∷ [])
       refl (rw (admits-more l (record { uncut = refl; legal = refl }) (omega arith))) (omega arith) refl refl refl
 
 module _ (s : Setting) (d : Device) (state : State) (logical page : ℕ) (buffer : List ℕ) where
@@ -136,15 +136,15 @@ module _ (s : Setting) (d : Device) (state : State) (logical page : ℕ) (buffer
     pub read-cut-first : n ≡ 0 → stopsAs 11 [] (readingPage s d n state logical page buffer)
     read-cut-first z =
         subst (stopsAs 11 []) (sym (one-copy s d n state logical page buffer a x))
-        (subst (λ (k : ℕ). StoppedRead s d k (entryAt state logical) page buffer 11 [] (readingBlock s d k state (entryAt state logical) page buffer)) (sym z)
-        (block-cut s d (entryAt state logical) page state buffer))
+        (subst (λ (k : ℕ). StoppedRead s d k (entryAt state logical) page buffer 11 [] (readingBlock s d k state (entryAt state logical) (getD (state .kinds) logical 0) page buffer)) (sym z)
+        (block-cut s d (entryAt state logical) page state (getD (state .kinds) logical 0) buffer))
 
     pub read-refused-first : 1 ≤ n → Unready d → stopsAs 255 (command 0 ∷ []) (readingPage s d n state logical page buffer)
     read-refused-first h u =
         let e : suc (n - 1) ≡ n = omega arith in
         subst (stopsAs 255 (command 0 ∷ [])) (sym (one-copy s d n state logical page buffer a x))
-        (subst (λ (k : ℕ). StoppedRead s d k (entryAt state logical) page buffer 255 (command 0 ∷ []) (readingBlock s d k state (entryAt state logical) page buffer)) e
-        (block-refused s d (entryAt state logical) page state buffer (n - 1) u))
+        (subst (λ (k : ℕ). StoppedRead s d k (entryAt state logical) page buffer 255 (command 0 ∷ []) (readingBlock s d k state (entryAt state logical) (getD (state .kinds) logical 0) page buffer)) e
+        (block-refused s d (entryAt state logical) page state (getD (state .kinds) logical 0) buffer (n - 1) u))
 
   module _ (n : ℕ) where
     abbrev r : ReadResult

@@ -2,7 +2,7 @@
 use Prim.Native.Nat.{ℕ, _+_, _≤_, _<_}
 use mathlib.Core.Bool.{true, false}
 use mathlib.Core.List.{List}
-use mathlib.Core.Path.{_≡_, refl}
+use mathlib.Core.Path.{_≡_, refl, ap, _∙_}
 use native.Mathlib.Numerals.{add-one}
 use borrow.Author.Tests.{eq-eqb, ne-eqb, lt-ltb, le-ltb, ltb-true}
 use lib.Dec.{eqb, leb, ltb}
@@ -11,7 +11,7 @@ use Rattle.bools.proofs.BoolLaws.{both}
 use Rattle.bitmaps.specs.Bitmap.{bitAt}
 use Rattle.pages.specs.Layout.{isDataKind}
 use Rattle.copies.specs.Pick.{someBelow}
-use Rattle.scan_found.specs.Contents.{Contents, counted, bears, pastLast, clashing, replaces, isCandidate, entryNoted, mapTo}
+use Rattle.scan_found.specs.Contents.{Contents, counted, bears, pastLast, clashing, replaces, isCandidate, entryNoted, mapTo, kindFor, kindsTo}
 
 module _ (c : Contents) (bits : List ℕ) (b : ℕ) where
   pub not-listed : bitAt bits b ≡ true → false ≡ counted c bits b
@@ -96,6 +96,16 @@ module _ (c : Contents) (bits : List ℕ) (blocks logical : ℕ) (start : List �
   pub map-next : (map next : List ℕ) (n : ℕ) → map ≡ mapTo c bits blocks logical start n → next ≡ entryNoted c bits blocks logical n map → next ≡ mapTo c bits blocks logical start (n + 1)
   unfolding mapTo
   map-next map next n e f = rw (add-one, ← e) f
+
+-- one entry more
+module _ (c : Contents) (map start : List ℕ) where
+  pub kinds-none : start ≡ kindsTo c map start 0
+  unfolding kindsTo
+  kinds-none = refl
+
+  pub kinds-next : (kinds next : List ℕ) (n kind : ℕ) → kinds ≡ kindsTo c map start n → kind ≡ kindFor c (getD map n 0) → next ≡ set kinds n kind → next ≡ kindsTo c map start (n + 1)
+  unfolding kindsTo
+  kinds-next kinds next n kind e k f = rw (add-one, ← e) (f ∙ ap (set kinds n) k)
 
 -- a candidate is a counted data copy of a logical block below N
 pub record Candidate (c : Contents) (bits : List ℕ) (logical b : ℕ) : Type 0 where

@@ -1,4 +1,4 @@
--- The map that is entered block by block has the current copy of each logical block. Assumes nothing.
+-- The map that is entered block by block has the current copy of each logical block, and the kinds are those of its copies. Assumes nothing.
 use Prim.Native.Nat.{ℕ, zero, suc, _+_, _≤_, _<_}
 use mathlib.Core.Bool.{Bool, true, false, cond}
 use mathlib.Core.List.{List, [], _∷_, _++_}
@@ -15,10 +15,10 @@ use Rattle.geometry.specs.Sizes.{chipSize}
 use Rattle.bools.proofs.BoolLaws.{both}
 use Rattle.pages.specs.Layout.{isDataKind}
 use Rattle.copies.specs.Blocks.{blockIn, isComplete, isData, isCopyOf, labelIn}
-use Rattle.copies.specs.Current.{numberAt, unlisted, counts, currentCopy}
+use Rattle.copies.specs.Current.{numberAt, unlisted, counts, currentCopy, kindAt}
 use Rattle.copies.specs.Pick.{Pick, nothing, at, better, pick, Picked}
-use Rattle.copies.proofs.PickLaws.{pick-is, pick-same}
-use Rattle.scan_found.specs.Contents.{Contents, replaces, isCandidate, entryNoted, mapTo, entryOf, tabulate, mapOf}
+use Rattle.copies.proofs.PickLaws.{pick-is, pick-same, up-to}
+use Rattle.scan_found.specs.Contents.{Contents, replaces, isCandidate, entryNoted, mapTo, kindFor, kindsTo, entryOf, tabulate, copiesOf, mapOf, kindsOf}
 use Rattle.scan_found.specs.Found.{bitsAt}
 use Rattle.scan_found.proofs.ContentsLaws.{candidate}
 use Rattle.scan_found.proofs.ToldLaws.{Told, counted-same}
@@ -120,6 +120,30 @@ module _ (c : Contents) (bits : List ℕ) (blocks logical : ℕ) (blocks-most : 
       let map = mapTo c bits blocks logical (replicate 4096 65535) n in
       record { long = long-next n map (less .long); entry = entry-next n map (omega (arith, h)) less; past = past-next n map less }
 
+-- the kinds of the first n entries are entered
+module _ (c : Contents) (map : List ℕ) where
+  record KindsEntered (n : ℕ) (kinds : List ℕ) : Type 0 where
+    pub kinds-long : length kinds ≡ 4096
+    pub kind-entry : (l : ℕ) → l < n → getD kinds l 0 ≡ kindFor c (getD map l 0)
+    pub kind-past : (l : ℕ) → n ≤ l → l < 4096 → getD kinds l 0 ≡ 0
+
+  kinds-entered : (n : ℕ) → n ≤ 4096 → KindsEntered n (kindsTo c map (replicate 4096 0) n)
+  unfolding kindsTo
+  kinds-entered zero h =
+      record { kinds-long = length-replicate {A = ℕ} 4096 0; kind-entry = λ l k. absurd (omega (arith, k)); kind-past = λ l k m. getD-replicate 4096 l 0 0 m }
+  kinds-entered (suc n) h =
+      let less = kinds-entered n (omega (arith, h)) in
+      let kinds = kindsTo c map (replicate 4096 0) n in
+      let kind = kindFor c (getD map n 0) in
+      record {
+        kinds-long = length-set kinds n kind ∙ less .kinds-long;
+        kind-entry = λ l k.
+            up-to (λ (x : ℕ). getD (set kinds n kind) x 0 ≡ kindFor c (getD map x 0)) n l k
+            (λ m. getD-set-other kinds n l kind 0 (λ e. omega (arith, e, m)) ∙ less .kind-entry l m)
+            (getD-set-same kinds n kind 0 (omega (arith, h, less .kinds-long)));
+        kind-past = λ l k m. getD-set-other kinds n l kind 0 (λ e. omega (arith, e, k)) ∙ less .kind-past l (omega (arith, k)) m;
+      }
+
 module _ (g : Geometry) (v : Valid g) (array : List ℕ) (long : length array ≡ chipSize g) (c : Contents) (r : Told g array (g .blocks) c) (table : ℕ) (below : table < g .blocks) where
   logical-most : g .logical ≤ 4096
   logical-most = omega (arith, v .logical-most, v .blocks-most)
@@ -173,11 +197,39 @@ module _ (g : Geometry) (v : Valid g) (array : List ℕ) (long : length array �
       (λ t. rw t (e .entry l (ltb-true l (g .logical) t) ∙ ap entryOf (copy-same l (ltb-true l (g .logical) t))))
       (λ t. rw t (e .past l (ltb-false l (g .logical) t) h))
 
+  -- a list told by its entries
+  copies-told : (f : Pick → ℕ) (past : ℕ) (xs : List ℕ) → length xs ≡ 4096 → ((l : ℕ) → l < 4096 → getD xs l 0 ≡ cond (ltb l (g .logical)) (f (currentCopy g array table l)) past) → xs ≡ copiesOf f past g array table
+  copies-told f past xs size entry =
+      let value : ℕ → ℕ = λ l. cond (ltb l (g .logical)) (f (currentCopy g array table l)) past in
+      ext-getD 0 xs (copiesOf f past g array table) (size ∙ sym (length-tabulate value 4096))
+      (λ l h. entry l (omega (arith, h, size)) ∙ sym (getD-tabulate value 4096 l (omega (arith, h, size))))
+
   -- the map that is entered is the one of the current copies
   pub map-is : mapTo c (bitsAt g array table) (g .blocks) (g .logical) (replicate 4096 65535) (g .blocks) ≡ mapOf g array table
   unfolding mapOf
   map-is =
       let e = entered c (bitsAt g array table) (g .blocks) (g .logical) (v .blocks-most) logical-most (g .blocks) (omega arith) in
-      let f : ℕ → ℕ = λ l. cond (ltb l (g .logical)) (entryOf (currentCopy g array table l)) 65535 in
-      ext-getD 0 _ _ (e .long ∙ sym (length-tabulate f 4096))
-      (λ l h. map-entry l (omega (arith, h, e .long)) ∙ sym (getD-tabulate f 4096 l (omega (arith, h, e .long))))
+      copies-told entryOf 65535 (mapTo c (bitsAt g array table) (g .blocks) (g .logical) (replicate 4096 65535) (g .blocks)) (e .long) map-entry
+
+  -- the kind of the picked block's copy, by its entry
+  kind-picked : (l : ℕ) (o : Pick) → Picked (λ b. cond (unlisted g array table b) (isCopyOf g l (blockIn g array b)) false) (numberAt g array) (g .blocks) o → kindFor c (entryOf o) ≡ kindAt g array o
+  unfolding entryOf kindAt isCopyOf isData
+  kind-picked l nothing p = refl
+  kind-picked l (at b) p =
+      let copy = both (unlisted g array table b) _ (p .passes) .1 in
+      let whole = both (isComplete g (blockIn g array b)) _ (both (isData g (blockIn g array b)) _ copy .0) .0 in
+      rw (lt-ltb b 4096 (omega (arith, p .below, v .blocks-most)), r .kind-is b (p .below), whole)
+
+  -- the kinds that are entered are those of the current copies
+  pub kinds-is : kindsTo c (mapOf g array table) (replicate 4096 0) (g .logical) ≡ kindsOf g array table
+  unfolding kindsOf mapOf currentCopy
+  kinds-is =
+      let k = kinds-entered c (mapOf g array table) (g .logical) logical-most in
+      copies-told (kindAt g array) 0 (kindsTo c (mapOf g array table) (replicate 4096 0) (g .logical)) (k .kinds-long)
+      (λ l h.
+      cases (ltb l (g .logical))
+      (λ t.
+      let below-l = ltb-true l (g .logical) t in
+      let entry : getD (mapOf g array table) l 0 ≡ entryOf (currentCopy g array table l) = getD-tabulate _ 4096 l h ∙ rw t in
+      rw t (k .kind-entry l below-l ∙ ap (kindFor c) entry ∙ kind-picked l (currentCopy g array table l) (pick-is _ (numberAt g array) (g .blocks))))
+      (λ t. rw t (k .kind-past l (ltb-false l (g .logical) t) h)))

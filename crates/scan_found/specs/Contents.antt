@@ -1,4 +1,4 @@
--- The copies that a scan found: kind, logical block and number of each complete block; clashes and the map.
+-- The copies that a scan found: kind, logical block and number of each complete block; clashes, the map and the kinds of its copies.
 use Prim.Native.Nat.{ℕ, zero, suc}
 use mathlib.Core.Bool.{Bool, true, false, cond}
 use mathlib.Core.List.{List, [], _∷_, _++_}
@@ -7,7 +7,7 @@ use lib.ListN.{getD, set}
 use Rattle.geometry.specs.declared.Geometry.{Geometry}
 use Rattle.bitmaps.specs.Bitmap.{bitAt}
 use Rattle.pages.specs.Layout.{isDataKind}
-use Rattle.copies.specs.Current.{currentCopy}
+use Rattle.copies.specs.Current.{currentCopy, kindAt}
 use Rattle.copies.specs.Pick.{Pick, nothing, at, someBelow}
 use Rattle.scan_summary.specs.Summary.{saysComplete}
 use Rattle.scan_summary.specs.declared.Depth.{Depth}
@@ -70,6 +70,15 @@ mapTo c bits blocks logical map zero = map
 mapTo c bits blocks logical map (suc n) =
     let less = mapTo c bits blocks logical map n in entryNoted c bits blocks logical n less
 
+-- the kind of an entry's block, 0 where the entry is empty
+abbrev pub kindFor : Contents → ℕ → ℕ
+kindFor c entry = cond (ltb entry 4096) (getD (c .kinds) entry 0) 0
+
+-- the kinds of the copies that the first n entries of the map have
+unfoldable pub kindsTo : Contents → List ℕ → List ℕ → ℕ → List ℕ
+kindsTo c map kinds zero = kinds
+kindsTo c map kinds (suc n) = let less = kindsTo c map kinds n in set less n (kindFor c (getD map n 0))
+
 -- an entry of the map: the block picked, FFFFh for none
 unfoldable pub entryOf : Pick → ℕ
 entryOf nothing = 65535
@@ -80,6 +89,13 @@ unfoldable pub tabulate : (ℕ → ℕ) → ℕ → List ℕ
 tabulate f zero = []
 tabulate f (suc n) = tabulate f n ++ (f n ∷ [])
 
--- the current copies of an array under a table; entries past the last logical block are empty
+-- what the current copies of an array under a table are to a function of the picked block, a value for each past the last logical block
+abbrev pub copiesOf : (Pick → ℕ) → ℕ → Geometry → List ℕ → ℕ → List ℕ
+copiesOf f past g array table = tabulate (λ l. cond (ltb l (g .logical)) (f (currentCopy g array table l)) past) 4096
+
+-- their blocks, and their kinds; entries past the last logical block are empty, and of kind 0
 unfoldable pub mapOf : Geometry → List ℕ → ℕ → List ℕ
-mapOf g array table = tabulate (λ l. cond (ltb l (g .logical)) (entryOf (currentCopy g array table l)) 65535) 4096
+mapOf g array table = copiesOf entryOf 65535 g array table
+
+unfoldable pub kindsOf : Geometry → List ℕ → ℕ → List ℕ
+kindsOf g array table = copiesOf (kindAt g array) 0 g array table

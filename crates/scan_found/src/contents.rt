@@ -1,4 +1,4 @@
-// The copies that a scan found: kind, logical block and number of each complete block; clashes and the map.
+// The copies that a scan found: kind, logical block and number of each complete block; clashes, the map and the kinds of its copies.
 use scan_summary::Summary;
 ghost use mathlib.Core.Bool.{true};
 ghost use mathlib.Core.Path.{_≡_};
@@ -6,7 +6,7 @@ ghost use Prim.Native.Nat.{_<_, _≤_};
 ghost use lib.ListN.{length};
 ghost use Rattle.copies.specs.Pick.{someBelow};
 ghost use Rattle.scan_summary.specs.Summary.{saysComplete};
-ghost use Rattle.scan_found.specs.Contents.{contents, copyNoted, counted, bears, pastLast, clashing, replaces, isCandidate, entryNoted, mapTo};
+ghost use Rattle.scan_found.specs.Contents.{contents, copyNoted, counted, bears, pastLast, clashing, replaces, isCandidate, entryNoted, mapTo, kindFor, kindsTo};
 
 fn wide(x: u16) -> usize
     ensures { λ r. ⌜ r ≡ x ⌝ }
@@ -240,5 +240,34 @@ pub fn map_copies(
     while b < blocks {
         note_entry(kinds, logicals, numbers, bits, blocks, logical, b, map);
         b += 1;
+    }
+}
+
+// The kind of an entry's block, 0 where the entry is empty.
+fn kind_for(kinds: &[u8; 4096], logicals: &[u16; 4096], numbers: &[u64; 4096], entry: usize) -> u8
+    ensures { λ r. ⌜ r ≡ kindFor (contents (now (kinds .entry)) (now (logicals .entry)) (now (numbers .entry))) entry ⌝ }
+{
+    if entry < 4096 {
+        return kinds[entry];
+    }
+    0
+}
+
+// Enters the kinds of the copies that the map has.
+pub fn list_kinds(
+    kinds: &[u8; 4096],
+    logicals: &[u16; 4096],
+    numbers: &[u64; 4096],
+    logical: usize,
+    map: &[u16; 4096],
+    current: &mut [u8; 4096],
+)
+    requires { ⌜ logical ≤ 4096 ⌝ }
+    ensures { λ _. ⌜ now (current .exit) ≡ kindsTo (contents (now (kinds .entry)) (now (logicals .entry)) (now (numbers .entry))) (now (map .entry)) (now (current .entry)) logical ⌝ }
+{
+    let mut l = 0;
+    while l < logical {
+        current[l] = kind_for(kinds, logicals, numbers, wide(map[l]));
+        l += 1;
     }
 }

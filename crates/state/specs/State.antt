@@ -12,12 +12,12 @@ use Rattle.state.specs.declared.State.{State}
 -- a state that is 0 in all fields but its status: 0 not mounted, 1 mounted, 2 stopped
 abbrev pub blank : ℕ → State
 blank status =
-    record { status = status; table = 0; last = 0; number = 0; marked = replicate 512 0; invalid = replicate 512 0; map = replicate 4096 0 }
+    record { status = status; table = 0; last = 0; number = 0; marked = replicate 512 0; invalid = replicate 512 0; map = replicate 4096 0; kinds = replicate 4096 0 }
 
--- a mounted state: one less than the next number, table's block, block filled last, factory marks, invalid blocks, map
-abbrev pub mountedWith : ℕ → ℕ → ℕ → List ℕ → List ℕ → List ℕ → State
-mountedWith n table last marked invalid map =
-    record { status = 1; table = table; last = last; number = n; marked = marked; invalid = invalid; map = map }
+-- a mounted state: one less than the next number, table's block, block filled last, factory marks, invalid blocks, map, kinds of the copies
+abbrev pub mountedWith : ℕ → ℕ → ℕ → List ℕ → List ℕ → List ℕ → List ℕ → State
+mountedWith n table last marked invalid map kinds =
+    record { status = 1; table = table; last = last; number = n; marked = marked; invalid = invalid; map = map; kinds = kinds }
 
 -- the next number: the state holds one less, the greatest found or taken, 0 for none
 abbrev pub nextNumber : State → ℕ
@@ -36,7 +36,7 @@ spent s = leb numberEnd (nextNumber s)
 -- another number
 abbrev pub withNumber : ℕ → State → State
 withNumber n s =
-    record { status = s .status; table = s .table; last = s .last; number = n; marked = s .marked; invalid = s .invalid; map = s .map }
+    record { status = s .status; table = s .table; last = s .last; number = n; marked = s .marked; invalid = s .invalid; map = s .map; kinds = s .kinds }
 
 -- the next number is taken
 abbrev pub taken : State → State
@@ -45,16 +45,16 @@ taken s = withNumber (nextNumber s) s
 -- a block that failed is invalid
 abbrev pub withInvalid : ℕ → State → State
 withInvalid b s =
-    record { status = s .status; table = s .table; last = s .last; number = s .number; marked = s .marked; invalid = withBit (s .invalid) b; map = s .map }
+    record { status = s .status; table = s .table; last = s .last; number = s .number; marked = s .marked; invalid = withBit (s .invalid) b; map = s .map; kinds = s .kinds }
 
--- a passed fill: of a logical block's copy, and of a table
-abbrev pub withCopy : ℕ → ℕ → State → State
-withCopy logical b s =
-    record { status = s .status; table = s .table; last = b; number = s .number; marked = s .marked; invalid = s .invalid; map = set (s .map) logical b }
+-- a passed fill: of a logical block's copy, of a kind, and of a table
+abbrev pub withCopy : ℕ → ℕ → ℕ → State → State
+withCopy kind logical b s =
+    record { status = s .status; table = s .table; last = b; number = s .number; marked = s .marked; invalid = s .invalid; map = set (s .map) logical b; kinds = set (s .kinds) logical kind }
 
 abbrev pub withTable : ℕ → State → State
 withTable b s =
-    record { status = s .status; table = b; last = b; number = s .number; marked = s .marked; invalid = s .invalid; map = s .map }
+    record { status = s .status; table = b; last = b; number = s .number; marked = s .marked; invalid = s .invalid; map = s .map; kinds = s .kinds }
 
 -- the block of a logical block; FFFFh stands for none
 abbrev pub none : ℕ
@@ -134,3 +134,7 @@ pub record Mounted (s : State) (blocks logical : ℕ) : Type 0 where
 unfoldable pub freeBlocks : State → ℕ → ℕ → ℕ
 freeBlocks s blocks logical =
     cond (mounted s blocks logical) (countPermitted (s .marked) (s .invalid) (heldBits s logical) blocks) 0
+
+-- the kind of a logical block's copy, as the state has it
+abbrev pub formOf : State → ℕ → ℕ
+formOf s logical = getD (s .kinds) logical 0

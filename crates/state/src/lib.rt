@@ -25,6 +25,8 @@ pub struct State {
     pub invalid: [u8; 512],
     // The block of each logical block, FFFFh where it has none.
     pub map: [u16; 4096],
+    // The kind of each logical block's copy, 0 where it has none: what undoes its stored bytes.
+    pub kinds: [u8; 4096],
 }
 
 fn wide(x: u16) -> usize
@@ -61,6 +63,7 @@ impl State {
             marked: [0; 512],
             invalid: [0; 512],
             map: [0; 4096],
+            kinds: [0; 4096],
         }
     }
 
@@ -72,8 +75,9 @@ impl State {
         marked: [u8; 512],
         invalid: [u8; 512],
         map: [u16; 4096],
+        kinds: [u8; 4096],
     ) -> Self
-        ensures { λ r. ⌜ r ≡ mountedWith greatest table last marked invalid map ⌝ }
+        ensures { λ r. ⌜ r ≡ mountedWith greatest table last marked invalid map kinds ⌝ }
     {
         Self {
             status: 1,
@@ -83,6 +87,7 @@ impl State {
             marked,
             invalid,
             map,
+            kinds,
         }
     }
 
@@ -124,12 +129,13 @@ impl State {
         self
     }
 
-    // The state after a passed fill with a copy of a logical block.
-    pub fn record_copy(mut self, logical: usize, block: usize) -> Self
+    // The state after a passed fill with a copy, of a kind, of a logical block.
+    pub fn record_copy(mut self, kind: u8, logical: usize, block: usize) -> Self
         requires { ⌜ (logical < 4096) × (block < 4096) ⌝ }
-        ensures { λ r. ⌜ r ≡ withCopy logical block self ⌝ }
+        ensures { λ r. ⌜ r ≡ withCopy kind logical block self ⌝ }
     {
         self.map[logical] = block as u16;
+        self.kinds[logical] = kind;
         self.last = block;
         self
     }

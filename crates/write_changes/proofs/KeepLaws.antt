@@ -14,11 +14,11 @@ use Rattle.state.specs.State.{nextNumber, numbersLeft, heldBits}
 use Rattle.state.specs.declared.State.{State}
 use Rattle.progress.specs.Progress.{Progress}
 use Rattle.progress.specs.Kept.{Kept}
-use Rattle.fill.specs.Fill.{copy, dataSource}
+use Rattle.fill.specs.Fill.{copy}
 use Rattle.fill.proofs.KeepLaws.{filled-keeps}
 use Rattle.fill_tables.specs.Tables.{Tabled, afterStatus}
 use Rattle.fill_tables.proofs.KeepLaws.{tables-keep}
-use Rattle.write_changes.specs.Changes.{Update, copyFilled, Copied, afterTry, copyTried, copiesFilled, thenTable, changeRun, changeFirst, changeCall}
+use Rattle.write_changes.specs.Changes.{Update, updateSource, copyFilled, Copied, afterTry, copyTried, copiesFilled, thenTable, changeRun, changeFirst, changeCall}
 
 module _ (s : Setting) (P : Progress → Type 0) (k : Kept s P) where
   -- both arms of a test
@@ -36,7 +36,7 @@ module _ (s : Setting) (P : Progress → Type 0) (k : Kept s P) where
   try-keeps u st failed p more Worn h m = h
   try-keeps u st failed p more (Block b) h m =
       let q = copyFilled s u st b p in
-      let here = filled-keeps s P k b (copy dataKind (u .logical) (nextNumber st)) (dataSource (s .geometry) (u .old) (u .first) (u .count) (u .bytes)) p h in
+      let here = filled-keeps s P k b (copy dataKind (u .logical) (nextNumber st)) (updateSource (s .geometry) st u) p h in
       copied-arms (isPassed (q .outcome)) _ _ (λ t. here) (copied-arms (isFailed (q .outcome)) _ _ (λ f. m _ _ (k .resume q f here)) here)
 
   copies-keep : (held : List ℕ) (u : Update) (n : ℕ) (failed : Bool) (st : State) (p : Progress) → P p → P (copiesFilled s held u n failed st p .progress)

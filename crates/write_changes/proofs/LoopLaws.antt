@@ -13,6 +13,7 @@ use Rattle.state_choose.specs.Choose.{permitted, chosen}
 use Rattle.state_choose.specs.declared.Choice.{Choice}
 use Rattle.state_choose.specs.declared.Choice.the-variants.{Block, Worn}
 use Rattle.state_choose.proofs.ChooseLaws as choose
+use Rattle.pages.specs.Layout.{dataKind}
 use Rattle.state.specs.State.{blank, nextNumber, numberEnd, numbersLeft, taken, withInvalid, withCopy, withTable}
 use Rattle.state.specs.declared.State.{State}
 use Rattle.request.specs.Call.{stopAnswer}
@@ -40,7 +41,7 @@ pub record Copying (s : Setting) (held : List ℕ) (u : Update) (Before : State 
   pub worn : (st : State) (f : Bool) (p : Progress) → Before st f p → nextNumber st < numberEnd
       → ((b : ℕ) → b < s .geometry .blocks → permitted (st .marked) (st .invalid) held b ≡ false) → Ends (copied p 8 (blank 2) f)
   pub passed : (st : State) (f : Bool) (p : Progress) → Before st f p → nextNumber st < numberEnd → (b : ℕ) → b < s .geometry .blocks → permitted (st .marked) (st .invalid) held b ≡ true
-      → isPassed (copyFilled s u st b p .outcome) ≡ true → Ends (copied (copyFilled s u st b p) 0 (withCopy (u .logical) b (taken st)) f)
+      → isPassed (copyFilled s u st b p .outcome) ≡ true → Ends (copied (copyFilled s u st b p) 0 (withCopy dataKind (u .logical) b (taken st)) f)
   pub failed : (st : State) (f : Bool) (p : Progress) → Before st f p → nextNumber st < numberEnd → (b : ℕ) → b < s .geometry .blocks → permitted (st .marked) (st .invalid) held b ≡ true
       → isFailed (copyFilled s u st b p .outcome) ≡ true → Before (withInvalid b (taken st)) true (resumed (copyFilled s u st b p))
   pub stopped : (st : State) (f : Bool) (p : Progress) → Before st f p → nextNumber st < numberEnd → (b : ℕ) → b < s .geometry .blocks → permitted (st .marked) (st .invalid) held b ≡ true

@@ -14,9 +14,9 @@ use Rattle.request.proofs.CallLaws.{stop-least}
 use Rattle.progress.specs.Progress.{Progress}
 use Rattle.progress.specs.Steps.{eraseOn}
 use Rattle.progress.proofs.StepLaws.{erase-stopped}
-use Rattle.fill.specs.Fill.{copy, dataSource, pagesFilled}
+use Rattle.fill.specs.Fill.{copy, pagesFilled}
 use Rattle.fill.proofs.FillLaws.{fill-stopped}
-use Rattle.write_changes.specs.Changes.{Update, Copied, copyFilled, copiesFilled}
+use Rattle.write_changes.specs.Changes.{Update, updateSource, Copied, copyFilled, copiesFilled}
 use Rattle.write_changes.proofs.LoopLaws.{Copying, copies-end}
 
 module _ (s : Setting) (held : List ℕ) (u : Update) (p₀ : Progress) (unpassed : isPassed (p₀ .outcome) ≡ false) (unfailed : isFailed (p₀ .outcome) ≡ false) where
@@ -25,7 +25,7 @@ module _ (s : Setting) (held : List ℕ) (u : Update) (p₀ : Progress) (unpasse
   fill-same st b =
       let erased = erase-stopped s b p₀ unpassed in
       let c = copy dataKind (u .logical) (nextNumber st) in
-      let pages = dataSource (s .geometry) (u .old) (u .first) (u .count) (u .bytes) in
+      let pages = updateSource (s .geometry) st u in
       ap (λ (k : ℕ). pagesFilled s b c pages k (eraseOn s b p₀)) (sym (add-zero (s .geometry .pages)))
       ∙ fill-stopped s b c pages 0 (eraseOn s b p₀) (ap (λ (p : Progress). isPassed (p .outcome)) erased ∙ unpassed) (s .geometry .pages)
       ∙ erased

@@ -12,13 +12,13 @@ use Rattle.pages.specs.Layout.{dataKind}
 use Rattle.state_choose.specs.Choose.{chosen}
 use Rattle.state_choose.specs.declared.Choice.{Choice}
 use Rattle.state_choose.specs.declared.Choice.the-variants.{Block, Worn}
-use Rattle.state.specs.State.{blank, none, nextNumber, numbersLeft, taken, withInvalid, withCopy, heldBits}
+use Rattle.state.specs.State.{blank, none, nextNumber, numbersLeft, taken, withInvalid, withCopy, heldBits, formOf}
 use Rattle.state.specs.declared.State.{State}
 use Rattle.progress.specs.Progress.{Progress, progress, statusOn}
 use Rattle.progress.specs.Steps.{resumed}
 use Rattle.request.specs.Call.{Result, result, Performed, resultOf, unsent, performed, sizedFor, callLine, stopAnswer}
 use Rattle.request_refusals.specs.Refusals.{refusal, refusalOf}
-use Rattle.fill.specs.Fill.{copy, dataSource, filled}
+use Rattle.fill.specs.Fill.{copy, Source, dataSource, filled}
 use Rattle.fill_tables.specs.Tables.{Tabled, tabled, endOfRun, afterStatus, tablesFilled}
 
 -- the new copy of a logical block: the block of the old one, none for an erase; the pages given and their bytes
@@ -38,10 +38,14 @@ writeUpdate st logical page bytes =
 abbrev pub eraseUpdate : ℕ → Update
 eraseUpdate logical = record { logical = logical; old = none; first = 0; count = 0; bytes = [] }
 
+-- where the main bytes of its pages come from: the state tells the kind of the old copy
+abbrev pub updateSource : Geometry → State → Update → ℕ → Source
+updateSource g st u = dataSource g (u .old) (formOf st (u .logical)) (u .first) (u .count) (u .bytes)
+
 -- the fill of block b under the next number
 abbrev pub copyFilled : Setting → Update → State → ℕ → Progress → Progress
 copyFilled s u st b p =
-    filled s b (copy dataKind (u .logical) (nextNumber st)) (dataSource (s .geometry) (u .old) (u .first) (u .count) (u .bytes)) p
+    filled s b (copy dataKind (u .logical) (nextNumber st)) (updateSource (s .geometry) st u) p
 
 -- how data fills ended: the answer, the next state, and whether any block failed
 pub record Copied : Type 0 where
@@ -60,7 +64,7 @@ stoppedAt q = copied q (stopAnswer (q .outcome)) (blank 2) false
 -- by how the fill ended: it passed; it failed and another is tried; it was silent or cut
 unfoldable pub afterTry : Update → State → ℕ → Bool → Progress → Copied → Copied
 afterTry u st b failed q more =
-    cond (isPassed (q .outcome)) (copied q 0 (withCopy (u .logical) b (taken st)) failed)
+    cond (isPassed (q .outcome)) (copied q 0 (withCopy dataKind (u .logical) b (taken st)) failed)
     (cond (isFailed (q .outcome)) more (stoppedAt q))
 
 -- the block chosen, or none is left

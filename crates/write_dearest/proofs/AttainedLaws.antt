@@ -24,7 +24,7 @@ use Rattle.operations.specs.Ends.{Called}
 use Rattle.operations.specs.Trace.{ArrayOperation}
 use Rattle.pages.specs.Layout.{dataKind}
 use Rattle.state_choose.specs.Choose.{permitted, countPermitted}
-use Rattle.state.specs.State.{nextNumber, numberEnd, numbersLeft, heldBits, taken, withInvalid, withCopy, mounted, freeBlocks}
+use Rattle.state.specs.State.{nextNumber, numberEnd, numbersLeft, heldBits, taken, withInvalid, withCopy, mounted, freeBlocks, formOf}
 use Rattle.state.specs.declared.State.{State}
 use Rattle.request.specs.Call.{Result, sizedFor, callLine}
 use Rattle.request_refusals.proofs.RefusalLaws.{Accepted}
@@ -172,9 +172,9 @@ module _ (g : Geometry) (mask : List ℕ) (failed : ℕ) (first : Progress) (st�
       fill-goes : (w : ℕ) → SlowWord words (j * fillWords + (fillWords - 1)) w → Exactly p q fillWords (copyCycles g) × (q .outcome ≡ cond (eqb (failedFor 2 w) 0) Passed Failed)
       fill-goes w slow =
           let mid = y .standing .mid in
-          let long = copy-words g (u .old) page bytes v (x .old-below) (x .page-below) in
-          let cost = copy-cycles g (u .old) page bytes v (x .old-below) (x .page-below) in
-          let z = fill-exactly words p b below (copy dataKind logical (nextNumber st)) (writeSource g (u .old) page bytes) _
+          let long = copy-words g (u .old) (formOf st logical) page bytes v (x .old-below) (x .page-below) in
+          let cost = copy-cycles g (u .old) (formOf st logical) page bytes v (x .old-below) (x .page-below) in
+          let z = fill-exactly words p b below (copy dataKind logical (nextNumber st)) (writeSource g (u .old) (formOf st logical) page bytes) _
           (changing.copy-meant words first st₀ u (x .in-range) (x .passed) (x .none-started) (x .called) (x .is-mounted) (x .proper) (x .high) st p mid fits b below may)
           (x .in-range .mask-bytes) (mid .high) (mid .passed) (mid .sound .called (passed-answered (p .outcome) (mid .passed)))
           (λ i h.
@@ -193,7 +193,7 @@ module _ (g : Geometry) (mask : List ℕ) (failed : ℕ) (first : Progress) (st�
           let within : fillWords - 1 < fillWords = omega (arith, v .pages-least) in
           fill-goes slowWord (slow-word g v mask failed j (fillWords - 1) within (λ e. h) (in-copies g v mask failed j (fillWords - 1) (y .few) within))
 
-      copy-passed : isPassed (q .outcome) ≡ true → Copies (copied q 0 (withCopy logical b (taken st)) f)
+      copy-passed : isPassed (q .outcome) ≡ true → Copies (copied q 0 (withCopy dataKind logical b (taken st)) f)
       unfolding isPassed
       copy-passed t =
           let mid = y .standing .mid in
@@ -207,7 +207,7 @@ module _ (g : Geometry) (mask : List ℕ) (failed : ℕ) (first : Progress) (st�
             done = refl;
             numbers = omega (arith, mid .numbers, last);
             exactly = exactly-as ((failed + 1) * fillWords) ((failed + 1) * copyCycles g) (sym (one-more j fillWords) ∙ ap (λ (k : ℕ). (k + 1) * fillWords) last) (sym (one-more j (copyCycles g)) ∙ ap (λ (k : ℕ). (k + 1) * copyCycles g) last) z;
-            free = subst (λ (k : ℕ). permitted (st .marked) (st .invalid) (heldBits (withCopy logical b (taken st)) (g .logical)) k ≡ true) same free;
+            free = subst (λ (k : ℕ). permitted (st .marked) (st .invalid) (heldBits (withCopy dataKind logical b (taken st)) (g .logical)) k ≡ true) same free;
           }
 
       copy-failed : isFailed (q .outcome) ≡ true → Before (withInvalid b (taken st)) true (resumed q)

@@ -17,7 +17,8 @@ use Rattle.bus_polling.specs.Polling.{waiting, polls, outcomeOf, statusReads}
 use Rattle.bus_sequences.specs.Cycles.{addressCycles, startedCycles, pageRead, readAddress, readCycles, programData, programCycles, eraseAddress, eraseCycles, statusCycles}
 use Rattle.pages.specs.Layout.{label}
 use Rattle.pages.proofs.LayoutLaws.{width-most, length-encoded}
-use Rattle.copies.specs.Blocks.{blockIn, mainIn}
+use Rattle.copies.specs.Blocks.{blockIn, mainIn, formed}
+use Rattle.copies.proofs.FormLaws.{length-formed}
 use Rattle.progress.specs.Progress.{Progress, readOn, statusOn}
 use Rattle.progress.specs.Steps.{eraseOn, programOn}
 use Rattle.fill.specs.Fill.{Copy, Source, given, kept, copyPage, mainOf, mainRead, pageFilled, pagesFilled, filled}
@@ -95,7 +96,7 @@ module _ (s : Setting) where
 page-most : (g : Geometry) → Valid g → (c : Copy) (n : ℕ) (main : List ℕ) → length main ≤ g .main → length (copyPage g c n main) ≤ pageSize g
 page-most g v c n main h =
     omega
-    (arith, length-encoded (g .spare) (label (c .kind) (c .logical) n (c .number)) main (omega (arith, width-most (c .kind), v .spare-least)), h)
+    (arith, length-formed (c .kind) n main, length-encoded (g .spare) (label (c .kind) (c .logical) n (c .number)) (formed (c .kind) n main) (omega (arith, width-most (c .kind), v .spare-least)), h)
 
 -- a fill whose pages have no more main bytes than they may
 module _ (s : Setting) (v : Valid (s .geometry)) (block : ℕ) (c : Copy) (source : ℕ → Source) (short : (array : List ℕ) (i : ℕ) → length (mainOf (s .geometry) array i (source i)) ≤ s .geometry .main) where
@@ -107,8 +108,8 @@ module _ (s : Setting) (v : Valid (s .geometry)) (block : ℕ) (c : Copy) (sourc
   unfolding pageFilled mainOf mainRead sourceMost
   page-spends n (given main) p h =
       omega (arith, program-spends s block n (copyPage (s .geometry) c n main) p, page-most (s .geometry) v c n main h)
-  page-spends n (kept old) p h =
-      let main = mainIn (s .geometry) (blockIn (s .geometry) (p .line .chip .array) old) n in
+  page-spends n (kept old form) p h =
+      let main = formed form n (mainIn (s .geometry) (blockIn (s .geometry) (p .line .chip .array) old) n) in
       let fetched = readOn s (rowOf (s .geometry) old n) 0 (s .geometry .main) p in
       omega
       (arith, read-spends s (rowOf (s .geometry) old n) 0 (s .geometry .main) p, program-spends s block n (copyPage (s .geometry) c n main) fetched, page-most (s .geometry) v c n main h)

@@ -54,7 +54,7 @@ module _ (g : Geometry) (v : Valid g) where
   entries = set (replicate 4096 none) 0 1
 
   abbrev twoHeld : State
-  twoHeld = mountedWith 2 0 1 (replicate 512 0) (replicate 512 0) entries
+  twoHeld = mountedWith 2 0 1 (replicate 512 0) (replicate 512 0) entries (replicate 4096 0)
 
   first-entry : getD entries 0 0 ≡ 1
   first-entry = getD-set-same (replicate 4096 none) 0 1 0 (omega (arith, length-replicate {A = ℕ} 4096 none))

@@ -17,7 +17,7 @@ use Rattle.bus_polling.specs.Outcomes.{isPassed}
 use Rattle.bus_polling.specs.declared.Outcome.the-variants.{Passed, Failed}
 use Rattle.bus_polling.proofs.OutcomeLaws.{passed-answered}
 use Rattle.operations.specs.Ends.{Called, CanProgram, CanRead}
-use Rattle.copies.specs.Blocks.{mainIn}
+use Rattle.copies.specs.Blocks.{mainIn, formed}
 use Rattle.progress.specs.Progress.{Progress, lineOf, readOn}
 use Rattle.progress.specs.Steps.{eraseOn, programOn}
 use Rattle.fill.specs.Fill.{Copy, Source, given, kept, copyPage, mainOf, mainRead, pageFilled, pagesFilled, filled}
@@ -43,7 +43,7 @@ exactly-as c d e f x =
 words-some : (from : Source) → 1 ≤ wordsOf from
 unfolding wordsOf
 words-some (given main) = omega arith
-words-some (kept old) = omega arith
+words-some (kept old form) = omega arith
 
 module _ (s : Setting) (p : Progress) (block : ℕ) (below : block < s .geometry .blocks) (c : Copy) (source : ℕ → Source) (pages : ℕ → List ℕ)
     (meant : Meant s (p .line .chip .array) block c source pages) (mask-bytes : Bytes (s .mask)) (high : lineOf p ≡ 0) (passed : isPassed (p .outcome) ≡ true) (called : Called s (p .line)) where
@@ -106,7 +106,7 @@ module _ (s : Setting) (p : Progress) (block : ℕ) (below : block < s .geometry
     page-goes from page (from-caller main) e first slow enough =
         let here : SlowWord s (fateAt n) w = subst (λ (i : ℕ). SlowWord s i w) (omega arith) slow in
         (programs (at n) _ r t _ e here enough, programs-as (at n) _ r t _ e here enough)
-    page-goes from page (from-copy old old-below x) e first slow enough =
+    page-goes from page (from-copy old form old-below x) e first slow enough =
         let fetched = readOn s (rowOf g old n) 0 (g .main) (at n) in
         let valid = called .is-valid in
         let can-read : CanRead s (at n .line) (rowOf g old n) 0 (g .main) = record { called = r .sound .called (passed-answered (at n .outcome) t); row-below = row-below g valid old n old-below page-below; column-below = omega (arith, valid .main-least); within = omega arith } in
@@ -114,7 +114,7 @@ module _ (s : Setting) (p : Progress) (block : ℕ) (below : block < s .geometry
         let read = read-exactly s (at n) t slowWord (first refl) (rowOf g old n) 0 (g .main) can-read enough-read in
         let y : isPassed (fetched .outcome) ≡ true = ap isPassed (read-ends-as s (at n) t slowWord (first refl) (rowOf g old n) 0 (g .main) can-read enough-read) in
         let u = fetch-leaves s p block below c source pages meant mask-bytes high (at n) n page-below _ r t old old-below in
-        let same = ap (λ (row : List ℕ). copyPage g c n (mainIn g row n)) (r .others old old-below x) ∙ e in
+        let same = ap (λ (row : List ℕ). copyPage g c n (formed form n (mainIn g row n))) (r .others old old-below x) ∙ e in
         let here : SlowWord s (fetched .line .chip .interface .fate) w = subst (λ (i : ℕ). SlowWord s i w) (omega (arith, read .words-taken)) slow in
         let left : programMost g ≤ fetched .line .left = omega (arith, enough, read .cycles-sent) in
         (exactly-then read (programs fetched _ u y _ same here left), programs-as fetched _ u y _ same here left)

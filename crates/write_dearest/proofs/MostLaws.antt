@@ -14,7 +14,7 @@ use Rattle.geometry.specs.declared.Geometry.{Geometry}
 use Rattle.geometry.specs.Limits.{Valid}
 use Rattle.cells.specs.Bytes.{Bytes}
 use Rattle.chip_array.specs.Device.{Device, Setting}
-use Rattle.state.specs.State.{nextNumber, numbersLeft, heldBits}
+use Rattle.state.specs.State.{nextNumber, numbersLeft, heldBits, formOf}
 use Rattle.state.specs.declared.State.{State}
 use Rattle.state.proofs.MountedLaws.{mounted-facts}
 use Rattle.request.specs.Call.{Result}
@@ -47,7 +47,7 @@ module _ (s : Setting) (v : Valid (s .geometry)) (logical old page : ℕ) (bytes
   copy-spends : (st : State) (b : ℕ) (p : Progress) → Spent p (copyFilled s u st b p) (copyCycles g)
   copy-spends st b p =
       omega
-      (arith, fill-spends s v b (copy dataKind logical (nextNumber st)) (writeSource g old page bytes) (data-short g old page bytes) p, sum-most (λ i. sourceMost g (writeSource g old page bytes i)) (but (programMost g) (readMost (g .main)) page) (g .pages) (λ i h. data-most g old page bytes i), copy-sum g v page within)
+      (arith, fill-spends s v b (copy dataKind logical (nextNumber st)) (writeSource g old (formOf st logical) page bytes) (data-short g old (formOf st logical) page bytes) p, sum-most (λ i. sourceMost g (writeSource g old (formOf st logical) page bytes i)) (but (programMost g) (readMost (g .main)) page) (g .pages) (λ i h. data-most g old (formOf st logical) page bytes i), copy-sum g v page within)
 
   table-spends : (st : State) (b : ℕ) (p : Progress) → Spent p (tableFilled s b (nextNumber st) (st .invalid) p) (tableCycles g)
   table-spends st b p =

@@ -14,6 +14,7 @@ use Rattle.bools.proofs.BoolLaws.{clash}
 use Rattle.bitmaps.specs.Bitmap.{bitAt}
 use Rattle.operations.specs.Trace.{ArrayOperation}
 use Rattle.state_choose.specs.Choose.{permitted, countPermitted}
+use Rattle.pages.specs.Layout.{dataKind}
 use Rattle.state.specs.State.{none, heldBits, taken, withCopy, Mounted}
 use Rattle.state.specs.declared.State.{State}
 use Rattle.state.proofs.HeldLaws.{held-entry}
@@ -54,13 +55,13 @@ module _ (st : State) (blocks logical : ℕ) (room : blocks ≤ 4096) (m : Mount
       let x = eqb-false (e .place) k f in
       m .once k (e .place) k-below (e .within) (λ y. x (sym y)) some (sym (e .is) ∙ getD-set-other (st .map) k (e .place) b 0 x))
 
-  released : bitAt (heldBits (withCopy k b (taken st)) logical) old ≡ false
+  released : bitAt (heldBits (withCopy dataKind k b (taken st)) logical) old ≡ false
   released =
-      cases (bitAt (heldBits (withCopy k b (taken st)) logical) old)
+      cases (bitAt (heldBits (withCopy dataKind k b (taken st)) logical) old)
       (λ t.
-      absurd (⊎-elim (λ e. m .copy-off-table k k-below some (sym e)) unnamed (held-from (withCopy k b (taken st)) logical old t)))
+      absurd (⊎-elim (λ e. m .copy-off-table k k-below some (sym e)) unnamed (held-from (withCopy dataKind k b (taken st)) logical old t)))
       (λ f. f)
 
-  pub old-free : permitted (st .marked) (st .invalid) (heldBits (withCopy k b (taken st)) logical) old ≡ true
+  pub old-free : permitted (st .marked) (st .invalid) (heldBits (withCopy dataKind k b (taken st)) logical) old ≡ true
   unfolding permitted
   old-free = rw (m .copy-unmarked k k-below some, m .copy-valid k k-below some, released)

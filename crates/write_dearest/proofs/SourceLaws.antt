@@ -13,6 +13,8 @@ use Rattle.geometry.specs.Limits.{Valid}
 use Rattle.bitmaps.specs.Bitmap.{bitmapBytes}
 use Rattle.pages.proofs.LayoutLaws.{length-bytesOf}
 use Rattle.copies.specs.Table.{tablePage}
+use Rattle.copies.specs.Blocks.{blockIn, pageIn, mainIn}
+use Rattle.copies.proofs.FormLaws.{length-formed}
 use Rattle.fill.specs.Fill.{Source, given, kept, mainOf, isGiven, givenMain, dataSource, tableMain, tableSource}
 use Rattle.damage.specs.Run.{programMost, readMost, eraseMost, sourceMost}
 use Rattle.dearest.specs.Dearest.{copyOperations, tableOperations, copyCycles, tableCycles}
@@ -34,12 +36,12 @@ given-one page i =
     (λ t. rw (f, t, le-ltb i (page + 1) (omega (arith, x, leb-true page i t))))
     (λ t. rw (f, t)))
 
-module _ (g : Geometry) (old page : ℕ) (bytes : List ℕ) where
+module _ (g : Geometry) (old form page : ℕ) (bytes : List ℕ) where
   abbrev pub writeSource : ℕ → Source
-  writeSource = dataSource g old page 1 bytes
+  writeSource = dataSource g old form page 1 bytes
 
   -- the page given, one kept from the old copy, or FFh
-  pub by-source : (P : Source → Type 0) (i : ℕ) → (i ≡ page → P (given (givenMain g page bytes i))) → ((i ≡ page → ⊥) → old < g .blocks → P (kept old))
+  pub by-source : (P : Source → Type 0) (i : ℕ) → (i ≡ page → P (given (givenMain g page bytes i))) → ((i ≡ page → ⊥) → old < g .blocks → P (kept old form))
       → ((i ≡ page → ⊥) → g .blocks ≤ old → P (given (replicate (g .main) 255))) → P (writeSource i)
   unfolding dataSource
   by-source P i a k n =
@@ -54,7 +56,7 @@ module _ (g : Geometry) (old page : ℕ) (bytes : List ℕ) where
   data-short array i =
       by-source (λ z. length (mainOf g array i z) ≤ g .main) i
       (λ e. take-short (g .main) _)
-      (λ e o. take-short (g .main) _)
+      (λ e o. omega (arith, length-formed form i (mainIn g (blockIn g array old) i), take-short (g .main) (pageIn g (blockIn g array old) i)))
       (λ e o. omega (arith, length-replicate {A = ℕ} (g .main) 255))
 
   pub data-most : (i : ℕ) → sourceMost g (writeSource i) ≤ but (programMost g) (readMost (g .main)) page i

@@ -26,4 +26,4 @@ pub record Exactly (p q : Progress) (words cycles : ℕ) : Type 0 where
 -- the operations of a page: a program, and a read before it where the page is kept
 unfoldable pub wordsOf : Source → ℕ
 wordsOf (given main) = 1
-wordsOf (kept old) = 2
+wordsOf (kept old form) = 2

@@ -41,7 +41,7 @@ use Rattle.progress.specs.Progress.{Progress, progress, lineOf}
 use Rattle.progress.specs.Steps.{resumed}
 use Rattle.progress.proofs.CountLaws.{allowance, allowance-kept}
 use Rattle.progress.proofs.StatusLaws.{StatusLeft, status-leaves, status-started, status-counts, status-keeps, shown-high}
-use Rattle.fill.specs.Fill.{copy, copyPage, dataSource, tableCopy, tableSource, tableFilled}
+use Rattle.fill.specs.Fill.{copy, copyPage, mainOf, dataSource, tableCopy, tableSource, tableFilled}
 use Rattle.fill_tables.specs.Tables.{Tabled, tabled, endOfRun, tablesFilled}
 use Rattle.fill_tables.proofs.StatusLaws.{after-passed, after-stopped}
 use Rattle.request_refusals.specs.Refusals.{refusalOf}
@@ -53,7 +53,7 @@ use Rattle.damage.proofs.FailedLaws.{failed-none, failed-same}
 use Rattle.damage.proofs.FillLaws.{fill-leaves, fill-given}
 use Rattle.damage.proofs.ReplayLaws.{Leads, leads-first, leads-status, leads-kept, replayed, lengths-sized}
 use Rattle.format_laws.proofs.FormatLaws.{count-most}
-use Rattle.write_changes.specs.Changes.{Update, Copied, copied, copyFilled, stoppedAt, copiesFilled, thenTable, changeRun, changeFirst, changing, writeUpdate, eraseUpdate, writeRequest, writing, eraseRefusal, eraseRequest, erasingLogical}
+use Rattle.write_changes.specs.Changes.{Update, Copied, copied, copyFilled, stoppedAt, copiesFilled, thenTable, changeRun, changeFirst, changing, writeUpdate, eraseUpdate, writeRequest, writing, eraseRefusal, eraseRequest, erasingLogical, updateSource}
 use Rattle.write_changes.proofs.KeepLaws.{change-keeps}
 use Rattle.write_changes.proofs.StopLaws.{copies-stopped}
 use Rattle.write_changes.proofs.LoopLaws.{Copying, copies-end, Tabling, tables-end}
@@ -90,7 +90,7 @@ module _ (s : Setting) (first : Progress) (st₀ : State) (u : Update) (ranged :
   pub record CopyMade (next : State) (q : Progress) : Type 0 where
     map-is : next .map ≡ set (st₀ .map) (u .logical) (next .last)
     table-same : next .table ≡ st₀ .table
-    pages-are : Holds g (q .line .chip .array) (next .last) (newPage g array₀ u (nextNumber st₀ + failedCount (q .started) (g .blocks)))
+    pages-are : Holds g (q .line .chip .array) (next .last) (newPage g array₀ st₀ u (nextNumber st₀ + failedCount (q .started) (g .blocks)))
 
   -- before each data fill, and how they end
   abbrev Mid : State → Progress → Type 0
@@ -141,6 +141,7 @@ module _ (s : Setting) (first : Progress) (st₀ : State) (u : Update) (ranged :
         held-is = refl;
         map-long = ranged .map-long;
         map-same = refl;
+        kinds-same = refl;
         table-same = refl;
         marked-same = refl;
         bits = meant.bits-so (g .blocks) (st₀ .invalid) (ranged .invalid-long) (ranged .invalid-bytes) (facts .invalid-end);
@@ -169,14 +170,14 @@ module _ (s : Setting) (first : Progress) (st₀ : State) (u : Update) (ranged :
     unheld = unheld-so (st .marked) (st .invalid) held b may
 
     abbrev pub pages : ℕ → List ℕ
-    pages = meant.pagesNew s v held u proper (p .line .chip .array) (p-called .array-long) old-bytes (nextNumber st) fits b unheld
+    pages = meant.pagesNew s v held st u proper (p .line .chip .array) (p-called .array-long) old-bytes (nextNumber st) fits b unheld
 
-    pub copy-meant : Meant s (p .line .chip .array) b (copy dataKind (u .logical) (nextNumber st)) (dataSource g (u .old) (u .first) (u .count) (u .bytes)) pages
-    copy-meant = meant.data-meant s v held u proper (p .line .chip .array) (p-called .array-long) old-bytes (nextNumber st) fits b unheld
+    pub copy-meant : Meant s (p .line .chip .array) b (copy dataKind (u .logical) (nextNumber st)) (updateSource g st u) pages
+    copy-meant = meant.data-meant s v held st u proper (p .line .chip .array) (p-called .array-long) old-bytes (nextNumber st) fits b unheld
 
     left : Filled s p q b pages (g .pages) (fillMost g)
     left =
-        fill-leaves s p b below (copy dataKind (u .logical) (nextNumber st)) (dataSource g (u .old) (u .first) (u .count) (u .bytes)) pages copy-meant
+        fill-leaves s p b below (copy dataKind (u .logical) (nextNumber st)) (updateSource g st u) pages copy-meant
         (ranged .mask-bytes) (x .high) (x .passed) p-called
 
     -- it passed
@@ -184,7 +185,7 @@ module _ (s : Setting) (first : Progress) (st₀ : State) (u : Update) (ranged :
       none-more : failedCount (q .started) (g .blocks) ≡ failedCount (p .started) (g .blocks)
       none-more = failed-same (p .started) (q .started) (unfailed-none p q b (passed-unfailed (q .outcome) y) (left .failures)) (g .blocks)
 
-      copy-made : CopyMade (withCopy (u .logical) b (taken st)) q
+      copy-made : CopyMade (withCopy dataKind (u .logical) b (taken st)) q
       copy-made =
           record {
             map-is = ap (λ (z : List ℕ). set z (u .logical) b) (x .map-same);
@@ -192,18 +193,19 @@ module _ (s : Setting) (first : Progress) (st₀ : State) (u : Update) (ranged :
             pages-are = λ i h.
                 let number-is : nextNumber st ≡ nextNumber st₀ + failedCount (q .started) (g .blocks) = omega (arith, x .numbers, none-more) in
                 left .done y i h
-                ∙ ap (copyPage g (copy dataKind (u .logical) (nextNumber st)) i) (meant.same-main s v held u proper (p .line .chip .array) array₀ old-same i)
-                ∙ ap (λ (k : ℕ). newPage g array₀ u k i) number-is;
+                ∙ ap (copyPage g (copy dataKind (u .logical) (nextNumber st)) i) (meant.same-main s v held st u proper (p .line .chip .array) array₀ old-same i)
+                ∙ ap (λ (m : List ℕ). copyPage g (copy dataKind (u .logical) (nextNumber st)) i (mainOf g array₀ i (dataSource g (u .old) (getD m (u .logical) 0) (u .first) (u .count) (u .bytes) i))) (x .kinds-same)
+                ∙ ap (λ (k : ℕ). newPage g array₀ st₀ u k i) number-is;
           }
 
-      copy-passed : (f : Bool) → f ≡ flag p → Copies (copied q 0 (withCopy (u .logical) b (taken st)) f)
+      copy-passed : (f : Bool) → f ≡ flag p → Copies (copied q 0 (withCopy dataKind (u .logical) b (taken st)) f)
       copy-passed f e =
           let free = subst (λ (z : List ℕ). permitted (st .marked) (st .invalid) z b ≡ true) (sym (x .held-is)) may in
           let room : u .logical < length (st .map) = omega (arith, x .map-long, proper .logical-below, v .logical-most, v .blocks-most) in
           record {
-            ended = phase.ended-passed s v st₀ held st₀ CopyMade first (fillMost g) total 0 st p x b below may q pages (g .pages) left y (withCopy (u .logical) b (taken st)) copy-made
-                (next-copy st (g .blocks) (g .logical) (v .blocks-most) (x .facts) b below free (u .logical) (proper .logical-below) room)
-                (length-set (st .map) (u .logical) b ∙ x .map-long) (λ c h. copy-held st (g .logical) b c h (u .logical) room) refl refl refl;
+            ended = phase.ended-passed s v st₀ held st₀ CopyMade first (fillMost g) total 0 st p x b below may q pages (g .pages) left y (withCopy dataKind (u .logical) b (taken st)) copy-made
+                (next-copy st (g .blocks) (g .logical) (v .blocks-most) (x .facts) b below free (u .logical) (proper .logical-below) room dataKind)
+                (length-set (st .map) (u .logical) b ∙ x .map-long) (λ c h. copy-held st (g .logical) b c h dataKind (u .logical) room) refl refl refl;
             any-failed = λ z. e ∙ ap (ltb 0) (sym none-more);
           }
 
@@ -267,6 +269,7 @@ module _ (s : Setting) (first : Progress) (st₀ : State) (u : Update) (ranged :
           held-is = refl;
           map-long = done .map-long;
           map-same = refl;
+          kinds-same = refl;
           table-same = refl;
           marked-same = done .marked-same;
           bits = done .bits;
@@ -315,7 +318,7 @@ module _ (s : Setting) (first : Progress) (st₀ : State) (u : Update) (ranged :
   pub record Done (tables : ℕ) (next : State) (q : Progress) : Type 0 where
     called : Called s (q .line)
     map-is : next .map ≡ set (st₀ .map) (u .logical) (made .state .last)
-    new-copy : Holds g (q .line .chip .array) (made .state .last) (newPage g array₀ u (nextNumber st₀ + failedCount (made .progress .started) (g .blocks)))
+    new-copy : Holds g (q .line .chip .array) (made .state .last) (newPage g array₀ st₀ u (nextNumber st₀ + failedCount (made .progress .started) (g .blocks)))
     same-table : made .failed ≡ false → next .table ≡ st₀ .table
     new-table : made .failed ≡ true → Holds g (q .line .chip .array) (next .table) (newTable g (next .invalid) (nextNumber next - 1))
     facts : Mounted next (g .blocks) (g .logical)
@@ -560,7 +563,7 @@ module _ (s : Setting) (d : Device) (n : ℕ) (st₀ : State) (u : Update) (rang
           still-in-range = record { array-bytes = bytes-still fills fills-leads (all .sound .legal); mask-bytes = ranged .mask-bytes; invalid-long = x .bits .long; invalid-bytes = x .bits .bytes; map-long = x .map-long };
           map-is = x .map-is;
           new-copy = λ i h.
-              x .new-copy i h ∙ ap (λ (a : List ℕ). newPage geo a u (nextNumber st₀ + failedCount (made₁ .progress .started) (geo .blocks)) i) (status-left .same-array);
+              x .new-copy i h ∙ ap (λ (a : List ℕ). newPage geo a st₀ u (nextNumber st₀ + failedCount (made₁ .progress .started) (geo .blocks)) i) (status-left .same-array);
           any-failed = by-copies .any-failed filled;
           same-table = x .same-table;
           new-table = x .new-table;

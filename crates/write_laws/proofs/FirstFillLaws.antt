@@ -34,11 +34,11 @@ use Rattle.request.specs.Call.{stopAnswer}
 use Rattle.request.proofs.CallLaws.{stop-least}
 use Rattle.progress.specs.Progress.{Progress}
 use Rattle.progress.specs.Steps.{eraseOn}
-use Rattle.fill.specs.Fill.{copy, dataSource, pagesFilled}
+use Rattle.fill.specs.Fill.{copy, pagesFilled}
 use Rattle.fill.proofs.FillLaws.{fill-stopped}
 use Rattle.pages.specs.Layout.{dataKind}
 use Rattle.fill_tables.specs.Tables.{tabled}
-use Rattle.write_changes.specs.Changes.{Update, Copied, copyFilled, stoppedAt, afterTry, copyTried, copiesFilled, thenTable, changeRun}
+use Rattle.write_changes.specs.Changes.{Update, Copied, copyFilled, stoppedAt, afterTry, copyTried, copiesFilled, thenTable, changeRun, updateSource}
 use Rattle.write_changes.proofs.LoopLaws.{chosen-permitted, none-permitted}
 use Rattle.write_laws.specs.Unready.{mayFill, noneLeft}
 
@@ -138,8 +138,8 @@ module _ (s : Setting) (st : State) (u : Update) (last-below : st .last < s .geo
       fill-is : copyFilled s u st b first ≡ x
       unfolding pagesFilled
       fill-is =
-          ap (λ (k : ℕ). pagesFilled s b (copy dataKind (u .logical) (nextNumber st)) (dataSource (s .geometry) (u .old) (u .first) (u .count) (u .bytes)) k x) (sym (add-zero (s .geometry .pages)))
-          ∙ fill-stopped s b (copy dataKind (u .logical) (nextNumber st)) (dataSource (s .geometry) (u .old) (u .first) (u .count) (u .bytes)) 0 x unpassed (s .geometry .pages)
+          ap (λ (k : ℕ). pagesFilled s b (copy dataKind (u .logical) (nextNumber st)) (updateSource (s .geometry) st u) k x) (sym (add-zero (s .geometry .pages)))
+          ∙ fill-stopped s b (copy dataKind (u .logical) (nextNumber st)) (updateSource (s .geometry) st u) 0 x unpassed (s .geometry .pages)
 
       stops : copyTried s u st false first more (Block b) ≡ stoppedAt x
       unfolding copyTried afterTry

@@ -22,8 +22,9 @@ use Rattle.bitmaps.proofs.BitmapLaws.{Bitmap}
 use Rattle.bitmaps.proofs.ByteLaws.{clear-byte}
 use Rattle.chip_array.specs.Device.{Setting}
 use Rattle.pages.specs.Layout.{dataKind}
-use Rattle.copies.specs.Blocks.{blockIn, pageIn, mainIn}
-use Rattle.state.specs.State.{numberEnd, heldBits}
+use Rattle.copies.specs.Blocks.{blockIn, pageIn, mainIn, formed}
+use Rattle.copies.proofs.FormLaws.{length-formed, bytes-formed}
+use Rattle.state.specs.State.{numberEnd, heldBits, formOf}
 use Rattle.state.specs.declared.State.{State}
 use Rattle.state.proofs.MountedLaws.{each-clear}
 use Rattle.state.proofs.HeldLaws.{held-entry}
@@ -33,7 +34,7 @@ use Rattle.damage.specs.Run.{Labelled, Meant, Provides, from-caller, from-copy,
 use Rattle.damage.proofs.CopyLaws.{copy-long, copy-bytes}
 use Rattle.damage.proofs.PlaceLaws.{page-long}
 use Rattle.format_laws.proofs.TableBlockLaws.{table-label, table-long, table-bytes}
-use Rattle.write_changes.specs.Changes.{Update, writeUpdate, eraseUpdate}
+use Rattle.write_changes.specs.Changes.{Update, writeUpdate, eraseUpdate, updateSource}
 
 -- a bitmap of 512 bytes without a bit past the last block
 pub bits-so : (blocks : ℕ) (bits : List ℕ) → length bits ≡ 512 → Bytes bits → ((b : ℕ) → blocks ≤ b → b < 4096 → bitAt bits b ≡ false) → Bitmap blocks bits
@@ -57,15 +58,15 @@ pub record Proper (g : Geometry) (held : List ℕ) (u : Update) : Type 0 where
   pub given-bytes : Bytes (u .bytes)
   pub old-held : u .old < g .blocks → bitAt held (u .old) ≡ true
 
-module _ (s : Setting) (v : Valid (s .geometry)) (held : List ℕ) (u : Update) (proper : Proper (s .geometry) held u) where
+module _ (s : Setting) (v : Valid (s .geometry)) (held : List ℕ) (st : State) (u : Update) (proper : Proper (s .geometry) held u) where
   abbrev g : Geometry
   g = s .geometry
 
   abbrev source : ℕ → Source
-  source = dataSource g (u .old) (u .first) (u .count) (u .bytes)
+  source = updateSource g st u
 
   -- a page is given, kept or FFh
-  by-source : (P : Source → Type 0) (i : ℕ) → (isGiven (u .first) (u .count) i ≡ true → P (given (givenMain g (u .first) (u .bytes) i))) → (u .old < g .blocks → P (kept (u .old)))
+  by-source : (P : Source → Type 0) (i : ℕ) → (isGiven (u .first) (u .count) i ≡ true → P (given (givenMain g (u .first) (u .bytes) i))) → (u .old < g .blocks → P (kept (u .old) (formOf st (u .logical))))
       → P (given (replicate (g .main) 255)) → P (source i)
   unfolding dataSource
   by-source P i a k n =
@@ -77,7 +78,7 @@ module _ (s : Setting) (v : Valid (s .geometry)) (held : List ℕ) (u : Update) 
   pub same-main : (array other : List ℕ) → (u .old < g .blocks → blockIn g array (u .old) ≡ blockIn g other (u .old)) → (i : ℕ) → mainOf g array i (source i) ≡ mainOf g other i (source i)
   unfolding mainOf
   same-main array other e i =
-      by-source (λ z. mainOf g array i z ≡ mainOf g other i z) i (λ t. refl) (λ h. ap (λ (row : List ℕ). mainIn g row i) (e h)) refl
+      by-source (λ z. mainOf g array i z ≡ mainOf g other i z) i (λ t. refl) (λ h. ap (λ (row : List ℕ). formed (formOf st (u .logical)) i (mainIn g row i)) (e h)) refl
 
   module _ (array : List ℕ) (long : length array ≡ chipSize g) (old-bytes : u .old < g .blocks → Bytes (blockIn g array (u .old))) where
     abbrev mainNew : ℕ → List ℕ
@@ -88,7 +89,7 @@ module _ (s : Setting) (v : Valid (s .geometry)) (held : List ℕ) (u : Update) 
     new-long i h =
         by-source (λ z. length (mainOf g array i z) ≡ g .main) i
         (proper .given-long i)
-        (λ o. length-take-le (g .main) (pageIn g (blockIn g array (u .old)) i) (omega (arith, page-long g v array long (u .old) o i h)))
+        (λ o. length-formed (formOf st (u .logical)) i (mainIn g (blockIn g array (u .old)) i) ∙ length-take-le (g .main) (pageIn g (blockIn g array (u .old)) i) (omega (arith, page-long g v array long (u .old) o i h)))
         (length-replicate {A = ℕ} (g .main) 255)
 
     new-bytes : (i : ℕ) → i < g .pages → Bytes (mainNew i)
@@ -96,7 +97,7 @@ module _ (s : Setting) (v : Valid (s .geometry)) (held : List ℕ) (u : Update) 
     new-bytes i h =
         by-source (λ z. Bytes (mainOf g array i z)) i
         (λ t. bytes-part ((i - u .first) * g .main) (g .main) (u .bytes) (proper .given-bytes))
-        (λ o. bytes-take (g .main) (pageIn g (blockIn g array (u .old)) i) (bytes-part (i * pageSize g) (pageSize g) (blockIn g array (u .old)) (old-bytes o)))
+        (λ o. bytes-formed (formOf st (u .logical)) i (mainIn g (blockIn g array (u .old)) i) (bytes-take (g .main) (pageIn g (blockIn g array (u .old)) i) (bytes-part (i * pageSize g) (pageSize g) (blockIn g array (u .old)) (old-bytes o))))
         (bytes-replicate (g .main))
 
     module _ (number : ℕ) (fits : number < numberEnd) (b : ℕ) (unheld : bitAt held b ≡ false) where
@@ -114,7 +115,7 @@ module _ (s : Setting) (v : Valid (s .geometry)) (held : List ℕ) (u : Update) 
       provided i =
           by-source (λ z. Provides g array b made i z (copyPage g made i (mainOf g array i z))) i
           (λ t. from-caller _)
-          (λ o. from-copy (u .old) o (λ e. clash (proper .old-held o) (ap (bitAt held) e ∙ unheld)))
+          (λ o. from-copy (u .old) (formOf st (u .logical)) o (λ e. clash (proper .old-held o) (ap (bitAt held) e ∙ unheld)))
           (from-caller _)
 
       pub data-meant : Meant s array b made source pagesNew

@@ -71,14 +71,14 @@ module _ (st : State) (n b c : ℕ) (small : c < 4096) where
   table-before : st .table ≡ c → bitAt (heldBits st n) c ≡ true
   table-before e = subst (λ (k : ℕ). bitAt (heldBits st n) k ≡ true) e (held-table st n (omega (arith, small, e)))
 
-  pub copy-held : (k : ℕ) → k < length (st .map) → bitAt (heldBits (withCopy k b (taken st)) n) c ≡ true → (c ≡ b) ⊎ (bitAt (heldBits st n) c ≡ true)
-  copy-held k room t =
+  pub copy-held : (kind k : ℕ) → k < length (st .map) → bitAt (heldBits (withCopy kind k b (taken st)) n) c ≡ true → (c ≡ b) ⊎ (bitAt (heldBits st n) c ≡ true)
+  copy-held kind k room t =
       ⊎-elim (λ e. inr (table-before e))
       (λ e.
       cases (eqb (e .place) k)
       (λ y. inl (sym (e .is) ∙ ap (λ (l : ℕ). getD (set (st .map) k b) l 0) (eqb-true (e .place) k y) ∙ getD-set-same (st .map) k b 0 room))
       (λ y. inr (held-before (record { place = e .place; within = e .within; is = sym (getD-set-other (st .map) k (e .place) b 0 (eqb-false (e .place) k y)) ∙ e .is }))))
-      (held-from (withCopy k b (taken st)) n c t)
+      (held-from (withCopy kind k b (taken st)) n c t)
 
   pub table-held : bitAt (heldBits (withTable b (taken st)) n) c ≡ true → (c ≡ b) ⊎ (bitAt (heldBits st n) c ≡ true)
   table-held t = ⊎-elim (λ e. inl (sym e)) (λ e. inr (held-before e)) (held-from (withTable b (taken st)) n c t)
@@ -169,8 +169,8 @@ module _ (st : State) (blocks logical : ℕ) (room : blocks ≤ 4096) (m : Mount
         (λ f. off-entry l h (sym (other l w) ∙ q ∙ here j (eqb-true j k f)))
         (λ f. m .once l j h i d (λ z. x (other l w ∙ z)) (sym (other l w) ∙ q ∙ other j (eqb-false j k f))))
 
-    pub next-copy : Mounted (withCopy k b (taken st)) blocks logical
-    next-copy =
+    pub next-copy : (kind : ℕ) → Mounted (withCopy kind k b (taken st)) blocks logical
+    next-copy kind =
         record {
           status-one = m .status-one;
           last-below = below;

@@ -61,6 +61,7 @@ module _ (s : Setting) (v : Valid (s .geometry)) (st₀ : State) (held : List �
     pub held-is : heldBits st (g .logical) ≡ held
     pub map-long : length (st .map) ≡ 4096
     pub map-same : st .map ≡ origin .map
+    pub kinds-same : st .kinds ≡ origin .kinds
     pub table-same : st .table ≡ origin .table
     pub marked-same : st .marked ≡ st₀ .marked
     pub bits : Bitmap (g .blocks) (st .invalid)
@@ -259,6 +260,7 @@ module _ (s : Setting) (v : Valid (s .geometry)) (st₀ : State) (held : List �
               held-is = m .held-is;
               map-long = m .map-long;
               map-same = m .map-same;
+              kinds-same = m .kinds-same;
               table-same = m .table-same;
               marked-same = m .marked-same;
               bits = bits-more (g .blocks) (st .invalid) b (v .blocks-most) below (m .bits);

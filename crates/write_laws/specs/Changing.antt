@@ -17,9 +17,9 @@ use Rattle.state_choose.specs.Choose.{permitted}
 use Rattle.state.specs.State.{blank, nextNumber, numberEnd, numbersLeft, heldBits, mounted}
 use Rattle.state.specs.declared.State.{State}
 use Rattle.request.specs.Call.{Result, sizedFor, callLine}
-use Rattle.fill.specs.Fill.{copy, copyPage, mainOf, dataSource, tableCopy, tableMain}
+use Rattle.fill.specs.Fill.{copy, copyPage, mainOf, tableCopy, tableMain}
 use Rattle.fill_tables.specs.Tables.{Tabled}
-use Rattle.write_changes.specs.Changes.{Update, Copied, copiesFilled, changeFirst, changeCall}
+use Rattle.write_changes.specs.Changes.{Update, Copied, copiesFilled, changeFirst, changeCall, updateSource}
 use Rattle.damage.specs.Protect.{Unwritten}
 use Rattle.damage.specs.Replay.{Replayed}
 use Rattle.damage.specs.Run.{failedIn, failedCount, Slow, fillMost, tableFillMost}
@@ -49,9 +49,9 @@ abbrev pub changeMost : Geometry → ℕ
 changeMost g = 2 + fillsMost g
 
 -- the pages of a new copy: given by the caller, kept from the old copy as the array before had it, FFh where there is none
-abbrev pub newPage : Geometry → List ℕ → Update → ℕ → ℕ → List ℕ
-newPage g before u number i =
-    copyPage g (copy dataKind (u .logical) number) i (mainOf g before i (dataSource g (u .old) (u .first) (u .count) (u .bytes) i))
+abbrev pub newPage : Geometry → List ℕ → State → Update → ℕ → ℕ → List ℕ
+newPage g before st u number i =
+    copyPage g (copy dataKind (u .logical) number) i (mainOf g before i (updateSource g st u i))
 
 -- those of a table of invalid blocks
 abbrev pub newTable : Geometry → List ℕ → ℕ → ℕ → List ℕ
@@ -84,7 +84,7 @@ pub record Acknowledged (s : Setting) (d : Device) (n : ℕ) (st : State) (u : U
   pub still-in-range : InRange s (r .chip) (r .state)
   pub map-is : r .state .map ≡ set (st .map) (u .logical) (copiesDone s d n st u .state .last)
   pub new-copy : Holds (s .geometry) (r .chip .array) (copiesDone s d n st u .state .last)
-      (newPage (s .geometry) (d .array) u (nextNumber st + failedCount (copiesDone s d n st u .progress .started) (s .geometry .blocks)))
+      (newPage (s .geometry) (d .array) st u (nextNumber st + failedCount (copiesDone s d n st u .progress .started) (s .geometry .blocks)))
   pub any-failed : copiesDone s d n st u .failed ≡ ltb 0 (failedCount (copiesDone s d n st u .progress .started) (s .geometry .blocks))
   pub same-table : copiesDone s d n st u .failed ≡ false → r .state .table ≡ st .table
   pub new-table : copiesDone s d n st u .failed ≡ true

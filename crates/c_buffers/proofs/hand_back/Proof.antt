@@ -2,9 +2,11 @@
 use denote.Ref.{now}
 use Prim.Native.Nat.{ℕ}
 use mathlib.Core.Path.{_≡_, ap, _∙_}
+use native.Mathlib.Omega.{arith}
 use lib.ListN.{length, getD}
 use mir.Syntax.{w8, w16, w64}
 use mir.Val.{Fits}
+use Rattle.cells.proofs.PartLaws.{length-part}
 use Rattle.c_state.specs.StateBytes.{Ranged}
 use Rattle.c_open.specs.OpenBytes.{bytesPage, bytesOpen, leftOpen, WordsRanged}
 use Rattle.c_open.proofs.RoundLaws.{load-left}
@@ -44,6 +46,12 @@ map-long s = search needs
 map-fits : (s : tie.Start) (i : ℕ) → Fits w16 (getD (s .args .returned .state .map) i 0)
 map-fits s i = search needs
 
+kinds-long : (s : tie.Start) → length (s .args .returned .state .kinds) ≡ 4096
+kinds-long s = search (needs, s .good .0 .1 .1 .1 .0 .1 .1 .1 .1 .1 .1 .1 .1 .1 .0 .1 .0)
+
+kinds-fit : (s : tie.Start) (i : ℕ) → Fits w8 (getD (s .args .returned .state .kinds) i 0)
+kinds-fit s i = search (needs, s .good .0 .1 .1 .1 .0 .1 .1 .1 .1 .1 .1 .1 .1 .1 .0 .1 .1)
+
 ranged : (s : tie.Start) → Ranged (s .args .returned .state)
 ranged s =
     record {
@@ -57,6 +65,8 @@ ranged s =
       invalid-bytes = λ i. invalid-fits s i .fits;
       map-long = map-long s;
       map-fits = λ i. map-fits s i .fits;
+      kinds-long = kinds-long s;
+      kinds-bytes = λ i. kinds-fit s i .fits;
     }
 
 opened-word : (s : tie.Start) → Fits w64 (s .args .write .opened)
@@ -128,7 +138,7 @@ returns c =
     let s = at-leave .before .before .before .before .before .before .before in
     let r = s .args .returned in
     let page = bytesPage (now (s .args .state)) in
-    (put-back (r .answer) (r .sent) (leftOpen (s .args .gone) (r .state) (s .args .write) page) (r .interface) _ _ (now (s .args .sent)) (at-leave .leave .ensures) (c .before .before .write-interface .ensures) (s .pre .1 .1), ap bytesOpen (at-leave .leave .ensures) ∙ load-left (s .args .gone) (r .state) (s .args .write) page (ranged s) (words-ranged s))
+    (put-back (r .answer) (r .sent) (leftOpen (s .args .gone) (r .state) (s .args .write) page) (r .interface) _ _ (now (s .args .sent)) (at-leave .leave .ensures) (c .before .before .write-interface .ensures) (s .pre .1 .1), ap bytesOpen (at-leave .leave .ensures) ∙ load-left (s .args .gone) (r .state) (s .args .write) page (ranged s) (words-ranged s) (length-part 9328 4096 (now (s .args .state)) (omega (arith, s .pre .0))))
 
 pub hand-back-spec : {M : Type 1} → statement M
 hand-back-spec =

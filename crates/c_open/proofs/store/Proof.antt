@@ -1,7 +1,7 @@
 -- `c_open::store` meets its contract. Assumes nothing.
 use Prim.Native.Nat.{ℕ, _-_}
 use mathlib.Core.List.{List}
-use mathlib.Core.Path.{sym, ap, _∙_}
+use mathlib.Core.Path.{_≡_, sym, ap, _∙_}
 use denote.Ref.{now}
 use lib.ListN.{length}
 use Rattle.cells.specs.Part.{put}
@@ -26,17 +26,28 @@ store-requires c κs = search needs
 put-words-requires : tie.Need-put-words-requires
 put-words-requires c κs = search needs
 
+slice-aggregate-put-kinds : tie.Need-slice-aggregate-put-kinds
+slice-aggregate-put-kinds c = search needs
+
+put-kinds-requires : tie.Need-put-kinds-requires
+put-kinds-requires c κs = search needs
+
 same-length : tie.Need-same-length
 same-length c = search needs
 
+kinds-long : (s : tie.Start) → length (s .args .state .kinds) ≡ 4096
+kinds-long s = search needs
+
 returns : tie.Need-returns
 returns c =
-    let at-store = c .before .before .before .before .before .before in
-    let s = at-store .before .before .before in
+    let at-words = c .before .before .before .before .before .before .before in
+    let at-store = at-words .before .before .before .before in
+    let s = at-store .before .before .before .before in
     let d = at-store .store in
     let xs = now (s .args .bytes) in
     let long = d .kept .1 .0 ∙ first-long xs (s .pre) in
-    stored-open (s .args .state) (s .args .write) xs _ _ (s .pre) (sym (ap length (d .ensures)) ∙ long) (put-lent 0 (9248 - 0) (d .last .1 .0) xs long ∙ ap (λ (ys : List ℕ). put 0 ys xs) (d .ensures)) (c .before .before .put-words .ensures)
+    stored-open (s .args .state) (s .args .write) xs _ _ _ (s .pre) (sym (ap length (d .ensures)) ∙ long) (kinds-long s)
+    (put-lent 0 (9248 - 0) (d .last .1 .0) xs long ∙ ap (λ (ys : List ℕ). put 0 ys xs) (d .ensures)) (at-words .put-words .ensures) (c .before .before .put-kinds .ensures)
 
 pub store-spec : {M : Type 1} → statement M
 store-spec =
@@ -47,5 +58,7 @@ store-spec =
     part-store-end
     store-requires
     put-words-requires
+    slice-aggregate-put-kinds
+    put-kinds-requires
     same-length
     returns)

@@ -28,17 +28,20 @@ slice-aggregate-read-map c = search needs
 read-map-requires : tie.Need-read-map-requires
 read-map-requires c κs = search needs
 
+kinds-of-requires : tie.Need-kinds-of-requires
+kinds-of-requires c κs = search needs
+
 returns : tie.Need-returns
 returns c =
-    let map = c .before in
+    let map = c .before .before in
     let invalid = map .before .before in
     let marked = invalid .before in
     let number = marked .before in
     let last = number .before in
     let table = last .before in
     let status = table .before in
-    loaded (status .before .before .args .bytes .now) (status .number-at .ensures) (table .number-at2 .ensures) (last .number-at3 .ensures) (number .number-at4 .ensures)
-    (marked .bits-at .ensures) (invalid .bits-at2 .ensures) (map .read-map .ensures)
+    loaded (status .before .before .before .args .bytes .now) (status .number-at .ensures) (table .number-at2 .ensures) (last .number-at3 .ensures) (number .number-at4 .ensures)
+    (marked .bits-at .ensures) (invalid .bits-at2 .ensures) (map .read-map .ensures) (c .kinds-of .ensures)
 
 pub load-spec : {M : Type 1} → statement M
 load-spec =
@@ -52,4 +55,5 @@ load-spec =
     bits-at-requires-2
     slice-aggregate-read-map
     read-map-requires
+    kinds-of-requires
     returns)

@@ -1,10 +1,12 @@
 -- `fill::put_given` meets its contract. Assumes nothing.
 use Prim.Native.Nat.{ℕ, _+_, _-_, _*_, _≤_}
+use mathlib.Core.List.{List}
 use mathlib.Core.Path.{_≡_, ap, _∙_}
 use native.Mathlib.Omega.{arith}
 use denote.Ref.{now}
 use lib.ListN.{length, take, drop}
 use Rattle.cells.proofs.PartLaws.{length-part}
+use Rattle.copies.specs.Blocks.{formed}
 use Rattle.fill.proofs.MainLaws.{given-from, given-room, put-given}
 use borrow.Author.Needs.{needs}
 use Rattle.fill.proofs.put_given.Statement.{statement}
@@ -49,18 +51,24 @@ part-copy-end-2 c = search needs
 copy-requires : tie.Need-copy-requires
 copy-requires c κs = search needs
 
+form-main-requires : tie.Need-form-main-requires
+form-main-requires c κs = search needs
+
 same-length : tie.Need-same-length
 same-length c = search needs
 
 returns : tie.Need-returns
 returns c =
-    let s = c .before .before .before .before .before .before .before in
+    let at-copy = c .before .before .before .before .before .before in
+    let s = at-copy .before .before .before .before .before in
     let main = s .args .g .main in
     let long : at s + main - at s ≡ main = omega arith in
     let lent = ap (λ k. take k (drop (at s) (now (s .args .bytes)))) long in
-    put-given main (now (s .args .page)) (omega (arith, s .pre .1 .1 .1 .1)) _ _ (c .before .before .copy .kept .1 .0) _
-    (ap length lent ∙ length-part (at s) main (now (s .args .bytes)) (omega (arith, room s, s .pre .1 .1 .1 .0))) (c .before .before .copy .ensures)
-    ∙ lent
+    c .before .before .form-main .ensures
+    ∙ ap (λ (xs : List ℕ). formed (s .args .content .kind) (s .args .place) xs)
+    (put-given main (now (s .args .page)) (omega (arith, s .pre .1 .1 .1 .1)) _ _ (at-copy .copy .kept .1 .0) _
+    (ap length lent ∙ length-part (at s) main (now (s .args .bytes)) (omega (arith, room s, s .pre .1 .1 .1 .0))) (at-copy .copy .ensures)
+    ∙ lent)
 
 pub put-given-spec : {M : Type 1} → statement M
 put-given-spec =
@@ -76,5 +84,6 @@ put-given-spec =
     part-copy-start-2
     part-copy-end-2
     copy-requires
+    form-main-requires
     same-length
     returns)

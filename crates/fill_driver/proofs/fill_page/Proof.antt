@@ -35,7 +35,7 @@ returns c =
     let s = at-put-main .before .before .before .before .before .before .before .before .before .before .before .before in
     let set = setting (s .args .g) (now (s .args .mask)) (now (s .args .fates)) in
     let k = copy (s .args .content .kind) (s .args .content .logical) (s .args .content .number) in
-    let source = dataSource (s .args .g) (s .args .content .old) (s .args .content .first) (s .args .content .count) (now (s .args .bytes)) in
+    let source = dataSource (s .args .g) (s .args .content .old) (s .args .content .form) (s .args .content .first) (s .args .content .count) (now (s .args .bytes)) in
     let f = other-by-tag _ (c .match .keys2) in
     page-stops set (s .args .block) k (s .args .place) (source (s .args .place)) _ _ (at-put-main .put-main .result .outcome) (at-put-main .put-main .ensures .0) f
 
@@ -67,7 +67,7 @@ returns-2 c =
     let s = at-put-main .before .before .before .before .before .before .before .before .before .before .before .before in
     let set = setting (s .args .g) (now (s .args .mask)) (now (s .args .fates)) in
     let k = copy (s .args .content .kind) (s .args .content .logical) (s .args .content .number) in
-    let source = dataSource (s .args .g) (s .args .content .old) (s .args .content .first) (s .args .content .count) (now (s .args .bytes)) in
+    let source = dataSource (s .args .g) (s .args .content .old) (s .args .content .form) (s .args .content .first) (s .args .content .count) (now (s .args .bytes)) in
     let d = at-put-main .put-main in
     let p = passed-by-tag _ (at-match .match .keys1) in
     page-programmed set (s .args .block) k (s .args .place) (source (s .args .place)) _ _ (d .result .outcome) (d .ensures .0) p _ (d .ensures .1 p) _ (at-program-page .program-page .result .outcome) (at-program-page .program-page .ensures .0) (at-program-page .program-page .ensures .1)

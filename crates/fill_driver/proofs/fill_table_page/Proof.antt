@@ -70,7 +70,7 @@ returns c =
     let set = setting g (now (s .args .mask)) (now (s .args .fates)) in
     let room = first-room g (s .pre .0 .is-valid) in
     let bytes = put-lent (g .main) (replicate 4096 0) room _ _ (at-build-first .build-first .kept .0) ∙ at-build-first .build-first .ensures ∙ ap (λ (k : ℕ). tablePage k (g .blocks) (g .logical) (now (s .args .invalid))) (lent-long (g .main) (replicate 4096 0) room) in
-    let source = table-source g 65535 (omega (arith, s .pre .0 .is-valid .blocks-most)) (now (s .args .invalid)) _ (lent-long (g .main) _ (put-fits (g .main) (replicate 4096 0) room (at-build-first .build-first .last .0) (drop (g .main - 0) (replicate 4096 0)) (at-build-first .build-first .kept .0))) bytes in
+    let source = table-source g 65535 0 (omega (arith, s .pre .0 .is-valid .blocks-most)) (now (s .args .invalid)) _ (lent-long (g .main) _ (put-fits (g .main) (replicate 4096 0) room (at-build-first .build-first .last .0) (drop (g .main - 0) (replicate 4096 0)) (at-build-first .build-first .kept .0))) bytes in
     comes-as (λ p. ap (λ (x : ℕ → Source). pageFilled set (s .args .block) (tableCopy (s .args .number)) (s .args .place) (x (s .args .place)) p) source) (at-fill-page .fill-page .ensures)
 
 pub fill-table-page-spec : {M : Type 1} → statement M

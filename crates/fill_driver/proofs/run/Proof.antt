@@ -71,9 +71,23 @@ loop-again c =
     let here = line (lp .bus) (lp .array) (lp .register) (lp .history) in
     (lp .inv .0, lp .inv .1, lp .inv .2, lp .inv .3, subst (λ (x : Running). Going set (now (s .args .bytes)) (s .args .most) (s .args .start) first (lp .left) x here) (sym (at-prepare .prepare .ensures)) (run-prepared set (now (s .args .bytes)) (s .args .most) (s .args .start) first (lp .left) r here (lp .inv .4) (sym (at-open .is-open .ensures) ∙ at-if1 .if1 .taken) (at-prepare .before .if2 .taken)))
 
+element-copy-out-form : tie.Need-element-copy-out-form Inv-loop μ-loop
+element-copy-out-form c =
+    let at-if1 = c .before in
+    let at-open = at-if1 .before in
+    let turn = at-open .before in
+    let s = turn .before .before .before .before .before .before .before .before .before .before in
+    let lp = turn .loop in
+    let set = setting (s .args .g) (now (s .args .mask)) (now (s .args .fates)) in
+    let first = line (s .args .from) (now (s .args .array)) (now (s .args .register)) (now (s .args .history)) in
+    let r = running (lp .cursor) (lp .state) in
+    let here = line (lp .bus) (lp .array) (lp .register) (lp .history) in
+    let a = is-open set (now (s .args .bytes)) (s .args .most) (s .args .start) first (lp .left) r here (lp .inv .4) (sym (at-open .is-open .ensures) ∙ at-if1 .if1 .taken) in
+    omega (arith, a .fits .logical-below, a .lent .is-valid .logical-most, a .lent .is-valid .blocks-most)
+
 perform-requires : tie.Need-perform-requires Inv-loop μ-loop
 perform-requires c κs =
-    let at-if2 = c .before .before .before .before .before .before in
+    let at-if2 = c .before .before .before .before .before .before .before in
     let at-if1 = at-if2 .before in
     let at-open = at-if1 .before in
     let turn = at-open .before in
@@ -91,14 +105,14 @@ programs-requires c κs = search needs
 
 sub-left : tie.Need-sub-left Inv-loop μ-loop
 sub-left c =
-    let at-if1 = c .before .before .before .before .before .before .before .before .before .before .before .before .before .before .before .before .before .before in
+    let at-if1 = c .before .before .before .before .before .before .before .before .before .before .before .before .before .before .before .before .before .before .before in
     let at-open = at-if1 .before in
     let lp = at-open .before .loop in
     omega (arith, c .programs .ensures, programs-most (lp .cursor) (lp .left) (sym (at-open .is-open .ensures) ∙ at-if1 .if1 .taken))
 
 after-requires : tie.Need-after-requires Inv-loop μ-loop
 after-requires c κs =
-    let at-if1 = c .before .before .before .before .before .before .before .before .before .before .before .before .before .before .before .before .before .before in
+    let at-if1 = c .before .before .before .before .before .before .before .before .before .before .before .before .before .before .before .before .before .before .before in
     let at-open = at-if1 .before in
     let turn = at-open .before in
     let s = turn .before .before .before .before .before .before .before .before .before .before in
@@ -112,7 +126,7 @@ after-requires c κs =
 
 settle-requires : tie.Need-settle-requires Inv-loop μ-loop
 settle-requires c κs =
-    let at-if2 = c .before .before .before .before .before .before .before .before .before .before .before .before .before .before .before .before .before .before .before in
+    let at-if2 = c .before .before .before .before .before .before .before .before .before .before .before .before .before .before .before .before .before .before .before .before in
     let at-if1 = at-if2 .before in
     let at-open = at-if1 .before in
     let turn = at-open .before in
@@ -131,7 +145,8 @@ loop-less-2 c =
     let at-after = c .before .before in
     let at-programs = at-after .before in
     let at-perform = at-programs .before .before .before .before .before .before .before .before .before .before in
-    let at-if2 = at-perform .before .before .before .before .before .before .before in
+    let at-form = at-perform .before .before .before .before .before .before .before in
+    let at-if2 = at-form .before in
     let at-if1 = at-if2 .before in
     let at-open = at-if1 .before in
     let turn = at-open .before in
@@ -142,7 +157,8 @@ loop-less-2 c =
     let r = running (lp .cursor) (lp .state) in
     let here = line (lp .bus) (lp .array) (lp .register) (lp .history) in
     let d = at-perform .perform in
-    run-less set (now (s .args .bytes)) (s .args .most) (s .args .start) first (lp .left) r here (lp .inv .4) (sym (at-open .is-open .ensures) ∙ at-if1 .if1 .taken) (at-if2 .if2 .left) _ (d .result .outcome) (d .ensures) _ (after-settled (s .args .g .pages) (lp .cursor) (lp .state) (d .result .outcome) (at-after .after .result) (at-after .after .ensures) (c .before .if3 .taken) _ (c .settle .ensures)) _ (at-programs .programs .ensures)
+    let due = d .ensures in
+    run-less set (now (s .args .bytes)) (s .args .most) (s .args .start) first (lp .left) r here (lp .inv .4) (sym (at-open .is-open .ensures) ∙ at-if1 .if1 .taken) (at-if2 .if2 .left) _ (d .result .outcome) due _ (after-settled (s .args .g .pages) (lp .cursor) (lp .state) (d .result .outcome) (at-after .after .result) (at-after .after .ensures) (c .before .if3 .taken) _ (c .settle .ensures)) _ (at-programs .programs .ensures)
 
 loop-again-2 : tie.Need-loop-again-2 Inv-loop μ-loop
 loop-again-2 c =
@@ -153,30 +169,8 @@ loop-again-2 c =
     let at-register = at-history .before .before in
     let at-array = at-register .before .before in
     let at-perform = at-array .before in
-    let at-if2 = at-perform .before .before .before .before .before .before .before in
-    let at-if1 = at-if2 .before in
-    let at-open = at-if1 .before in
-    let turn = at-open .before in
-    let s = turn .before .before .before .before .before .before .before .before .before .before in
-    let lp = turn .loop in
-    let set = setting (s .args .g) (now (s .args .mask)) (now (s .args .fates)) in
-    let first = line (s .args .from) (now (s .args .array)) (now (s .args .register)) (now (s .args .history)) in
-    let r = running (lp .cursor) (lp .state) in
-    let here = line (lp .bus) (lp .array) (lp .register) (lp .history) in
-    let d = at-perform .perform in (
-      at-array .array .given ∙ lp .inv .0,
-      at-register .register .given ∙ lp .inv .1,
-      at-history .history .given ∙ lp .inv .2,
-      at-page .page .given ∙ lp .inv .3,
-      run-goes set (now (s .args .bytes)) (s .args .most) (s .args .start) first (lp .left) r here (lp .inv .4) (sym (at-open .is-open .ensures) ∙ at-if1 .if1 .taken) (at-if2 .if2 .left) _ (d .result .outcome) (d .ensures) _ (after-settled (s .args .g .pages) (lp .cursor) (lp .state) (d .result .outcome) (at-after .after .result) (at-after .after .ensures) (c .before .if3 .taken) _ (c .settle .ensures)) _ (at-programs .programs .ensures),
-    )
-
-loop-less-3 : tie.Need-loop-less-3 Inv-loop μ-loop
-loop-less-3 c =
-    let at-after = c .before in
-    let at-programs = at-after .before in
-    let at-perform = at-programs .before .before .before .before .before .before .before .before .before .before in
-    let at-if2 = at-perform .before .before .before .before .before .before .before in
+    let at-form = at-perform .before .before .before .before .before .before .before in
+    let at-if2 = at-form .before in
     let at-if1 = at-if2 .before in
     let at-open = at-if1 .before in
     let turn = at-open .before in
@@ -187,7 +181,33 @@ loop-less-3 c =
     let r = running (lp .cursor) (lp .state) in
     let here = line (lp .bus) (lp .array) (lp .register) (lp .history) in
     let d = at-perform .perform in
-    run-less set (now (s .args .bytes)) (s .args .most) (s .args .start) first (lp .left) r here (lp .inv .4) (sym (at-open .is-open .ensures) ∙ at-if1 .if1 .taken) (at-if2 .if2 .left) _ (d .result .outcome) (d .ensures) _ (after-kept (s .args .g .pages) (lp .cursor) (lp .state) (d .result .outcome) (at-after .after .result) (at-after .after .ensures) (c .if3 .left)) _ (at-programs .programs .ensures)
+    let due = d .ensures in (
+      at-array .array .given ∙ lp .inv .0,
+      at-register .register .given ∙ lp .inv .1,
+      at-history .history .given ∙ lp .inv .2,
+      at-page .page .given ∙ lp .inv .3,
+      run-goes set (now (s .args .bytes)) (s .args .most) (s .args .start) first (lp .left) r here (lp .inv .4) (sym (at-open .is-open .ensures) ∙ at-if1 .if1 .taken) (at-if2 .if2 .left) _ (d .result .outcome) due _ (after-settled (s .args .g .pages) (lp .cursor) (lp .state) (d .result .outcome) (at-after .after .result) (at-after .after .ensures) (c .before .if3 .taken) _ (c .settle .ensures)) _ (at-programs .programs .ensures),
+    )
+
+loop-less-3 : tie.Need-loop-less-3 Inv-loop μ-loop
+loop-less-3 c =
+    let at-after = c .before in
+    let at-programs = at-after .before in
+    let at-perform = at-programs .before .before .before .before .before .before .before .before .before .before in
+    let at-form = at-perform .before .before .before .before .before .before .before in
+    let at-if2 = at-form .before in
+    let at-if1 = at-if2 .before in
+    let at-open = at-if1 .before in
+    let turn = at-open .before in
+    let s = turn .before .before .before .before .before .before .before .before .before .before in
+    let lp = turn .loop in
+    let set = setting (s .args .g) (now (s .args .mask)) (now (s .args .fates)) in
+    let first = line (s .args .from) (now (s .args .array)) (now (s .args .register)) (now (s .args .history)) in
+    let r = running (lp .cursor) (lp .state) in
+    let here = line (lp .bus) (lp .array) (lp .register) (lp .history) in
+    let d = at-perform .perform in
+    let due = d .ensures in
+    run-less set (now (s .args .bytes)) (s .args .most) (s .args .start) first (lp .left) r here (lp .inv .4) (sym (at-open .is-open .ensures) ∙ at-if1 .if1 .taken) (at-if2 .if2 .left) _ (d .result .outcome) due _ (after-kept (s .args .g .pages) (lp .cursor) (lp .state) (d .result .outcome) (at-after .after .result) (at-after .after .ensures) (c .if3 .left)) _ (at-programs .programs .ensures)
 
 loop-again-3 : tie.Need-loop-again-3 Inv-loop μ-loop
 loop-again-3 c =
@@ -198,7 +218,8 @@ loop-again-3 c =
     let at-register = at-history .before .before in
     let at-array = at-register .before .before in
     let at-perform = at-array .before in
-    let at-if2 = at-perform .before .before .before .before .before .before .before in
+    let at-form = at-perform .before .before .before .before .before .before .before in
+    let at-if2 = at-form .before in
     let at-if1 = at-if2 .before in
     let at-open = at-if1 .before in
     let turn = at-open .before in
@@ -208,12 +229,13 @@ loop-again-3 c =
     let first = line (s .args .from) (now (s .args .array)) (now (s .args .register)) (now (s .args .history)) in
     let r = running (lp .cursor) (lp .state) in
     let here = line (lp .bus) (lp .array) (lp .register) (lp .history) in
-    let d = at-perform .perform in (
+    let d = at-perform .perform in
+    let due = d .ensures in (
       at-array .array .given ∙ lp .inv .0,
       at-register .register .given ∙ lp .inv .1,
       at-history .history .given ∙ lp .inv .2,
       at-page .page .given ∙ lp .inv .3,
-      run-goes set (now (s .args .bytes)) (s .args .most) (s .args .start) first (lp .left) r here (lp .inv .4) (sym (at-open .is-open .ensures) ∙ at-if1 .if1 .taken) (at-if2 .if2 .left) _ (d .result .outcome) (d .ensures) _ (after-kept (s .args .g .pages) (lp .cursor) (lp .state) (d .result .outcome) (at-after .after .result) (at-after .after .ensures) (c .if3 .left)) _ (at-programs .programs .ensures),
+      run-goes set (now (s .args .bytes)) (s .args .most) (s .args .start) first (lp .left) r here (lp .inv .4) (sym (at-open .is-open .ensures) ∙ at-if1 .if1 .taken) (at-if2 .if2 .left) _ (d .result .outcome) due _ (after-kept (s .args .g .pages) (lp .cursor) (lp .state) (d .result .outcome) (at-after .after .result) (at-after .after .ensures) (c .if3 .left)) _ (at-programs .programs .ensures),
     )
 
 same-length : tie.Need-same-length Inv-loop μ-loop
@@ -250,6 +272,7 @@ run-spec =
     prepare-requires
     loop-less
     loop-again
+    element-copy-out-form
     perform-requires
     programs-requires
     sub-left

@@ -77,7 +77,7 @@ add-up-requires c κs =
     let at-survey = c .before .before .before .before .before .before .before .before .before .before .before .before .before .before in
     let read = at-survey .survey .ensures in
     let t = passed-by-tag _ (c .before .before .before .before .before .match .keys1) in
-    (read .ran .next t, (read .ran .left-most, (a .1, ((c .before .before .before .before .before .before .before .replaced2 .given, records-most (journalPages set d (s .args .state)) (room (s .args .g)) (at-survey .survey .result .records) (read .records-are t)), told-here (s .args .g) (s .args .state .map) (at-survey .survey .result .records) _ (read .ran .same-array) (read .bits-are t)))))
+    (read .ran .next t, (read .ran .left-most, (a .1, ((c .before .before .before .before .before .before .before .replaced2 .given, records-most (journalPages set d (s .args .state)) (room (s .args .g)) (at-survey .survey .result .records) (read .records-are t)), told-here (s .args .g) (s .args .state .map) (s .args .state .kinds) (at-survey .survey .result .records) _ (read .ran .same-array) (read .bits-are t)))))
 
 same-length-4 : tie.Need-same-length-4
 same-length-4 c = search needs

@@ -7,11 +7,14 @@ use Rattle.mount_judge.proofs.mounted_state.Tie as tie
 map-copies-requires : tie.Need-map-copies-requires
 map-copies-requires c κs = search needs
 
+list-kinds-requires : tie.Need-list-kinds-requires
+list-kinds-requires c κs = search needs
+
 mounted-above-requires : tie.Need-mounted-above-requires
 mounted-above-requires c κs = search needs
 
 returns : tie.Need-returns
-returns c = c .mounted-above .ensures ∙ rw (c .before .map-copies .ensures)
+returns c = c .mounted-above .ensures ∙ rw (c .before .list-kinds .ensures, c .before .before .before .before .map-copies .ensures)
 
 pub mounted-state-spec : {M : Type 1} → statement M
-mounted-state-spec = tie.close (tie.spec map-copies-requires mounted-above-requires returns)
+mounted-state-spec = tie.close (tie.spec map-copies-requires list-kinds-requires mounted-above-requires returns)

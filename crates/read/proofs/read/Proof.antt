@@ -1,4 +1,5 @@
 -- `read::read` meets its contract. Assumes nothing.
+use mathlib.Core.Path.{refl}
 use denote.Ref.{now}
 use Rattle.chip_array.specs.Device.{device, setting}
 use Rattle.read.proofs.EndLaws.{ends-refused, is-valid, in-map, not-refused, ends-empty, block-below, ends-read}
@@ -54,11 +55,19 @@ returns-2 c =
     let s = at-refusal .before .before .before .before .before .before .before in
     let set = setting (s .args .g) (now (s .args .mask)) (now (s .args .fates)) in
     let d = device (s .args .interface) (now (s .args .array)) (now (s .args .register)) (now (s .args .history)) in
-    ends-empty set d (s .args .allowed) (s .args .state) (s .args .logical) (s .args .page) (now (s .args .buffer)) (at-refusal .refusal .result) (at-refusal .refusal .ensures) (at-if1 .if1 .left) (at-wide .wide .result) (at-wide .wide .ensures) _ (at-if2 .if2 .taken) (c .unchanged2 .ensures _ _ _) (c .before .before .before .erase-whole .ensures)
+    ends-empty set d (s .args .allowed) (s .args .state) (s .args .logical) (s .args .page) (now (s .args .buffer)) (at-refusal .refusal .result) (at-refusal .refusal .ensures) (at-if1 .if1 .left) (at-wide .wide .result) _ (at-wide .wide .ensures) refl _ (at-if2 .if2 .taken) (c .unchanged2 .ensures _ _ _) (c .before .before .before .erase-whole .ensures)
+
+array-read-form : tie.Need-array-read-form
+array-read-form c =
+    let at-if1 = c .before .before .before .before in
+    let s = at-if1 .before .before .before .before .before .before .before .before in
+    let set = setting (s .args .g) (now (s .args .mask)) (now (s .args .fates)) in
+    let d = device (s .args .interface) (now (s .args .array)) (now (s .args .register)) (now (s .args .history)) in
+    in-map set d (s .args .allowed) (s .args .state) (s .args .logical) (s .args .page) (now (s .args .buffer)) (at-if1 .before .refusal .result) (at-if1 .before .refusal .ensures) (at-if1 .if1 .left)
 
 read-block-requires : tie.Need-read-block-requires
 read-block-requires c κs =
-    let at-if2 = c .before .before .before .before in
+    let at-if2 = c .before .before .before .before .before in
     let at-wide = at-if2 .before in
     let at-if1 = at-wide .before .before in
     let at-refusal = at-if1 .before in
@@ -66,7 +75,7 @@ read-block-requires c κs =
     let set = setting (s .args .g) (now (s .args .mask)) (now (s .args .fates)) in
     let d = device (s .args .interface) (now (s .args .array)) (now (s .args .register)) (now (s .args .history)) in
     let w = at-wide .wide in
-    (is-valid set d (s .args .allowed) (s .args .state) (s .args .logical) (s .args .page) (now (s .args .buffer)) (at-refusal .refusal .result) (at-refusal .refusal .ensures) (at-if1 .if1 .left), (block-below set d (s .args .allowed) (s .args .state) (s .args .logical) (s .args .page) (now (s .args .buffer)) (at-refusal .refusal .result) (at-refusal .refusal .ensures) (at-if1 .if1 .left) (w .result) (w .ensures) (at-if2 .if2 .left), (not-refused set d (s .args .allowed) (s .args .state) (s .args .logical) (s .args .page) (now (s .args .buffer)) (at-refusal .refusal .result) (at-refusal .refusal .ensures) (at-if1 .if1 .left) .page-below, not-refused set d (s .args .allowed) (s .args .state) (s .args .logical) (s .args .page) (now (s .args .buffer)) (at-refusal .refusal .result) (at-refusal .refusal .ensures) (at-if1 .if1 .left) .buffer-long)))
+    (is-valid set d (s .args .allowed) (s .args .state) (s .args .logical) (s .args .page) (now (s .args .buffer)) (at-refusal .refusal .result) (at-refusal .refusal .ensures) (at-if1 .if1 .left), (block-below set d (s .args .allowed) (s .args .state) (s .args .logical) (s .args .page) (now (s .args .buffer)) (at-refusal .refusal .result) (at-refusal .refusal .ensures) (at-if1 .if1 .left) (w .result) _ (w .ensures) refl (at-if2 .if2 .left), (not-refused set d (s .args .allowed) (s .args .state) (s .args .logical) (s .args .page) (now (s .args .buffer)) (at-refusal .refusal .result) (at-refusal .refusal .ensures) (at-if1 .if1 .left) .page-below, not-refused set d (s .args .allowed) (s .args .state) (s .args .logical) (s .args .page) (now (s .args .buffer)) (at-refusal .refusal .result) (at-refusal .refusal .ensures) (at-if1 .if1 .left) .buffer-long)))
 
 same-length-2 : tie.Need-same-length-2
 same-length-2 c = search needs
@@ -83,14 +92,14 @@ same-length-5 c = search needs
 returns-3 : tie.Need-returns-3
 returns-3 c =
     let at-read-block = c .before .before .before .before .before .before .before .before in
-    let at-if2 = at-read-block .before .before .before .before .before in
+    let at-if2 = at-read-block .before .before .before .before .before .before in
     let at-wide = at-if2 .before in
     let at-if1 = at-wide .before .before in
     let at-refusal = at-if1 .before in
     let s = at-refusal .before .before .before .before .before .before .before in
     let set = setting (s .args .g) (now (s .args .mask)) (now (s .args .fates)) in
     let d = device (s .args .interface) (now (s .args .array)) (now (s .args .register)) (now (s .args .history)) in
-    ends-read set d (s .args .allowed) (s .args .state) (s .args .logical) (s .args .page) (now (s .args .buffer)) (at-refusal .refusal .result) (at-refusal .refusal .ensures) (at-if1 .if1 .left) (at-wide .wide .result) (at-wide .wide .ensures) (at-if2 .if2 .left) (at-read-block .read-block .ensures)
+    ends-read set d (s .args .allowed) (s .args .state) (s .args .logical) (s .args .page) (now (s .args .buffer)) (at-refusal .refusal .result) (at-refusal .refusal .ensures) (at-if1 .if1 .left) (at-wide .wide .result) _ (at-wide .wide .ensures) refl (at-if2 .if2 .left) (at-read-block .read-block .ensures)
 
 pub read-spec : {M : Type 1} → statement M
 read-spec =
@@ -106,6 +115,7 @@ read-spec =
     unchanged-requires-2
     same-length
     returns-2
+    array-read-form
     read-block-requires
     same-length-2
     same-length-3

@@ -26,7 +26,9 @@ part-bytes-end : tie.Need-part-bytes-end
 part-bytes-end c = search needs
 
 fetch-requires : tie.Need-fetch-requires
-fetch-requires c κs = search needs
+fetch-requires c κs =
+    let s = c .before .before .before .before .before .before .before .before .before .before .before .before .before in
+    (s .pre .0, (s .pre .1 .1 .0, (search needs, s .pre .1 .1 .1)))
 
 enum-told : tie.Need-enum-told
 enum-told c = search needs
@@ -46,7 +48,7 @@ end-requires c κs =
     let s = at-row-of .before .before .before .before .before .before .before in
     let set = setting (s .args .g) (now (s .args .mask)) (now (s .args .fates)) in
     let d = device (s .args .interface) (now (s .args .array)) (now (s .args .register)) (now (s .args .history)) in
-    left-most set d (s .args .allowed) (s .args .state) (s .args .block) (s .args .page) (now (s .args .buffer)) _ _ (at-fetch .fetch .result .outcome) (at-row-of .row-of .result) _ (ap (λ (x : Bus). line x (now (s .args .array)) (now (s .args .register)) (now (s .args .history))) (at-begin .begin .ensures)) (at-row-of .row-of .ensures) (at-fetch .fetch .ensures .0) (at-fetch .fetch .ensures .1 .0) (at-fetch .fetch .ensures .1 .1)
+    left-most set d (s .args .allowed) (s .args .state) (s .args .block) (s .args .form) (s .args .page) (now (s .args .buffer)) _ _ (at-fetch .fetch .result .outcome) (at-row-of .row-of .result) _ (ap (λ (x : Bus). line x (now (s .args .array)) (now (s .args .register)) (now (s .args .history))) (at-begin .begin .ensures)) (at-row-of .row-of .ensures) (at-fetch .fetch .ensures .0) (at-fetch .fetch .ensures .1 .0) (at-fetch .fetch .ensures .1 .1)
 
 same-length : tie.Need-same-length
 same-length c =
@@ -76,7 +78,7 @@ returns c =
     let set = setting (s .args .g) (now (s .args .mask)) (now (s .args .fates)) in
     let d = device (s .args .interface) (now (s .args .array)) (now (s .args .register)) (now (s .args .history)) in
     let t = other-by-tag (at-fetch .fetch .result .outcome) (c .before .before .before .match .keys2) in
-    ends-stopped set d (s .args .allowed) (s .args .state) (s .args .block) (s .args .page) (now (s .args .buffer)) _ _ (at-fetch .fetch .result .outcome) (at-row-of .row-of .result) _ (ap (λ (x : Bus). line x (now (s .args .array)) (now (s .args .register)) (now (s .args .history))) (at-begin .begin .ensures)) (at-row-of .row-of .ensures) (at-fetch .fetch .ensures .0) (at-fetch .fetch .ensures .1 .0) (at-fetch .fetch .ensures .1 .1) (c .before .before .stop-answer .result) (c .before .blank .result) t (c .before .before .stop-answer .ensures) (c .before .blank .ensures) (c .end .ensures _ _ _)
+    ends-stopped set d (s .args .allowed) (s .args .state) (s .args .block) (s .args .form) (s .args .page) (now (s .args .buffer)) _ _ (at-fetch .fetch .result .outcome) (at-row-of .row-of .result) _ (ap (λ (x : Bus). line x (now (s .args .array)) (now (s .args .register)) (now (s .args .history))) (at-begin .begin .ensures)) (at-row-of .row-of .ensures) (at-fetch .fetch .ensures .0) (at-fetch .fetch .ensures .1 .0) (at-fetch .fetch .ensures .1 .1) (c .before .before .stop-answer .result) (c .before .blank .result) t (c .before .before .stop-answer .ensures) (c .before .blank .ensures) (c .end .ensures _ _ _)
 
 end-requires-2 : tie.Need-end-requires-2
 end-requires-2 c κs =
@@ -87,7 +89,7 @@ end-requires-2 c κs =
     let s = at-row-of .before .before .before .before .before .before .before in
     let set = setting (s .args .g) (now (s .args .mask)) (now (s .args .fates)) in
     let d = device (s .args .interface) (now (s .args .array)) (now (s .args .register)) (now (s .args .history)) in
-    left-most set d (s .args .allowed) (s .args .state) (s .args .block) (s .args .page) (now (s .args .buffer)) _ _ (at-fetch .fetch .result .outcome) (at-row-of .row-of .result) _ (ap (λ (x : Bus). line x (now (s .args .array)) (now (s .args .register)) (now (s .args .history))) (at-begin .begin .ensures)) (at-row-of .row-of .ensures) (at-fetch .fetch .ensures .0) (at-fetch .fetch .ensures .1 .0) (at-fetch .fetch .ensures .1 .1)
+    left-most set d (s .args .allowed) (s .args .state) (s .args .block) (s .args .form) (s .args .page) (now (s .args .buffer)) _ _ (at-fetch .fetch .result .outcome) (at-row-of .row-of .result) _ (ap (λ (x : Bus). line x (now (s .args .array)) (now (s .args .register)) (now (s .args .history))) (at-begin .begin .ensures)) (at-row-of .row-of .ensures) (at-fetch .fetch .ensures .0) (at-fetch .fetch .ensures .1 .0) (at-fetch .fetch .ensures .1 .1)
 
 same-length-5 : tie.Need-same-length-5
 same-length-5 c =
@@ -117,7 +119,7 @@ returns-2 c =
     let set = setting (s .args .g) (now (s .args .mask)) (now (s .args .fates)) in
     let d = device (s .args .interface) (now (s .args .array)) (now (s .args .register)) (now (s .args .history)) in
     let t = passed-by-tag (at-fetch .fetch .result .outcome) (c .before .before .match .keys1) in
-    ends-passed set d (s .args .allowed) (s .args .state) (s .args .block) (s .args .page) (now (s .args .buffer)) _ _ (at-fetch .fetch .result .outcome) (at-row-of .row-of .result) _ (ap (λ (x : Bus). line x (now (s .args .array)) (now (s .args .register)) (now (s .args .history))) (at-begin .begin .ensures)) (at-row-of .row-of .ensures) (at-fetch .fetch .ensures .0) (at-fetch .fetch .ensures .1 .0) (at-fetch .fetch .ensures .1 .1) t (c .end2 .ensures _ _ _)
+    ends-passed set d (s .args .allowed) (s .args .state) (s .args .block) (s .args .form) (s .args .page) (now (s .args .buffer)) _ _ (at-fetch .fetch .result .outcome) (at-row-of .row-of .result) _ (ap (λ (x : Bus). line x (now (s .args .array)) (now (s .args .register)) (now (s .args .history))) (at-begin .begin .ensures)) (at-row-of .row-of .ensures) (at-fetch .fetch .ensures .0) (at-fetch .fetch .ensures .1 .0) (at-fetch .fetch .ensures .1 .1) t (c .end2 .ensures _ _ _)
 
 pub read-block-spec : {M : Type 1} → statement M
 read-block-spec =

@@ -18,7 +18,7 @@ set-bit-requires c κs = let h : byteOf (c .before .before .args .block) < 512 =
 -- the state with these bits of invalid blocks
 abbrev with-bits : State → List ℕ → State
 with-bits s bits =
-    record { status = s .status; table = s .table; last = s .last; number = s .number; marked = s .marked; invalid = bits; map = s .map }
+    record { status = s .status; table = s .table; last = s .last; number = s .number; marked = s .marked; invalid = bits; map = s .map; kinds = s .kinds }
 
 returns : tie.Need-returns
 returns c = ap (with-bits (c .before .before .before .before .args .self)) (c .before .set-bit .ensures)
