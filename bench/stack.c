@@ -137,7 +137,7 @@ int main(void) {
     call.fates_len = 3;
     differs |= measure("append to a journal, an erase fails", append, 2 * (MAIN + 10) + 605);
     call.fates_len = 0;
-    differs |= measure("takings", takings, 3 * (MAIN + 10) + 2 * 16);
+    differs |= measure("takings", takings, 3 * (MAIN + 10) + 2 * 19);
     printf("\n| Kept by the caller | Bytes |\n|---|---|\n");
     print_row_of("state", sizeof store.state);
     printf(" |\n");

@@ -22,7 +22,7 @@
  *                    (docs/FORMAT.md): look at pages by a read, not in the array
  *
  * Stack that a call takes, measured as docs/BENCHMARKS.md says: format under 165,000 bytes, mount and quick mount under 85,000,
- * read under 86,000, write under 145,000, erase under 135,000, append under 185,000, takings under 90,000, identify under 30,000, the
+ * read under 90,000, write under 145,000, erase under 135,000, append under 185,000, takings under 90,000, identify under 30,000, the
  * dearest write under 1,000. No call takes memory from a heap, and the library keeps nothing between calls.
  */
 #ifndef FLASH_STORE_H
