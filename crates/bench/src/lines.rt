@@ -6,7 +6,7 @@ ghost use Rattle.line_input.specs.Fields.{field_at};
 use bench_requests::Request;
 use line_input::{Ending, Field};
 
-#[derive(Drop)]
+#[derive(Clone, Copy)]
 pub enum Line {
     Request(Request),
     Malformed,

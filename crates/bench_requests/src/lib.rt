@@ -1,4 +1,5 @@
 // The bench's requests on the small chip, and the figures that it prints of each.
+#![tactic(auto)]
 ghost use Rattle.std.specs.Prelude.{◌≡◌};
 ghost use Rattle.bench_requests.specs.Requests.{performed, figures_of};
 ghost use Rattle.bench_requests.specs.declared.Request.TheVariants.{Read};
@@ -6,7 +7,7 @@ ghost use Rattle.bench_requests.specs.declared.Request.TheVariants.{Read};
 use demo_store::{Ended, Store, UNCUT};
 use libc::STDOUT_FILENO;
 
-#[derive(Drop)]
+#[derive(Clone, Copy)]
 pub enum Request {
     Format,
     // Logical block, page, and the byte that fills the page.
@@ -18,7 +19,7 @@ pub enum Request {
 }
 
 // Answer, cycles sent, and the valid unmarked blocks that hold nothing current.
-#[derive(Drop)]
+#[derive(Clone, Copy)]
 pub struct Figures {
     pub answer: usize,
     pub sent: usize,

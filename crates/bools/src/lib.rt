@@ -1,1 +1,2 @@
 // Laws of tests on truth values, which every layer uses. No code.
+#![tactic(auto)]

@@ -1,4 +1,5 @@
 // The bus of one call: the chip's interface, and how many cycles are left before the call is cut.
+#![tactic(auto)]
 ghost use Rattle.std.specs.Prelude.{◌≡◌, List, ℕ, ◌<◌};
 ghost use Rattle.chip_array.specs.Device.{Setting, setting};
 ghost use Rattle.chip.specs.Chip.{Cycle};
@@ -7,7 +8,7 @@ ghost use Rattle.bus.specs.Line.{line, goes_on, may_go, spent_bus, blocked_bus, 
 use chip_interface::Interface;
 use geometry::Geometry;
 
-#[derive(Drop)]
+#[derive(Clone, Copy)]
 pub struct Bus {
     pub interface: Interface,
     // Cycles left before the cut.
@@ -17,7 +18,7 @@ pub struct Bus {
 }
 
 // The bus after an output cycle, and the byte put out.
-#[derive(Drop)]
+#[derive(Clone, Copy)]
 pub struct Out {
     pub bus: Bus,
     pub byte: u8,

@@ -1,4 +1,5 @@
 // Status reads until the chip is ready, and how an operation ended.
+#![tactic(auto)]
 ghost use Rattle.std.specs.Prelude.{true, cond, ◌≡◌, List, eqb, ℕ};
 ghost use Rattle.chip_array.specs.Device.{setting};
 ghost use Rattle.bus.specs.Line.{line};
@@ -10,7 +11,7 @@ use geometry::Geometry;
 
 // How an operation ended. `Illegal` stands for a cycle that the chip did not allow; the store sends none. `Protected` is a program
 // or an erase that the chip answered with its write-protect line low.
-#[derive(Drop)]
+#[derive(Clone, Copy)]
 pub enum Outcome {
     Passed,
     Failed,
@@ -21,14 +22,14 @@ pub enum Outcome {
 }
 
 // The bus after an operation, and how it ended.
-#[derive(Drop)]
+#[derive(Clone, Copy)]
 pub struct Done {
     pub bus: Bus,
     pub outcome: Outcome,
 }
 
 // The bus after status reads, how the operation ended, and the status byte that reported ready: 0 where none did.
-#[derive(Drop)]
+#[derive(Clone, Copy)]
 pub struct Polled {
     pub bus: Bus,
     pub outcome: Outcome,

@@ -1,11 +1,12 @@
 // The cycles of an operation one by one, as a logic analyser shows them: the i-th cycle of a reset, a status read, a read, a
 // program and an erase, from the numbers that tell the operation.
+#![tactic(auto)]
 ghost use Rattle.std.specs.Prelude.{◌≡◌};
 ghost use Rattle.bus_sequences.specs.Cycles.{reset_cycles, status_cycles, address_cycles, row_cycles};
 ghost use Rattle.capture.specs.Capture.{cycle_at, polled_cycles, output_cycles, fetch_capture, read_capture, program_capture, erase_capture};
 
 // One cycle of the bus. The byte of a data output cycle and of a status read is the chip's.
-#[derive(Drop)]
+#[derive(Clone, Copy)]
 pub enum Captured {
     Command(u8),
     Address(u8),

@@ -1,5 +1,6 @@
 // The chip's bus cycles: command, address, data in, data out and status. A cycle that the data sheet does not allow in the
 // present state is answered illegal and changes nothing else.
+#![tactic(auto)]
 ghost use Rattle.std.specs.Prelude.{◌≡◌, cond, List, ℕ, ◌<◌, ltb, length, get_or};
 ghost use Rattle.geometry.specs.Sizes.{block_size, row_count};
 ghost use Rattle.chip_array.specs.Device.{device, setting, fitting, Fitting, row_at};
@@ -10,7 +11,7 @@ use chip_interface::Interface;
 use geometry::Geometry;
 
 // The interface after an output cycle, and the byte put out.
-#[derive(Drop)]
+#[derive(Clone, Copy)]
 pub struct Shown {
     pub interface: Interface,
     pub byte: u8,

@@ -1,11 +1,12 @@
 // The state of the chip's command interface between two bus cycles, and the cycles that change nothing else.
+#![tactic(auto)]
 ghost use Rattle.std.specs.Prelude.{◌≡◌, ◌%◌, ◌<◌};
 ghost use Rattle.chip_interface.specs.Interface.{powered_on, refused, in_phase, after_reset, begun, output_resumed, status_mode, read_mode, plain_command, more_address, full_address, latched, addressed, shifted, row_of_address, failed_of, started, unstarted, fate_word, next_fate, address_fits, protected_byte, status_byte, parameters_started, parameter_addressed};
 
 use geometry::Geometry;
 
 // All fields are numbers of one width: a struct with gaps costs a store for each cycle.
-#[derive(Drop)]
+#[derive(Clone, Copy)]
 pub struct Interface {
     // What the chip expects next: one of the phases below.
     pub phase: usize,

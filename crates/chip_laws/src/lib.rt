@@ -1,1 +1,2 @@
 // Laws of single bus cycles and of runs of cycles: lengths kept, replay, what is refused. No code.
+#![tactic(auto)]

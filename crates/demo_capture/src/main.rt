@@ -1,5 +1,6 @@
 // Captures of three requests on the small chip, cycle by cycle, as a logic analyser shows them: a formatting of a new chip,
 // a write, and a mount.
+#![tactic(auto)]
 mod print;
 mod recover;
 mod runs;
@@ -10,7 +11,7 @@ use recover::Operation;
 use runs::Call;
 
 // An operation of a request, and the cycles sent before it.
-#[derive(Drop)]
+#[derive(Clone, Copy)]
 struct Begun {
     operation: Operation,
     from: usize,

@@ -3,7 +3,7 @@ use crate::runs;
 use crate::runs::{Call, Chip};
 use capture::Captured;
 
-#[derive(Drop)]
+#[derive(Clone, Copy)]
 pub enum Kind {
     Reset,
     Status,
@@ -13,7 +13,7 @@ pub enum Kind {
     Unknown,
 }
 
-#[derive(Drop)]
+#[derive(Clone, Copy)]
 pub struct Operation {
     pub kind: Kind,
     pub row: usize,

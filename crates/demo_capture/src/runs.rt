@@ -3,7 +3,7 @@ use chip_interface::Interface;
 use demo_store::{Ended, Store, UNCUT};
 use geometry::Geometry;
 
-#[derive(Drop)]
+#[derive(Clone, Copy)]
 pub enum Call {
     // Of a new chip.
     Format,
@@ -12,7 +12,7 @@ pub enum Call {
     Mount,
 }
 
-#[derive(Drop)]
+#[derive(Clone, Copy)]
 pub struct Chip {
     pub geometry: Geometry,
     pub interface: Interface,

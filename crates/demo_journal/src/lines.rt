@@ -7,13 +7,13 @@ use journal::Sale;
 use line_input::{Ending, Field};
 
 // What a line asks for.
-#[derive(Drop)]
+#[derive(Clone, Copy)]
 pub enum Entry {
     Sold(Sale),
     Malformed,
 }
 
-#[derive(Drop)]
+#[derive(Clone, Copy)]
 pub enum Line {
     Entry(Entry),
     // It did not end in the bytes for it, so that its rest cannot be told from a line.

@@ -1,4 +1,5 @@
 // A driver's day: sales and corrections from standard input go to the journal on the small chip, and a line is printed for each.
+#![tactic(auto)]
 mod lines;
 mod sales;
 

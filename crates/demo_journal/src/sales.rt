@@ -7,21 +7,21 @@ use demo_store::{Ended, Store, UNCUT};
 use journal::Sale;
 
 // How an append ended, and the number that the record got, 0 unless it is answered 0.
-#[derive(Drop)]
+#[derive(Clone, Copy)]
 pub struct Appended {
     pub ended: Ended,
     pub number: usize,
 }
 
 // How a request for the takings ended, and the sum in cents, 0 unless it is answered 0.
-#[derive(Drop)]
+#[derive(Clone, Copy)]
 pub struct Told {
     pub ended: Ended,
     pub takings: u64,
 }
 
 // What is printed of a line: answer and number of its append, and the takings told after it.
-#[derive(Drop)]
+#[derive(Clone, Copy)]
 pub struct Figures {
     pub answer: usize,
     pub number: usize,
@@ -29,7 +29,7 @@ pub struct Figures {
 }
 
 // A line that was served, and the store that it left.
-#[derive(Drop)]
+#[derive(Clone, Copy)]
 pub struct Served {
     pub figures: Figures,
     pub store: Store,

@@ -5,7 +5,7 @@ ghost use Rattle.line_input.specs.Fields.{field_at};
 
 use line_input::{Ending, Field};
 
-#[derive(Drop)]
+#[derive(Clone, Copy)]
 pub enum Line {
     // Seed and count.
     Load(u32, u32),

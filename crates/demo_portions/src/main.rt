@@ -1,5 +1,6 @@
 // A write in portions of one page: the cycles of each, what a display reads between them, and what a mount finds where an advance is cut at any
 // of its cycles, with several masks.
+#![tactic(auto)]
 use demo_store::{Store, UNCUT};
 use libc::STDOUT_FILENO;
 use open_write::OpenWrite;
@@ -14,7 +15,7 @@ const NEW: u8 = 0x5a;
 const FAILS: u32 = 65536;
 
 // The small chip with the store on it, and the write that is open.
-#[derive(Drop)]
+#[derive(Clone, Copy)]
 struct Portioned {
     store: Store,
     write: OpenWrite,
@@ -22,7 +23,7 @@ struct Portioned {
 }
 
 // How an opening or an advance ended.
-#[derive(Drop)]
+#[derive(Clone, Copy)]
 struct Stepped {
     answer: usize,
     sent: usize,

@@ -1,4 +1,5 @@
 // Holds lists of sales against each other: a word for each case, then the answer, the three totals and the difference with its sign.
+#![tactic(auto)]
 mod long;
 
 ghost use Rattle.std.specs.Prelude.{◌≡◌, nat_abs};

@@ -1,4 +1,5 @@
 // The small chip of the requirement paper with the store on it, by value: the requests as programs here make them.
+#![tactic(auto)]
 ghost use Rattle.std.specs.Prelude.{◌≡◌, replicate};
 ghost use Rattle.chip_array.specs.Device.{device, setting};
 ghost use Rattle.request.specs.Call.{result_with};
@@ -20,7 +21,7 @@ use state::State;
 pub const UNCUT: u32 = 4294967295;
 
 // What stays from call to call: the geometry, the state and the chip.
-#[derive(Drop)]
+#[derive(Clone, Copy)]
 pub struct Store {
     pub geometry: Geometry,
     pub state: State,
@@ -31,7 +32,7 @@ pub struct Store {
 }
 
 // How a request ended, and the store that it left.
-#[derive(Drop)]
+#[derive(Clone, Copy)]
 pub struct Ended {
     pub answer: usize,
     pub sent: usize,
@@ -39,7 +40,7 @@ pub struct Ended {
 }
 
 // How a read ended, and its page buffer, 0 at first.
-#[derive(Drop)]
+#[derive(Clone, Copy)]
 pub struct ReadEnded {
     pub ended: Ended,
     pub page: [u8; 32],

@@ -18,7 +18,7 @@ const OLDER: u8 = 0x11;
 const FULL: u32 = 363;
 
 // What came back, and what the block being filled holds.
-#[derive(Drop)]
+#[derive(Clone, Copy)]
 struct Seen {
     // 0 every page as before, 1 the written page new and the others as before, 2 anything else.
     reading: usize,

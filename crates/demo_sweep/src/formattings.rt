@@ -26,7 +26,7 @@ const LISTED: usize = 18;
 const FAILS: u32 = 65536;
 
 // A chip of six blocks, and the state of the store on it.
-#[derive(Drop)]
+#[derive(Clone, Copy)]
 struct Chip {
     state: State,
     interface: Interface,
@@ -36,7 +36,7 @@ struct Chip {
 }
 
 // How a call ended, and the chip that it left.
-#[derive(Drop)]
+#[derive(Clone, Copy)]
 struct Done {
     answer: usize,
     chip: Chip,
@@ -44,7 +44,7 @@ struct Done {
 
 // What a mount finds after the cut: the block of the current table and the bits of the blocks that it lists; how many pages of the old table's block and
 // of the new one's are programmed; 1 where an entry was lost.
-#[derive(Drop)]
+#[derive(Clone, Copy)]
 struct Seen {
     table: usize,
     list: usize,

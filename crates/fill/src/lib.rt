@@ -1,4 +1,5 @@
 // What a page of a fill is made of: its main bytes, and its program with label and check.
+#![tactic(auto)]
 ghost use Rattle.std.specs.Prelude.{true, ◌≡◌, ◌*◌, ◌<◌, length, take, replicate};
 ghost use Rattle.geometry.specs.Limits.{Valid};
 ghost use Rattle.geometry.specs.Sizes.{page_size, row_of};
@@ -18,7 +19,7 @@ use geometry::Geometry;
 
 // What a copy holds beside the bytes that are given: its label, the block of the old copy (none where it is not on the chip)
 // and its kind, and which pages are given, so many from the first on.
-#[derive(Drop)]
+#[derive(Clone, Copy)]
 pub struct Content {
     pub kind: u8,
     pub logical: usize,

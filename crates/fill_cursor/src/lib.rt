@@ -1,4 +1,5 @@
 // A write or erase on its way: a cursor over its fills, and what is due next. Nothing here touches a chip.
+#![tactic(auto)]
 ghost use Rattle.std.specs.Prelude.{◌≡◌, ◌<◌};
 ghost use Rattle.geometry.specs.Limits.{Valid};
 ghost use Rattle.fill_cursor.specs.Cursor.{moved, first_cursor, ended, filling, on_page, stopped, prepared, page_after, programs, is_open_now, filled_whole, unfilled, after_action, withdrawn, settled};
@@ -9,7 +10,7 @@ use state::State;
 use state_choose::Choice;
 
 // Where a request stands: which fill, and what is due in it.
-#[derive(Drop)]
+#[derive(Clone, Copy)]
 pub struct Cursor {
     // 0 fills a data copy, 1 a table, 2 has ended.
     pub phase: usize,
@@ -30,7 +31,7 @@ pub struct Cursor {
 }
 
 // A cursor with the state that goes with it.
-#[derive(Drop)]
+#[derive(Clone, Copy)]
 pub struct Running {
     pub cursor: Cursor,
     pub state: State,

@@ -1,4 +1,5 @@
 // One loop that performs what a cursor says is due, on the chip.
+#![tactic(auto)]
 ghost use Rattle.std.specs.Prelude.{◌≡◌, ◌*◌, ◌<◌, length};
 ghost use Rattle.geometry.specs.Sizes.{page_size};
 ghost use Rattle.chip_array.specs.Device.{setting};
@@ -155,7 +156,7 @@ fn perform(
 }
 
 // Where a request has come to.
-#[derive(Drop)]
+#[derive(Clone, Copy)]
 pub struct Ran {
     pub bus: Bus,
     pub cursor: Cursor,

@@ -1,1 +1,2 @@
 // Table fills, one after the other until one passes: definitions and laws. No code.
+#![tactic(auto)]

@@ -1,6 +1,7 @@
 // The library for programs in C: format, mount, quick mount, read, write and erase, on numbers and lent buffers; a write that is opened
 // and advanced; the journal of sales; the sizes that the chip tells; the dearest write; price rules; sales held against each other; the
 // draws of the test load.
+#![tactic(auto)]
 mod costs;
 mod ledger;
 mod load;

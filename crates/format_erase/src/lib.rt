@@ -1,4 +1,5 @@
 // The first round of erases: every unmarked block, blocks rising; a block whose erase failed is read.
+#![tactic(auto)]
 ghost use Rattle.std.specs.Prelude.{cond, true, eqb, ◌≡◌, ◌<◌, length};
 ghost use Rattle.geometry.specs.Sizes.{page_size};
 ghost use Rattle.chip_array.specs.Device.{setting};
@@ -14,7 +15,7 @@ use bus_polling::Outcome;
 use geometry::Geometry;
 
 // The greatest number on whole pages, and whether there is one: `any` is 1 then. Else both are 0.
-#[derive(Drop)]
+#[derive(Clone, Copy)]
 pub struct Numbers {
     pub any: usize,
     pub greatest: u64,
@@ -53,7 +54,7 @@ impl Numbers {
 
 // The bus after one block of the first round, how its last operation ended, 1 where the erase failed, and then the
 // numbers on what is left.
-#[derive(Drop)]
+#[derive(Clone, Copy)]
 struct BlockErased {
     bus: Bus,
     outcome: Outcome,
@@ -168,7 +169,7 @@ fn erase_block(
 
 // The bus after the first round, how its last operation ended, the blocks that failed, and the numbers on what is left of
 // them.
-#[derive(Drop)]
+#[derive(Clone, Copy)]
 pub struct Erased {
     pub bus: Bus,
     pub outcome: Outcome,

@@ -1,1 +1,2 @@
 // What an acknowledged formatting leaves, whatever the chip held, failed or cut before it. No code.
+#![tactic(auto)]

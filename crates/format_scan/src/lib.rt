@@ -1,4 +1,5 @@
 // The reading of a chip before a formatting: every page, as a mount reads it, and what the formatting takes over.
+#![tactic(auto)]
 ghost use Rattle.std.specs.Prelude.{◌≡◌, ◌<◌, ◌≤◌, length, replicate};
 ghost use Rattle.geometry.specs.Limits.{Valid};
 ghost use Rattle.geometry.specs.Sizes.{page_size};
@@ -16,7 +17,7 @@ use scan_summary::Depth;
 
 // Factory marks; the list of invalid blocks carried over, and the block of its table, FFFFh where none is; the greatest
 // number on a whole page, 0 if none is.
-#[derive(Drop)]
+#[derive(Clone, Copy)]
 pub struct Survey {
     pub marked: [u8; 512],
     pub carried: [u8; 512],
@@ -116,7 +117,7 @@ pub fn passed_over(survey: Survey, g: Geometry) -> [u8; 512]
 }
 
 // The bus after the reading, how its last read ended, and what is taken over if all passed.
-#[derive(Drop)]
+#[derive(Clone, Copy)]
 pub struct Surveyed {
     pub bus: Bus,
     pub outcome: Outcome,

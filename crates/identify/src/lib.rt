@@ -1,4 +1,5 @@
 // The call that lets the chip tell its size, before formatting or mounting.
+#![tactic(auto)]
 ghost use Rattle.std.specs.Prelude.{◌≡◌, ◌≤◌, true, length};
 ghost use Rattle.chip_array.specs.Device.{device, setting};
 ghost use Rattle.bus.specs.Line.{line};
@@ -14,7 +15,7 @@ use request::Returned;
 use state::State;
 
 // What the call hands back as every request does, and the sizes that the chip tells, four zeros unless the answer is 0.
-#[derive(Drop)]
+#[derive(Clone, Copy)]
 pub struct Identified {
     pub returned: Returned,
     pub sizes: Sizes,

@@ -1,4 +1,5 @@
 // The journal of sales, one record a page: its bytes, which records are in force, and the takings.
+#![tactic(auto)]
 ghost use Rattle.std.specs.Prelude.{◌≡◌, ◌+◌, ◌*◌, ◌≤◌, ◌<◌, length};
 ghost use Rattle.cells.specs.Part.{part};
 ghost use Rattle.pages.specs.Layout.{number_of};
@@ -17,7 +18,7 @@ const REST: usize = 11;
 
 // A sale as it is entered: what was sold, how many, the price of one in cents, and the number of an earlier record that it
 // replaces, or 0.
-#[derive(Drop)]
+#[derive(Clone, Copy)]
 pub struct Sale {
     pub selection: u8,
     pub count: u16,

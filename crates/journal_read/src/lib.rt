@@ -1,4 +1,5 @@
 // The journal read through the bus: to its end, and the amounts of the records in force.
+#![tactic(auto)]
 ghost use Rattle.std.specs.Prelude.{◌≡◌, ℕ, ◌+◌, ◌*◌, ◌≤◌, ◌<◌, length, replicate};
 ghost use Rattle.chip_array.specs.Device.{setting};
 ghost use Rattle.bus.specs.Line.{line};
@@ -84,7 +85,7 @@ fn read_part(
 }
 
 // The bus after reads, how the last ended, and how many records there are if all passed.
-#[derive(Drop)]
+#[derive(Clone, Copy)]
 pub struct End {
     pub bus: Bus,
     pub outcome: Outcome,
@@ -145,7 +146,7 @@ pub fn find_end(
 }
 
 // The bus after reads, how the last ended, and the sum if all passed.
-#[derive(Drop)]
+#[derive(Clone, Copy)]
 pub struct Sum {
     pub bus: Bus,
     pub outcome: Outcome,

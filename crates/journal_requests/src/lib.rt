@@ -1,4 +1,5 @@
 // The requests on the journal: a record appended, and the takings.
+#![tactic(auto)]
 ghost use Rattle.std.specs.Prelude.{true, List, ◌≡◌, ℕ, ◌≤◌, ◌<◌, length, replicate};
 ghost use Rattle.chip_array.specs.Device.{device, setting};
 ghost use Rattle.chip.specs.Chip.{Cycle};
@@ -31,14 +32,14 @@ const NO_ROOM: usize = 2;
 const NOT_IN_FORCE: usize = 16;
 
 // What an append hands back, and the number that the record got, 0 unless it is answered 0.
-#[derive(Drop)]
+#[derive(Clone, Copy)]
 pub struct Entered {
     pub returned: Returned,
     pub number: usize,
 }
 
 // What a request for the takings hands back, and the sum in cents, 0 unless it is answered 0.
-#[derive(Drop)]
+#[derive(Clone, Copy)]
 pub struct Total {
     pub returned: Returned,
     pub takings: u64,

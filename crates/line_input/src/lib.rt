@@ -1,4 +1,5 @@
 // Numbers in a line of input, and the lines of standard input.
+#![tactic(auto)]
 mod lines;
 
 ghost use Rattle.std.specs.Prelude.{◌≡◌, ◌≤◌};
@@ -6,7 +7,7 @@ ghost use Rattle.line_input.specs.Fields.{digit_value, appended, some_digit, num
 
 pub use lines::{Ending, LineRead, read_line};
 
-#[derive(Drop)]
+#[derive(Clone, Copy)]
 pub enum Field {
     // A number, and where it ends.
     Number(usize, usize),

@@ -6,7 +6,7 @@ ghost use Rattle.line_input.specs.Input.{byte_got, ending_by};
 use libc::STDIN_FILENO;
 
 // What a read of one byte gave.
-#[derive(Drop)]
+#[derive(Clone, Copy)]
 pub enum Input {
     Byte(u8),
     Newline,
@@ -15,7 +15,7 @@ pub enum Input {
 }
 
 // How a line ended.
-#[derive(Drop)]
+#[derive(Clone, Copy)]
 pub enum Ending {
     // With a newline, or with the input after one byte at least.
     Whole,
@@ -28,7 +28,7 @@ pub enum Ending {
 }
 
 // How a line ended, and its length, which counts only if it is whole.
-#[derive(Drop)]
+#[derive(Clone, Copy)]
 pub struct LineRead {
     pub ending: Ending,
     pub length: usize,

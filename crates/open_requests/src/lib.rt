@@ -1,4 +1,5 @@
 // The requests that open a write and go on with it.
+#![tactic(auto)]
 ghost use Rattle.std.specs.Prelude.{false, cond, List, ◌≡◌, ℕ, ◌≤◌, ◌<◌, eqb, length, take};
 ghost use Rattle.chip_array.specs.Device.{device, setting};
 ghost use Rattle.chip.specs.Chip.{Cycle};
@@ -28,14 +29,14 @@ use request::Returned;
 use state::State;
 
 // What an opening returns, and the write as it is kept.
-#[derive(Drop)]
+#[derive(Clone, Copy)]
 pub struct Opened {
     pub returned: Returned,
     pub write: OpenWrite,
 }
 
 // What an advance returns, the write as it is kept, and 1 if it is finished.
-#[derive(Drop)]
+#[derive(Clone, Copy)]
 pub struct Advanced {
     pub returned: Returned,
     pub write: OpenWrite,

@@ -1,4 +1,5 @@
 // A write that is open between calls: the words kept of it, where it stands, and its page.
+#![tactic(auto)]
 ghost use Rattle.std.specs.Prelude.{cond, ◌≡◌, ◌≤◌, eqb, length, replicate};
 ghost use Rattle.state.specs.declared.State.{State};
 ghost use Rattle.open_write.specs.Open.{open_state, cursor_of, words_of, no_write, kept_page, words_fit, open_fits};
@@ -11,7 +12,7 @@ use geometry::Geometry;
 pub const KEPT: usize = 4096;
 
 // The write that is open, as it is kept beside the state. Every value of every word has a meaning.
-#[derive(Drop)]
+#[derive(Clone, Copy)]
 pub struct OpenWrite {
     // 0 none is open, any other value one is.
     pub opened: usize,

@@ -1,4 +1,5 @@
 // The chip's operations as cycles on the bus: reset, status, read, program and erase.
+#![tactic(auto)]
 ghost use Rattle.std.specs.Prelude.{◌≡◌, length};
 ghost use Rattle.cells.specs.Cells.{over};
 ghost use Rattle.chip_array.specs.Device.{setting};
@@ -12,7 +13,7 @@ use bus_polling::{Done, Outcome};
 use geometry::Geometry;
 
 // The bus after a reset, how it ended, and the status byte read: 0 where it was not reached.
-#[derive(Drop)]
+#[derive(Clone, Copy)]
 pub struct ResetDone {
     pub bus: Bus,
     pub outcome: Outcome,

@@ -1,4 +1,5 @@
 // The parameter page of a chip (002, Table 13): its integrity CRC, which of its copies are good, and the sizes that they tell.
+#![tactic(auto)]
 ghost use Rattle.std.specs.Prelude.{◌≡◌, ◌+◌, ◌≤◌, ◌<◌, length, take, drop};
 ghost use Rattle.pages.specs.Layout.{number_of};
 ghost use Rattle.parameters.specs.Crc.{bit_into, byte_into, integrity};
@@ -7,7 +8,7 @@ ghost use Rattle.parameters.specs.Page.{signed, good, sizes_in, refused_with, ju
 use geometry::Geometry;
 
 // What a copy of the parameter page tells of one logical unit, in bytes, pages and blocks.
-#[derive(Drop)]
+#[derive(Clone, Copy)]
 pub struct Sizes {
     pub main: usize,
     pub spare: usize,
@@ -16,7 +17,7 @@ pub struct Sizes {
 }
 
 // The answer, and the sizes, four zeros if they are refused.
-#[derive(Drop)]
+#[derive(Clone, Copy)]
 pub struct Told {
     pub answer: usize,
     pub sizes: Sizes,

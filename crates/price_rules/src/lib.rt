@@ -1,17 +1,18 @@
 // Price rules: the check of a table, and the price of a selection.
+#![tactic(auto)]
 ghost use Rattle.std.specs.Prelude.{◌≡◌, length};
 ghost use Rattle.price_rules.specs.Rules.{selectable, within, wrong, fault_of, wrong_with, price_among};
 ghost use Rattle.price_rules.specs.Faults.{refusal_at, shaped, checking, pricing};
 
 // What the check of a table answers, and the smallest selection at fault, or 0.
-#[derive(Drop)]
+#[derive(Clone, Copy)]
 pub struct Checked {
     pub answer: usize,
     pub fault: usize,
 }
 
 // What a request for a price answers, and the price, or 0.
-#[derive(Drop)]
+#[derive(Clone, Copy)]
 pub struct Priced {
     pub answer: usize,
     pub price: u32,

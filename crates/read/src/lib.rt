@@ -1,4 +1,5 @@
 // The request that reads one logical page.
+#![tactic(auto)]
 ghost use Rattle.std.specs.Prelude.{◌≡◌};
 ghost use Rattle.chip_array.specs.Device.{device, setting};
 ghost use Rattle.request.specs.Call.{result_with};

@@ -1,4 +1,5 @@
 // The box's sales against the coin mechanism's: four totals in one pass over both lists.
+#![tactic(auto)]
 ghost use Rattle.std.specs.Prelude.{◌≡◌, true, cond, eqb, ◌+ℤ◌};
 ghost use Rattle.std.proofs.Math.IntN.{sub_ℕ};
 ghost use Rattle.std.specs.Int.{w64};
@@ -8,7 +9,7 @@ ghost use Rattle.reconcile.specs.Next.{number_at};
 ghost use Rattle.reconcile.specs.Totals.{totals, reconciled};
 
 // What both lists come to; the answer is 0, or 2 for a list that is refused, with four zeros.
-#[derive(Drop)]
+#[derive(Clone, Copy)]
 pub struct Reconciled {
     pub answer: usize,
     pub agreed: u64,

@@ -1,1 +1,2 @@
 // Laws of the confirm cycles that requests send. No function.
+#![tactic(auto)]

@@ -1,1 +1,2 @@
 // Formattings forget no entry of the table of invalid blocks: laws, no code.
+#![tactic(auto)]

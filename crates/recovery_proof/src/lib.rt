@@ -1,1 +1,2 @@
 // Laws of lists of calls. No function.
+#![tactic(auto)]

@@ -1,1 +1,2 @@
 // Laws of the requests that write and erase. No function.
+#![tactic(auto)]

@@ -1,4 +1,5 @@
 // What every request shares: the test of the sizes, the start of a call, and how it is answered.
+#![tactic(auto)]
 ghost use Rattle.std.specs.Prelude.{◌≡◌, ◌≤◌, List, ℕ};
 ghost use Rattle.chip_array.specs.Device.{device, setting};
 ghost use Rattle.bus.specs.Line.{line, new_bus};
@@ -16,7 +17,7 @@ const PROTECTED: usize = 13;
 
 // What a request hands back besides the lent memory: the answer by its number, the next state, the chip's interface, and
 // the cycles sent.
-#[derive(Drop)]
+#[derive(Clone, Copy)]
 pub struct Returned {
     pub answer: usize,
     pub state: State,
@@ -99,7 +100,7 @@ pub fn state_for(outcome: Outcome, state: State) -> State
 }
 
 // How a request that resets the chip has begun: the answer so far, 0 to go on, and the bus.
-#[derive(Drop)]
+#[derive(Clone, Copy)]
 pub struct Begun {
     pub answer: usize,
     pub bus: Bus,

@@ -1,4 +1,5 @@
 // The scan of the chip: every block read through the bus at one depth, and what was found.
+#![tactic(auto)]
 ghost use Rattle.std.specs.Prelude.{true, List, ◌≡◌, ◌<◌, ◌≤◌, length};
 ghost use Rattle.geometry.specs.Sizes.{page_size};
 ghost use Rattle.chip_array.specs.Device.{setting};
@@ -20,7 +21,7 @@ use scan_found::Found;
 use scan_summary::Depth;
 
 // The bus after a scan of the chip, how its last read ended, and what was found if all passed.
-#[derive(Drop)]
+#[derive(Clone, Copy)]
 pub struct ChipScanned {
     pub bus: Bus,
     pub outcome: Outcome,

@@ -1,4 +1,5 @@
 // The scan of a block: its pages read whole through the bus, in order, and what they tell; and the byte of a factory mark alone.
+#![tactic(auto)]
 ghost use Rattle.std.specs.Prelude.{true, cond, List, ◌≡◌, ◌+◌, ◌<◌, ◌≤◌, length};
 ghost use Rattle.geometry.specs.Sizes.{page_size};
 ghost use Rattle.chip_array.specs.Device.{setting};
@@ -24,7 +25,7 @@ use geometry::Geometry;
 use scan_summary::Summary;
 
 // The bus after a scan, how its last read ended, and what the pages told if all passed.
-#[derive(Drop)]
+#[derive(Clone, Copy)]
 pub struct Scanned {
     pub bus: Bus,
     pub outcome: Outcome,
@@ -130,7 +131,7 @@ pub fn scan_block(
 }
 
 // The bus after one mark byte was read, how the read ended, and the byte.
-#[derive(Drop)]
+#[derive(Clone, Copy)]
 pub struct Mark {
     pub bus: Bus,
     pub outcome: Outcome,

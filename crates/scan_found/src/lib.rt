@@ -1,4 +1,5 @@
 // What a scan of the chip found: marks, complete copies, the current table, the greatest number.
+#![tactic(auto)]
 pub mod contents;
 
 ghost use Rattle.std.specs.Prelude.{◌≡◌, ◌<◌};
@@ -7,7 +8,7 @@ ghost use Rattle.scan_found.specs.Found.{blank_found, mark_noted, is_greater, gr
 use scan_summary::Summary;
 
 // What the blocks scanned so far told, but for their copies.
-#[derive(Drop)]
+#[derive(Clone, Copy)]
 pub struct Found {
     // 1 if a page was whole; the greatest number on one, 0 if none was, and the lowest block that holds it.
     pub any: usize,

@@ -1,4 +1,5 @@
 // What the pages of a block tell, one after the other.
+#![tactic(auto)]
 ghost use Rattle.std.specs.Prelude.{◌≡◌, max};
 ghost use Rattle.pages.specs.Layout.{Sized, label, label_of};
 ghost use Rattle.copies.specs.Blocks.{agrees};
@@ -7,14 +8,14 @@ ghost use Rattle.scan_summary.specs.Summary.{blank_summary, marked_by, broken, w
 
 // How much of each block a scan reads: every page, or the first and the last page, the mark byte of page 1, and the other pages
 // where these two are whole.
-#[derive(Drop)]
+#[derive(Clone, Copy)]
 pub enum Depth {
     Full,
     Quick,
 }
 
 // What the pages of a block told so far. `marked` and `complete` are 1 or 0; kind, logical and number are those of page 0.
-#[derive(Drop)]
+#[derive(Clone, Copy)]
 pub struct Summary {
     pub marked: usize,
     pub complete: usize,

@@ -1,4 +1,5 @@
 // The mounted state.
+#![tactic(auto)]
 ghost use Rattle.std.specs.Prelude.{◌≡◌, ◌+◌, ◌-◌, ◌<◌, ◌≤◌, length, replicate};
 ghost use Rattle.bitmaps.specs.Bitmap.{with_bit};
 ghost use Rattle.state_choose.specs.Choose.{chosen};
@@ -10,7 +11,7 @@ use state_choose::Choice;
 const LAST_NUMBER: u64 = 18446744073709551615;
 
 // What a mount found and the fills since changed. It goes in by value and comes back.
-#[derive(Drop)]
+#[derive(Clone, Copy)]
 pub struct State {
     // 0 not mounted, 1 mounted, 2 stopped.
     pub status: usize,

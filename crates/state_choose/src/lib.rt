@@ -1,10 +1,11 @@
 // The choice of a block for the next fill, and the count of those that may be filled.
+#![tactic(auto)]
 ghost use Rattle.std.specs.Prelude.{◌≡◌, ◌*◌, ◌<◌, ◌≤◌, length};
 ghost use Rattle.bitmaps.specs.Bitmap.{byte_of};
 ghost use Rattle.state_choose.specs.Choose.{permitted, next_block, chosen, count_permitted};
 
 // A block to fill, or none ("worn").
-#[derive(Drop)]
+#[derive(Clone, Copy)]
 pub enum Choice {
     Block(usize),
     Worn,

@@ -1,10 +1,11 @@
 // A test load that can be repeated: draws from a 32-bit seed, and the requests that they make.
+#![tactic(auto)]
 ghost use Rattle.std.specs.Prelude.{◌≡◌, ◌<◌, true};
 ghost use Rattle.geometry.specs.Limits.{page_count};
 ghost use Rattle.test_load.specs.Draws.{drawn};
 ghost use Rattle.test_load.specs.Requests.{request_from};
 
-#[derive(Drop)]
+#[derive(Clone, Copy)]
 pub enum Request {
     // Logical block.
     Erase(usize),
@@ -15,7 +16,7 @@ pub enum Request {
 }
 
 // A request, and the draw that the next one follows.
-#[derive(Drop)]
+#[derive(Clone, Copy)]
 pub struct Chosen {
     pub request: Request,
     pub last: u32,

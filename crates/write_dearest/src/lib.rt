@@ -1,1 +1,2 @@
 // The write that sends the most cycles and is still acknowledged: laws.
+#![tactic(auto)]

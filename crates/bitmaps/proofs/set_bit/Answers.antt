@@ -1,0 +1,8 @@
+-- `bitmaps::set_bit` meets its contract. Assumes nothing.
+use Rattle.bitmaps.specs.Bitmap.{with_bit}
+use borrow.Author.Rules.{rules}
+use Rattle.bitmaps.proofs.set_bit.Goals as goal
+
+pub returns : goal.returns
+unfolding with_bit
+returns c = rw (c.byte_of-at.ensures, c.mask_of.ensures)

@@ -1,0 +1,14 @@
+-- `bitmaps::spread` meets its contract: the bits passed are written. Assumes nothing.
+use Prim.Native.Nat.{ℕ, ◌-◌, ◌≤◌}
+use mathlib.Core.Path.{◌≡◌, refl, ap, ◌∙◌}
+use native.Mathlib.Omega.{arith}
+use borrow.Author.Rules.{rules}
+use Rattle.bitmaps.specs.Bitmap.{spread_bits}
+use Rattle.bitmaps.proofs.ByteLaws.{spread_on}
+use Rattle.bitmaps.proofs.spread.Given as goal
+
+abbrev pub invariant-loop-place : goal.invariant-loop-place
+invariant-loop-place l = (l.place ≤ 8) × (l.flags ≡ spread_bits l.byte l.at l.place l.initial.flags)
+
+abbrev pub decreases-loop-place : goal.decreases-loop-place
+decreases-loop-place l = 8 - l.place

@@ -1,0 +1,11 @@
+-- `c_state::bits_at` meets its contract. Assumes nothing.
+use Prim.Native.Nat.{◌+◌, ◌-◌}
+use mathlib.Core.Path.{refl}
+use native.Mathlib.Omega.{arith}
+use Rattle.c_state.proofs.PieceLaws.{bits_read}
+use borrow.Author.Rules.{rules}
+use Rattle.c_state.proofs.bits_at.Goals as goal
+
+pub returns : goal.returns
+returns c =
+    bits_read c.args.at (c.args.at + 512 - c.args.at) c.args.bytes.now _ c.copy.new.1.0 (omega arith) c.requires refl c.copy.ensures

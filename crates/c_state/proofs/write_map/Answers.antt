@@ -1,0 +1,20 @@
+-- `c_state::write_map` meets its contract. Assumes nothing.
+use Prim.Native.Nat.{◌-◌}
+use borrow.Author.Rules.{rules}
+use native.Mathlib.Omega.{arith}
+use Rattle.c_state.proofs.PieceLaws.{Stored, stored-none, stored_more, stored-all}
+use Rattle.c_state.proofs.write_map.Goals as goal
+
+pub loop-l-init : goal.loop-l-init
+loop-l-init c = stored-none _ _
+
+pub loop-l-preserved : goal.loop-l-preserved
+loop-l-preserved c =
+    stored_more c.wide.result c.write_pair.new.0 c.loop-l.invariant c.loop-l-test.true c.requires.map_len (omega (arith, c.requires.bytes_len))
+    c.wide.ensures c.write_pair.auto.0 c.write_pair.ensures
+
+pub shape_of-bytes : goal.shape_of-bytes
+shape_of-bytes c = c.loop-l.invariant.same
+
+pub returns : goal.returns
+returns c = stored-all c.loop-l.invariant (omega arith) c.requires.map_len

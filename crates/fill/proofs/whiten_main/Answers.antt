@@ -1,0 +1,9 @@
+-- `fill::whiten_main` meets its contract. Assumes nothing.
+use native.Mathlib.Omega.{arith}
+use Rattle.fill.proofs.MainLaws.{put_white}
+use borrow.Author.Rules.{rules}
+use Rattle.fill.proofs.whiten_main.Goals as goal
+
+pub returns : goal.returns
+returns c =
+    put_white c.args.g.main c.args.page.now (omega (arith, c.requires.page_len)) _ _ c.whiten.auto.1.0 c.args.place c.whiten.ensures

@@ -1,0 +1,12 @@
+-- `fill_cursor::Cursor::is_open` meets its contract. Assumes nothing.
+use borrow.Author.Tests.{eq-eqb, ne_eqb}
+use Rattle.fill_cursor.specs.Cursor.{is_open_now}
+use Rattle.fill_cursor.proofs.Cursor.is_open.Goals as goal
+
+pub returns-then-left-eq0 : goal.returns-then-left-eq0
+unfolding is_open_now
+returns-then-left-eq0 c = search eq-eqb
+
+pub returns : goal.returns
+unfolding is_open_now
+returns c = search ne_eqb

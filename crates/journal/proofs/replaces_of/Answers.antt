@@ -1,0 +1,11 @@
+-- `journal::replaces_of` meets its contract. Assumes nothing.
+use native.Mathlib.Omega.{arith}
+use Rattle.pages.proofs.ByteLaws.{pair_lt}
+use Rattle.journal.specs.Records.{replaces_in}
+use borrow.Author.Rules.{rules}
+use Rattle.journal.proofs.replaces_of.Goals as goal
+
+pub returns : goal.returns
+unfolding replaces_in
+returns c =
+    (c.pair_at.ensures, rw c.pair_at.ensures (pair_lt 9 c.args.page.now c.requires (omega (arith, c.shared_slice_known-1.given 9)) (omega (arith, c.shared_slice_known-1.given 10))))

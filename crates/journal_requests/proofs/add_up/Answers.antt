@@ -1,0 +1,42 @@
+-- `journal_requests::add_up` meets its contract. Assumes nothing.
+use mathlib.Core.Path.{◌≡◌, sym}
+use native.Mathlib.Omega.{arith}
+use lib.ListN.{length}
+use Rattle.chip_array.specs.Device.{setting}
+use Rattle.bus.specs.Line.{line}
+use Rattle.bus_polling.proofs.OutcomeLaws.{passed_by_tag, other_by_tag}
+use Rattle.journal_read.specs.Reads.{pages_by}
+use Rattle.journal_requests.proofs.EndLaws.{mapped, sum_stopped, sum_told}
+use borrow.Author.Rules.{rules}
+use Rattle.journal_requests.proofs.add_up.Goals as goal
+
+map_long : (s : tie.Start) → length s.args.state.map ≡ 4096
+map_long s = search (rules, s.well-formed.0.1.1.1.1.1.1.1.1.0.1.0)
+
+kinds_long : (s : tie.Start) → length s.args.state.kinds ≡ 4096
+kinds_long s = search (rules, s.well-formed.0.1.1.1.1.1.1.1.1.1.0.1.0)
+
+pub slice_bounds-total-end : goal.slice_bounds-total-end
+slice_bounds-total-end c = sym (map_long c.before.before.before.before.before.before.before.before.before.before.before.before)
+
+pub slice_bounds-total-end-2 : goal.slice_bounds-total-end-2
+slice_bounds-total-end-2 c = sym (kinds_long c.before.before.before.before.before.before.before.before.before.before.before.before.before)
+
+pub total-sum-requires : goal.total-sum-requires
+total-sum-requires c = record { lent = c.requires.lent; mapped = mapped c.args.g c.args.state c.requires.lent.is_valid (map_long s) (kinds_long s) c.requires.logical_value; replaced_len = c.requires.replaced_len.0; records_bound = c.requires.replaced_len.1; told = c.requires.told }
+
+pub stop-requires : goal.stop-requires
+stop-requires c =
+    omega (arith, c.total-sum.ensures.ran.left_most, c.requires.left_le_allowed)
+
+pub returns-in_default : goal.returns-in_default
+returns-in_default c =
+    sum_stopped (setting c.args.g c.args.mask.now c.args.fates.now) c.args.state.map (pages_by c.args.g c.args.array.now c.args.state.map c.args.state.kinds) c.args.allowed c.args.state (line c.args.from c.args.array.now c.args.register.now c.args.history.now) _ _ c.args.records _ c.total-sum.ensures (other_by_tag _ c.in_default.in_default-own.keys2) (c.stop.ensures _ _ _)
+
+pub end-requires : goal.end-requires
+end-requires c =
+    omega (arith, c.total-sum.ensures.ran.left_most, c.requires.left_le_allowed)
+
+pub returns : goal.returns
+returns c =
+    sum_told (setting c.args.g c.args.mask.now c.args.fates.now) c.args.state.map (pages_by c.args.g c.args.array.now c.args.state.map c.args.state.kinds) c.args.allowed c.args.state (line c.args.from c.args.array.now c.args.register.now c.args.history.now) _ _ c.args.records _ c.total-sum.ensures (passed_by_tag _ c.in-Passed.in-Passed-own.keys1) (c.end.ensures _ _ _)

@@ -1,0 +1,41 @@
+-- `open_requests::refusal` meets its contract. Assumes nothing.
+use mathlib.Core.Path.{sym, ◌∙◌}
+use native.Mathlib.Omega.{arith}
+use borrow.Author.Tests.{not-true, not-false}
+use Rattle.request.proofs.CallLaws.{sizes}
+use Rattle.open_write.specs.Open.{open_state}
+use Rattle.open_requests.proofs.EndLaws.{refused_geometry, refused_unmounted, refused_outside, refused_barred, unrefused}
+use borrow.Author.Rules.{rules}
+use Rattle.open_requests.proofs.refusal.Goals as goal
+
+pub returns-then-not-is_sized : goal.returns-then-not-is_sized
+returns-then-not-is_sized c =
+    refused_geometry c.args.g _ (open_state c.args.state c.args.write c.args.kept.now) c.args.barred (sym c.is_sized.ensures ∙ not-true c.is_sized.result c.if-not-is_sized.true-raw)
+
+pub is_mounted-requires : goal.is_mounted-requires
+is_mounted-requires c =    let v = (sizes _ _ _ _ _ (sym c.is_sized.ensures ∙ not-false c.is_sized.result c.if-not-is_sized.false-raw)).chip_fits.is_valid in (omega (arith, v.blocks_most), omega (arith, v.blocks_most, v.logical_most))
+
+pub returns-then-not-is_mounted : goal.returns-then-not-is_mounted
+returns-then-not-is_mounted c =
+    let sized = sym c.is_sized.ensures ∙ not-false c.is_sized.result c.if-not-is_sized.false-raw in
+    refused_unmounted c.args.g _ (open_state c.args.state c.args.write c.args.kept.now) c.args.barred sized (sym c.is_mounted.ensures ∙ not-true c.is_mounted.result c.if-not-is_mounted.true-raw)
+
+pub returns-then-not-fits : goal.returns-then-not-fits
+returns-then-not-fits c =
+    let sized = sym c.is_sized.ensures ∙ not-false c.is_sized.result c.if-not-is_sized.false-raw in
+    let up = sym c.is_mounted.ensures ∙ not-false c.is_mounted.result c.if-not-is_mounted.false-raw in
+    refused_outside c.args.g _ (open_state c.args.state c.args.write c.args.kept.now) c.args.barred sized up (sym (c.fits2.ensures c.args.state) ∙ not-true c.fits2.result c.if-not-fits.true-raw)
+
+pub returns-then-barred : goal.returns-then-barred
+returns-then-barred c =
+    let sized = sym c.is_sized.ensures ∙ not-false c.is_sized.result c.if-not-is_sized.false-raw in
+    let up = sym c.is_mounted.ensures ∙ not-false c.is_mounted.result c.if-not-is_mounted.false-raw in
+    let inside = sym (c.fits2.ensures c.args.state) ∙ not-false c.fits2.result c.if-not-fits.false-raw in
+    refused_barred c.args.g _ (open_state c.args.state c.args.write c.args.kept.now) c.args.barred sized up inside c.if-barred.true
+
+pub returns : goal.returns
+returns c =
+    let sized = sym c.is_sized.ensures ∙ not-false c.is_sized.result c.if-not-is_sized.false-raw in
+    let up = sym c.is_mounted.ensures ∙ not-false c.is_mounted.result c.if-not-is_mounted.false-raw in
+    let inside = sym (c.fits2.ensures c.args.state) ∙ not-false c.fits2.result c.if-not-fits.false-raw in
+    unrefused c.args.g _ (open_state c.args.state c.args.write c.args.kept.now) c.args.barred sized up inside c.if-barred.false

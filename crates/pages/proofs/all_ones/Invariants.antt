@@ -1,0 +1,12 @@
+-- `pages::all_ones` meets its contract: at every turn the bytes passed are FFh. Assumes nothing.
+use Prim.Native.Nat.{◌-◌}
+use native.Mathlib.Omega.{arith}
+use lib.ListN.{length}
+use Rattle.pages.proofs.ByteLaws.{Passed, passed_none, passed_more, passed_not, passed_all}
+use Rattle.pages.proofs.all_ones.Given as goal
+
+abbrev pub invariant-loop-i : goal.invariant-loop-i
+invariant-loop-i l = Passed l.bytes l.i
+
+abbrev pub decreases-loop-i : goal.decreases-loop-i
+decreases-loop-i l = length l.bytes - l.i

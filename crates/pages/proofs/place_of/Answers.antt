@@ -1,0 +1,9 @@
+-- `pages::place_of` meets its contract. Assumes nothing.
+use lib.Seq.{get_or-drop}
+use Rattle.pages.specs.Layout.{label_of}
+use borrow.Author.Rules.{rules}
+use Rattle.pages.proofs.place_of.Goals as goal
+
+pub returns : goal.returns
+unfolding label_of
+returns c = rw (c.wide.ensures, get_or-drop)

@@ -1,0 +1,12 @@
+-- `pages::write_number` meets its contract. Assumes nothing.
+use Rattle.pages.proofs.ByteLaws.{number_written}
+use native.Mathlib.Omega.{arith}
+use borrow.Author.Rules.{rules}
+use Rattle.pages.proofs.write_number.Goals as goal
+
+pub returns : goal.returns
+returns c =
+    number_written c.args.at c.args.number c.args.bytes.now
+    c.write_pair.new.0 c.write_pair-2.new.0 c.write_pair-3.new.0 c.write_pair-4.new.0
+    (omega (arith, c.requires))
+    c.write_pair.ensures c.write_pair-2.ensures c.write_pair-3.ensures c.write_pair-4.ensures

@@ -1,0 +1,14 @@
+-- `parameters::with_byte` meets its contract. Assumes nothing.
+use Prim.Native.Nat.{ℕ, ◌-◌, ◌/◌, ◌%◌, ◌^◌, ◌<◌, ◌≤◌}
+use mathlib.Core.Path.{◌≡◌, refl, sym, ap, ◌∙◌, subst}
+use native.Mathlib.Omega.{arith}
+use borrow.Author.Rules.{rules}
+use Rattle.parameters.specs.Crc.{bits_into, byte_into}
+use Rattle.parameters.proofs.CrcLaws.{bit-small, bits_on, bits_none, low_bit}
+use Rattle.parameters.proofs.with_byte.Given as goal
+
+abbrev pub invariant-loop-left : goal.invariant-loop-left
+invariant-loop-left l = (l.register < 65536) × (l.left ≤ 8) × (bits_into l.left l.register l.byte ≡ byte_into l.crc l.byte)
+
+abbrev pub decreases-loop-left : goal.decreases-loop-left
+decreases-loop-left l = l.left

@@ -1,0 +1,53 @@
+-- `scan_found::contents::note_entry` meets its contract. Assumes nothing.
+use Prim.Native.Nat.{ℕ, ◌<◌}
+use mathlib.Core.Bool.{Bool}
+use mathlib.Core.Path.{◌≡◌, sym, ap, ◌∙◌}
+use native.Mathlib.Omega.{arith}
+use lib.ListN.{get_or, set}
+use Rattle.scan_found.specs.Contents.{contents, replaces}
+use Rattle.scan_found.proofs.ContentsLaws.{candidate, entry_set, entry_kept, entry_not}
+use borrow.Author.Rules.{rules}
+use Rattle.scan_found.proofs.contents.note_entry.Goals as goal
+
+below : (c : tie.After-wide) → c.wide.result < 4096
+below c =
+    let at-if = c.before.before in
+    let a = at-if.before.before.args in
+    let d = candidate (contents a.kinds.now a.logicals.now a.numbers.now) a.bits.now a.logical a.block (sym at-if.before.is-candidate.ensures ∙ at-if.if1.true) in
+    omega (arith, d.logical_below, at-if.before.before.requires.1, c.wide.ensures)
+
+-- what the test of its entry says
+
+replacing : (c : tie.After-does-replace) (b : Bool) → c.does-replace.result ≡ b → let a = c.before.before.before.before.before.before.before.args in
+    replaces (contents a.kinds.now a.logicals.now a.numbers.now) a.blocks (get_or a.map.now (get_or a.logicals.now a.block 0) 0) a.block ≡ b
+replacing c b e =
+    let at_wide = c.before.before.before in
+    let a = at_wide.before.before.before.before.args in
+    ap (λ (x : ℕ). replaces (contents a.kinds.now a.logicals.now a.numbers.now) a.blocks x a.block) (sym (c.before.wide2.ensures ∙ ap (λ (l : ℕ). get_or a.map.now l 0) at_wide.wide.ensures))
+    ∙ sym c.does-replace.ensures
+    ∙ e
+
+pub offset_bounds-map-l : goal.offset_bounds-map-l
+offset_bounds-map-l c = search (rules, below c)
+
+pub bounds-map-l : goal.bounds-map-l
+bounds-map-l c = search (rules, below c)
+
+pub offset_bounds-map-l-then-does_replace : goal.offset_bounds-map-l-then-does_replace
+offset_bounds-map-l-then-does_replace c = search (rules, below c.before.before.before.before)
+
+pub bounds-map-l-then-does_replace : goal.bounds-map-l-then-does_replace
+bounds-map-l-then-does_replace c = search (rules, below c.before.before.before.before)
+
+pub returns-then-does_replace : goal.returns-then-does_replace
+returns-then-does_replace c =
+    ap (λ (l : ℕ). set c.args.map.now l c.args.block) c.wide-l.ensures
+    ∙ entry_set (contents c.args.kinds.now c.args.logicals.now c.args.numbers.now) c.args.bits.now c.args.block c.args.blocks c.args.logical c.args.map.now (sym c.is_candidate.ensures ∙ c.if-is_candidate.true) (replacing c.before _ c.if-does_replace.true)
+
+pub returns-else-does_replace : goal.returns-else-does_replace
+returns-else-does_replace c =
+    entry_kept (contents c.args.kinds.now c.args.logicals.now c.args.numbers.now) c.args.bits.now c.args.block c.args.blocks c.args.logical c.args.map.now (sym c.is_candidate.ensures ∙ c.if-is_candidate.true) (replacing c.before _ c.if-does_replace.false)
+
+pub returns-else-is_candidate : goal.returns-else-is_candidate
+returns-else-is_candidate c =
+    entry_not (contents c.args.kinds.now c.args.logicals.now c.args.numbers.now) c.args.bits.now c.args.block c.args.blocks c.args.logical c.args.map.now (sym c.is_candidate.ensures ∙ c.if-is_candidate.false)
