@@ -105,6 +105,46 @@ unprotected_by_tag Cut h = refl
 unprotected_by_tag Illegal h = refl
 unprotected_by_tag Protected h = absurd (⊎_elim (λ e. omega (arith, e)) (⊎_elim (λ e. omega (arith, e)) (⊎_elim (λ e. omega (arith, e)) (⊎_elim (λ e. omega (arith, e)) (λ e. omega (arith, e))))) h)
 
+-- the same, where a match tells the variant, or which it is not
+pub passed_by_is : (o : Outcome) → o ≡ Passed → is_passed o ≡ true
+unfolding is_passed
+passed_by_is o h = rw h refl
+
+pub other_by_not : (o : Outcome) → (o ≡ Passed → ⊥) → is_passed o ≡ false
+unfolding is_passed
+other_by_not Passed h = absurd (h refl)
+other_by_not Failed h = refl
+other_by_not Silent h = refl
+other_by_not Cut h = refl
+other_by_not Illegal h = refl
+other_by_not Protected h = refl
+
+pub failed_by_is : (o : Outcome) → o ≡ Failed → is_failed o ≡ true
+unfolding is_failed
+failed_by_is o h = rw h refl
+
+pub unfailed_by_not : (o : Outcome) → (o ≡ Failed → ⊥) → is_failed o ≡ false
+unfolding is_failed
+unfailed_by_not Passed h = refl
+unfailed_by_not Failed h = absurd (h refl)
+unfailed_by_not Silent h = refl
+unfailed_by_not Cut h = refl
+unfailed_by_not Illegal h = refl
+unfailed_by_not Protected h = refl
+
+pub protected_by_is : (o : Outcome) → o ≡ Protected → is_protected o ≡ true
+unfolding is_protected
+protected_by_is o h = rw h refl
+
+pub unprotected_by_not : (o : Outcome) → (o ≡ Protected → ⊥) → is_protected o ≡ false
+unfolding is_protected
+unprotected_by_not Passed h = refl
+unprotected_by_not Failed h = refl
+unprotected_by_not Silent h = refl
+unprotected_by_not Cut h = refl
+unprotected_by_not Illegal h = refl
+unprotected_by_not Protected h = absurd (h refl)
+
 -- what one test tells of another
 pub is_passed_lem : (o : Outcome) → is_passed o ≡ true → o ≡ Passed
 unfolding is_passed

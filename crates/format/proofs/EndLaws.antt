@@ -119,6 +119,15 @@ stops_by_tag Cut h = (refl, refl)
 stops_by_tag Illegal h = (refl, refl)
 stops_by_tag Protected h = (refl, refl)
 
+pub stops_by_not : (o : Outcome) → (o ≡ Passed → ⊥) → (o ≡ Failed → ⊥) → (is_passed o ≡ false) × (is_failed o ≡ false)
+unfolding is_passed is_failed
+stops_by_not Passed h k = absurd (h refl)
+stops_by_not Failed h k = absurd (k refl)
+stops_by_not Silent h k = (refl, refl)
+stops_by_not Cut h k = (refl, refl)
+stops_by_not Illegal h k = (refl, refl)
+stops_by_not Protected h k = (refl, refl)
+
 -- the erase of the old table's block
 module _ (s : Setting) (l : Line) (old : ℕ) (called : Called s l) (below : old < s.geometry.blocks) (row : ℕ) (is : row ≡ row_of s.geometry old 0) (m : Line) (o : Outcome)
     (e : m ≡ send_all s l (erase_cycles s l row)) (q : o ≡ answer_of m) where

@@ -7,8 +7,7 @@ use Rattle.chip.proofs.ConfirmableLaws.{confirms}
 use Rattle.chip.proofs.command.Goals as goal
 
 pub confirm-requires : goal.confirm-requires
-confirm-requires c =
-    confirms _ _ (sym (c.is_confirmable.ensures c.args.fates.now) ∙ c.if-is_confirmable.true)
+confirm-requires c = record { fitting = (confirms _ _ (sym (c.is_confirmable.ensures c.args.fates.now) ∙ c.if-is_confirmable.true)).0; mask_len = (confirms _ _ (sym (c.is_confirmable.ensures c.args.fates.now) ∙ c.if-is_confirmable.true)).1.0; i_bound = (confirms _ _ (sym (c.is_confirmable.ensures c.args.fates.now) ∙ c.if-is_confirmable.true)).1.1 }
 
 pub returns-then-is_confirmable : goal.returns-then-is_confirmable
 unfolding commanded

@@ -15,8 +15,7 @@ unfolding confirmed
 returns-then-code-eq16 c = c.confirm_program.ensures ∙ search (eq-eqb, ne_eqb)
 
 pub confirm_erase-requires : goal.confirm_erase-requires
-confirm_erase-requires c =
-    (c.requires.fitting.is_valid, (c.requires.fitting.array_long, (c.requires.fitting.history_long, c.requires.1)))
+confirm_erase-requires c = record { valid = c.requires.fitting.is_valid; array_len = c.requires.fitting.array_long; history_len = c.requires.fitting.history_long; mask_len = c.requires.mask_len; i_bound = c.requires.i_bound }
 
 pub returns : goal.returns
 unfolding confirmed

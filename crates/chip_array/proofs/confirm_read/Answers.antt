@@ -22,8 +22,12 @@ pub overflow_add-end : goal.overflow_add-end
 overflow_add-end c =
     rw (c.row_start-at.ensures, c.page_size.ensures, c.row_of_address-row.ensures) (omega (arith, row_within c.args.g c.requires.valid _ c.requires.i_bound, chip_size_most c.args.g c.requires.valid))
 
+pub slice_bounds-copy-end : goal.slice_bounds-copy-end
+slice_bounds-copy-end c =
+    rw (c.row_start-at.ensures, c.page_size.ensures, c.row_of_address-row.ensures) (omega (arith, row_within c.args.g c.requires.valid _ c.requires.i_bound))
+
 pub returns : goal.returns
 returns c =
     λ m h.
     let long : length c.args.register.now ≡ c.page_size.result = rw c.page_size.ensures c.requires.register_len in
-    read_confirmed (setting c.args.g m c.args.fates.now) (device c.args.i c.args.array.now c.args.register.now h) c.row_of_address-row.ensures c.if-phase-ne-READ_ADDRESS.false c.if-count-ne5.false c.start.ensures (copied c.row_start-at.result c.page_size.result _ _ _ (part-copy-end (at-page-size)) long c.copy.ensures ∙ rw (c.row_start-at.ensures, c.page_size.ensures))
+    read_confirmed (setting c.args.g m c.args.fates.now) (device c.args.i c.args.array.now c.args.register.now h) c.row_of_address-row.ensures c.if-phase-ne-READ_ADDRESS.false c.if-count-ne5.false c.start.ensures (copied c.row_start-at.result c.page_size.result _ _ _ ((rw (c.row_start-at.ensures, c.page_size.ensures, c.row_of_address-row.ensures) (omega (arith, row_within c.args.g c.requires.valid _ c.requires.i_bound)))) long c.copy.ensures ∙ rw (c.row_start-at.ensures, c.page_size.ensures))

@@ -26,6 +26,9 @@ overflow_mul-at c = omega (arith, room c.before.before)
 pub overflow_add-end : goal.overflow_add-end
 overflow_add-end c = omega (arith, room c.before.before, c.requires.valid.main_most)
 
+pub slice_bounds-copy-end : goal.slice_bounds-copy-end
+slice_bounds-copy-end c = omega (arith, room c.before.before, c.requires.bytes_len)
+
 pub returns : goal.returns
 returns c =
     let long : at s + c.args.g.main - at s ≡ c.args.g.main = omega arith in

@@ -1,7 +1,7 @@
 -- `fill_driver::fill_page` meets its contract. Assumes nothing.
 use mathlib.Core.Path.{◌∙◌}
 use Rattle.chip_array.specs.Device.{setting}
-use Rattle.bus_polling.proofs.OutcomeLaws.{passed_by_tag, other_by_tag}
+use Rattle.bus_polling.proofs.OutcomeLaws.{passed_by_is, other_by_not}
 use Rattle.fill.specs.Fill.{copy, data_source}
 use Rattle.fill_driver.proofs.PageLaws.{page_stops, page_programmed}
 use borrow.Author.Rules.{rules}
@@ -15,7 +15,7 @@ returns-in_default c =
     let set = setting c.args.g c.args.mask.now c.args.fates.now in
     let k = copy c.args.content.kind c.args.content.logical c.args.content.number in
     let source = data_source c.args.g c.args.content.old c.args.content.form c.args.content.first c.args.content.count c.args.bytes.now in
-    let f = other_by_tag _ c.in_default.in_default-own.keys2 in
+    let f = other_by_not _ c.in_default.not-Passed in
     page_stops set c.args.block k c.args.place (source c.args.place) _ _ c.put_main-put.result.outcome c.put_main-put.ensures.reaches f
 
 pub program_page-requires : goal.program_page-requires
@@ -27,5 +27,5 @@ returns c =
     let set = setting c.args.g c.args.mask.now c.args.fates.now in
     let k = copy c.args.content.kind c.args.content.logical c.args.content.number in
     let source = data_source c.args.g c.args.content.old c.args.content.form c.args.content.first c.args.content.count c.args.bytes.now in
-    let p = passed_by_tag _ c.in-Passed.in-Passed-own.keys1 in
+    let p = passed_by_is _ c.in-Passed.is in
     page_programmed set c.args.block k c.args.place (source c.args.place) _ _ c.put_main-put.result.outcome c.put_main-put.ensures.reaches p _ (c.put_main-put.ensures.page_after p) _ c.program_page.result.outcome c.program_page.ensures.history_after c.program_page.ensures.outcome_value

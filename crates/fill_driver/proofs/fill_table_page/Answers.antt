@@ -14,6 +14,10 @@ use Rattle.fill_driver.proofs.DueLaws.{table_fillable}
 use borrow.Author.Rules.{rules}
 use Rattle.fill_driver.proofs.fill_table_page.Goals as goal
 
+pub slice_bounds-fill_page-end : goal.slice_bounds-fill_page-end
+slice_bounds-fill_page-end c =
+    put_fits c.args.g.main (replicate 4096 0) (first-room c.args.g c.requires.lent.is_valid) c.build_first.new.0 (drop (c.args.g.main - 0) (replicate 4096 0)) c.build_first.auto.0
+
 pub fill_page-requires : goal.fill_page-requires
 fill_page-requires c = record { lent = c.requires.lent; fillable = table_fillable c.args.g c.requires.lent.is_valid c.args.block c.args.place _ c.requires.block_lt_blocks c.requires.place_lt_pages c.requires.page_len; bytes_len = (lent-long c.args.g.main _ (put_fits c.args.g.main (replicate 4096 0) (first-room c.args.g c.requires.lent.is_valid) c.build_first.new.0 (drop (c.args.g.main - 0) (replicate 4096 0)) c.build_first.auto.0) ∙ sym (one-mul c.args.g.main)) }
 

@@ -4,7 +4,7 @@ use native.Mathlib.Omega.{arith}
 use lib.ListN.{length}
 use Rattle.chip_array.specs.Device.{setting}
 use Rattle.bus.specs.Line.{line}
-use Rattle.bus_polling.proofs.OutcomeLaws.{passed_by_tag, other_by_tag}
+use Rattle.bus_polling.proofs.OutcomeLaws.{passed_by_is, other_by_not}
 use Rattle.format.proofs.WholeLaws.{round-left, round_stop, round_goes_on}
 use borrow.Author.Rules.{rules}
 use Rattle.format.proofs.erase_and_fill.Goals as goal
@@ -25,7 +25,7 @@ pub returns-in_default : goal.returns-in_default
 returns-in_default c =
     let set = setting c.args.g c.args.mask.now c.args.fates.now in
     let l = line c.args.from c.args.array.now c.args.register.now c.args.history.now in
-    λ cs os. c.end.ensures _ _ _ ∙ round_stop set c.args.allowed c.args.survey _ c.passed_over-skip.ensures l _ c.erase_all-erased.result.outcome _ _ c.erase_all-erased.ensures (other_by_tag _ c.in_default.in_default-own.keys2) _ _ c.stop_answer.ensures c.blank.ensures cs os
+    λ cs os. c.end.ensures _ _ _ ∙ round_stop set c.args.allowed c.args.survey _ c.passed_over-skip.ensures l _ c.erase_all-erased.result.outcome _ _ c.erase_all-erased.ensures (other_by_not _ c.in_default.not-Passed) _ _ c.stop_answer.ensures c.blank.ensures cs os
 
 pub add_bits-requires : goal.add_bits-requires
 add_bits-requires c = record { blocks_bound = omega (arith, c.requires.called.is_valid.blocks_most); bits_len = carried_long s }
@@ -33,7 +33,7 @@ add_bits-requires c = record { blocks_bound = omega (arith, c.requires.called.is
 pub fill_first-requires : goal.fill_first-requires
 fill_first-requires c =
     let set = setting c.args.g c.args.mask.now c.args.fates.now in
-    let l = line c.args.from c.args.array.now c.args.register.now c.args.history.now in record { called = c.erase_all-erased.ensures.next (passed_by_tag _ c.in-Passed.in-Passed-own.keys1); page_len = c.page-1.given ∙ c.requires.page_len; left_le_allowed = omega (arith, c.requires.left_le_allowed, round-left set _ l _ _ _ _ c.erase_all-erased.ensures) }
+    let l = line c.args.from c.args.array.now c.args.register.now c.args.history.now in record { called = c.erase_all-erased.ensures.next (passed_by_is _ c.in-Passed.is); page_len = c.page-1.given ∙ c.requires.page_len; left_le_allowed = omega (arith, c.requires.left_le_allowed, round-left set _ l _ _ _ _ c.erase_all-erased.ensures) }
 
 pub shape_of-array : goal.shape_of-array
 shape_of-array c = c.array-2-1.given ∙ c.array-1.given
@@ -51,4 +51,4 @@ pub returns : goal.returns
 returns c =
     let set = setting c.args.g c.args.mask.now c.args.fates.now in
     let l = line c.args.from c.args.array.now c.args.register.now c.args.history.now in
-    λ cs os. round_goes_on set c.args.allowed c.args.survey _ c.passed_over-skip.ensures l _ c.erase_all-erased.result.outcome _ _ c.erase_all-erased.ensures (passed_by_tag _ c.in-Passed.in-Passed-own.keys1) _ c.add_bits.ensures _ c.greater-greatest.ensures _ c.fill_first.ensures cs os
+    λ cs os. round_goes_on set c.args.allowed c.args.survey _ c.passed_over-skip.ensures l _ c.erase_all-erased.result.outcome _ _ c.erase_all-erased.ensures (passed_by_is _ c.in-Passed.is) _ c.add_bits.ensures _ c.greater-greatest.ensures _ c.fill_first.ensures cs os

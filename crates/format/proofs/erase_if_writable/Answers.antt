@@ -5,7 +5,7 @@ use borrow.Author.Rules.{rules}
 use Rattle.geometry.proofs.SizeLaws.{page_size_most}
 use Rattle.chip_array.specs.Device.{setting}
 use Rattle.bus.specs.Line.{line}
-use Rattle.bus_polling.proofs.OutcomeLaws.{passed_by_tag, other_by_tag}
+use Rattle.bus_polling.proofs.OutcomeLaws.{passed_by_is, other_by_not}
 use Rattle.request.proofs.CallLaws.{lent-page}
 use Rattle.fill_tables.proofs.StatusLaws.{status_stops, status_goes}
 use Rattle.format.specs.Format.{round_run, status_run}
@@ -19,12 +19,16 @@ end-requires c =
 pub returns-in_default : goal.returns-in_default
 unfolding status_run
 returns-in_default c =
-    λ cs os. c.end.ensures _ _ _ ∙ status_stops (setting c.args.g c.args.mask.now c.args.fates.now) c.args.allowed c.args.state (line c.args.from c.args.array.now c.args.register.now c.args.history.now) _ c.read_status-shown.result.outcome c.read_status-shown.ensures.history_after c.read_status-shown.ensures.outcome_value _ _ (other_by_tag _ c.in_default.in_default-own.keys2) c.status_answer-answer.ensures c.status_state.ensures cs os _
+    λ cs os. c.end.ensures _ _ _ ∙ status_stops (setting c.args.g c.args.mask.now c.args.fates.now) c.args.allowed c.args.state (line c.args.from c.args.array.now c.args.register.now c.args.history.now) _ c.read_status-shown.result.outcome c.read_status-shown.ensures.history_after c.read_status-shown.ensures.outcome_value _ _ (other_by_not _ c.in_default.not-Passed) c.status_answer-answer.ensures c.status_state.ensures cs os _
+
+pub slice_bounds-page-end : goal.slice_bounds-page-end
+slice_bounds-page-end c =
+    search (rules, c.page_size-size.ensures, page_size_most c.args.g c.requires.called.is_valid)
 
 pub erase_and_fill-requires : goal.erase_and_fill-requires
 erase_and_fill-requires c =
     let set = setting c.args.g c.args.mask.now c.args.fates.now in
-    let l = line c.args.from c.args.array.now c.args.register.now c.args.history.now in record { called = status_called set l _ _ c.read_status-shown.ensures.history_after c.read_status-shown.ensures.outcome_value (passed_by_tag _ c.in-Passed.in-Passed-own.keys1) c.requires.called; page_len = lent-page _ _ (omega (arith, c.page_size-size.ensures, page_size_most c.args.g c.requires.called.is_valid)) c.page_size-size.ensures; left_le_allowed = omega (arith, c.requires.left_le_allowed, status_left set l _ c.read_status-shown.ensures.history_after) }
+    let l = line c.args.from c.args.array.now c.args.register.now c.args.history.now in record { called = status_called set l _ _ c.read_status-shown.ensures.history_after c.read_status-shown.ensures.outcome_value (passed_by_is _ c.in-Passed.is) c.requires.called; page_len = lent-page _ _ (omega (arith, c.page_size-size.ensures, page_size_most c.args.g c.requires.called.is_valid)) c.page_size-size.ensures; left_le_allowed = omega (arith, c.requires.left_le_allowed, status_left set l _ c.read_status-shown.ensures.history_after) }
 
 pub shape_of-array : goal.shape_of-array
 shape_of-array c = c.array-2-1.given ∙ c.array-1.given
@@ -39,4 +43,4 @@ pub returns : goal.returns
 unfolding status_run
 returns c =
     let set = setting c.args.g c.args.mask.now c.args.fates.now in
-    λ cs os. status_goes set c.args.allowed c.args.state (line c.args.from c.args.array.now c.args.register.now c.args.history.now) _ c.read_status-shown.result.outcome c.read_status-shown.ensures.history_after c.read_status-shown.ensures.outcome_value (round_run set c.args.survey) _ (passed_by_tag _ c.in-Passed.in-Passed-own.keys1) c.erase_and_fill.ensures cs os
+    λ cs os. status_goes set c.args.allowed c.args.state (line c.args.from c.args.array.now c.args.register.now c.args.history.now) _ c.read_status-shown.result.outcome c.read_status-shown.ensures.history_after c.read_status-shown.ensures.outcome_value (round_run set c.args.survey) _ (passed_by_is _ c.in-Passed.is) c.erase_and_fill.ensures cs os

@@ -4,9 +4,9 @@ use mathlib.Core.Path.{sym, subst, ◌∙◌}
 use native.Mathlib.Omega.{arith}
 use Rattle.chip_array.specs.Device.{setting}
 use Rattle.bus.specs.Line.{line}
-use Rattle.bus_polling.proofs.OutcomeLaws.{passed_by_tag, failed_by_tag, failed_answered, failed_unpassed}
+use Rattle.bus_polling.proofs.OutcomeLaws.{passed_by_is, failed_by_is, failed_answered, failed_unpassed}
 use Rattle.state.specs.declared.State.{State}
-use Rattle.format.proofs.EndLaws.{late_comes, late_left, late_passed, late_failed, late_stopped, stops_by_tag}
+use Rattle.format.proofs.EndLaws.{late_comes, late_left, late_passed, late_failed, late_stopped, stops_by_not}
 use borrow.Author.Rules.{rules}
 use Rattle.format.proofs.erase_old.Goals as goal
 
@@ -25,7 +25,7 @@ end_with_tables-requires c =
     let set = setting c.args.g c.args.mask.now c.args.fates.now in
     let l = line c.args.from c.args.array.now c.args.register.now c.args.history.now in
     let comes = late_comes set l c.args.old c.requires.called c.requires.lt_blocks _ c.row_of-row.ensures _ _ c.erase-erased.ensures.history_after c.erase-erased.ensures.outcome_value in
-    let called = comes.next_called (failed_answered _ (failed_by_tag _ c.in-Failed.in-Failed-own.keys2)) in
+    let called = comes.next_called (failed_answered _ (failed_by_is _ c.in-Failed.is)) in
     let last = subst (λ (x : State). x.last < c.args.g.blocks) (sym c.mark_invalid-listed.ensures) c.requires.last_lt_blocks in record { called = called; last_lt_blocks = last; page_len = c.requires.page_len; left_le_allowed = omega (arith, c.requires.left_le_allowed, late_left set l c.args.old c.requires.called c.requires.lt_blocks _ c.row_of-row.ensures _ _ c.erase-erased.ensures.history_after c.erase-erased.ensures.outcome_value) }
 
 pub end-requires-in_default : goal.end-requires-in_default
@@ -39,7 +39,7 @@ returns-in-Passed c =
     let set = setting c.args.g c.args.mask.now c.args.fates.now in
     let l = line c.args.from c.args.array.now c.args.register.now c.args.history.now in
     let comes = late_comes set l c.args.old c.requires.called c.requires.lt_blocks _ c.row_of-row.ensures _ _ c.erase-erased.ensures.history_after c.erase-erased.ensures.outcome_value in
-    λ cs os. c.end.ensures _ _ _ ∙ late_passed set c.args.allowed c.args.old c.args.state l _ _ comes (passed_by_tag _ c.in-Passed.in-Passed-own.keys1) cs os
+    λ cs os. c.end.ensures _ _ _ ∙ late_passed set c.args.allowed c.args.old c.args.state l _ _ comes (passed_by_is _ c.in-Passed.is) cs os
 
 pub shape_of-array-in-Failed : goal.shape_of-array-in-Failed
 shape_of-array-in-Failed c = c.array-in-Failed-1.given ∙ c.array-1.given
@@ -52,7 +52,7 @@ returns-in-Failed c =
     let set = setting c.args.g c.args.mask.now c.args.fates.now in
     let l = line c.args.from c.args.array.now c.args.register.now c.args.history.now in
     let comes = late_comes set l c.args.old c.requires.called c.requires.lt_blocks _ c.row_of-row.ensures _ _ c.erase-erased.ensures.history_after c.erase-erased.ensures.outcome_value in
-    let failed = failed_by_tag _ c.in-Failed.in-Failed-own.keys2 in
+    let failed = failed_by_is _ c.in-Failed.is in
     λ cs os. late_failed set c.args.allowed c.args.old c.args.state l _ _ comes failed (failed_unpassed _ failed) _ c.mark_invalid-listed.ensures _ c.end_with_tables.ensures cs os
 
 pub returns-in_default : goal.returns-in_default
@@ -60,5 +60,5 @@ returns-in_default c =
     let set = setting c.args.g c.args.mask.now c.args.fates.now in
     let l = line c.args.from c.args.array.now c.args.register.now c.args.history.now in
     let comes = late_comes set l c.args.old c.requires.called c.requires.lt_blocks _ c.row_of-row.ensures _ _ c.erase-erased.ensures.history_after c.erase-erased.ensures.outcome_value in
-    let other = stops_by_tag _ c.in_default.in_default-own.keys3 in
+    let other = stops_by_not _ c.in_default.not-Passed c.in_default.not-Failed in
     λ cs os. c.end-in_default.ensures _ _ _ ∙ late_stopped set c.args.allowed c.args.old c.args.state l _ _ comes other.0 other.1 _ _ c.stop_answer.ensures c.blank.ensures cs os

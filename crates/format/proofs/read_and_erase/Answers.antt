@@ -3,7 +3,7 @@ use mathlib.Core.Path.{◌∙◌}
 use native.Mathlib.Omega.{arith}
 use Rattle.chip_array.specs.Device.{setting}
 use Rattle.bus.specs.Line.{line}
-use Rattle.bus_polling.proofs.OutcomeLaws.{passed_by_tag, other_by_tag}
+use Rattle.bus_polling.proofs.OutcomeLaws.{passed_by_is, other_by_not}
 use Rattle.format.proofs.WholeLaws.{reads-left, reads_stop, reads_goes}
 use borrow.Author.Rules.{rules}
 use Rattle.format.proofs.read_and_erase.Goals as goal
@@ -24,10 +24,10 @@ shape_of-history-in_default c = c.history-1.given
 
 pub returns-in_default : goal.returns-in_default
 returns-in_default c =
-    λ cs os. c.end.ensures _ _ _ ∙ reads_stop (setting c.args.g c.args.mask.now c.args.fates.now) c.args.allowed (line c.args.from c.args.array.now c.args.register.now c.args.history.now) _ c.survey_chip-found.result.outcome _ c.survey_chip-found.ensures c.args.state (other_by_tag _ c.in_default.in_default-own.keys2) _ _ c.stop_answer.ensures c.blank.ensures cs os
+    λ cs os. c.end.ensures _ _ _ ∙ reads_stop (setting c.args.g c.args.mask.now c.args.fates.now) c.args.allowed (line c.args.from c.args.array.now c.args.register.now c.args.history.now) _ c.survey_chip-found.result.outcome _ c.survey_chip-found.ensures c.args.state (other_by_not _ c.in_default.not-Passed) _ _ c.stop_answer.ensures c.blank.ensures cs os
 
 pub erase_if_writable-requires : goal.erase_if_writable-requires
-erase_if_writable-requires c = record { called = c.survey_chip-found.ensures.next (passed_by_tag _ c.in-Passed.in-Passed-own.keys1); left_le_allowed = omega (arith, c.requires.left_le_allowed, reads-left (setting c.args.g c.args.mask.now c.args.fates.now) (line c.args.from c.args.array.now c.args.register.now c.args.history.now) _ _ _ c.survey_chip-found.ensures) }
+erase_if_writable-requires c = record { called = c.survey_chip-found.ensures.next (passed_by_is _ c.in-Passed.is); left_le_allowed = omega (arith, c.requires.left_le_allowed, reads-left (setting c.args.g c.args.mask.now c.args.fates.now) (line c.args.from c.args.array.now c.args.register.now c.args.history.now) _ _ _ c.survey_chip-found.ensures) }
 
 pub shape_of-array : goal.shape_of-array
 shape_of-array c = c.array-2-1.given ∙ c.array-1.given
@@ -40,4 +40,4 @@ shape_of-history c = c.history-2-1.given ∙ c.history-1.given
 
 pub returns : goal.returns
 returns c =
-    λ cs os. reads_goes (setting c.args.g c.args.mask.now c.args.fates.now) c.args.allowed (line c.args.from c.args.array.now c.args.register.now c.args.history.now) _ c.survey_chip-found.result.outcome _ c.survey_chip-found.ensures (passed_by_tag _ c.in-Passed.in-Passed-own.keys1) c.args.state _ c.erase_if_writable.ensures cs os
+    λ cs os. reads_goes (setting c.args.g c.args.mask.now c.args.fates.now) c.args.allowed (line c.args.from c.args.array.now c.args.register.now c.args.history.now) _ c.survey_chip-found.result.outcome _ c.survey_chip-found.ensures (passed_by_is _ c.in-Passed.is) c.args.state _ c.erase_if_writable.ensures cs os

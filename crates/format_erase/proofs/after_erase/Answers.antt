@@ -1,12 +1,12 @@
 -- `format_erase::after_erase` meets its contract. Assumes nothing.
 use Rattle.chip_array.specs.Device.{setting}
-use Rattle.bus_polling.proofs.OutcomeLaws.{failed_by_tag, unfailed_by_tag, failed_answered}
+use Rattle.bus_polling.proofs.OutcomeLaws.{failed_by_is, unfailed_by_not, failed_answered}
 use Rattle.format_erase.proofs.RoundLaws.{after-unfailed, after_same}
 use borrow.Author.Rules.{rules}
 use Rattle.format_erase.proofs.after_erase.Goals as goal
 
 pub read_failed-requires : goal.read_failed-requires
-read_failed-requires c = record { called = c.requires.called (failed_answered _ (failed_by_tag _ c.in-Failed.in-Failed-own.keys1)); block_lt_blocks = c.requires.block_lt_blocks; page_len = c.requires.page_len }
+read_failed-requires c = record { called = c.requires.called (failed_answered _ (failed_by_is _ c.in-Failed.is)); block_lt_blocks = c.requires.block_lt_blocks; page_len = c.requires.page_len }
 
 pub returns-in-Failed : goal.returns-in-Failed
 returns-in-Failed c =
@@ -14,4 +14,4 @@ returns-in-Failed c =
 
 pub returns-in_default : goal.returns-in_default
 returns-in_default c =
-    after-unfailed (setting c.args.g c.args.mask.now c.args.fates.now) c.args.from c.args.array.now c.args.register.now c.args.history.now c.args.block c.args.outcome (unfailed_by_tag _ c.in_default.in_default-own.keys2) c.requires.called c.not_failed.ensures
+    after-unfailed (setting c.args.g c.args.mask.now c.args.fates.now) c.args.from c.args.array.now c.args.register.now c.args.history.now c.args.block c.args.outcome (unfailed_by_not _ c.in_default.not-Failed) c.requires.called c.not_failed.ensures

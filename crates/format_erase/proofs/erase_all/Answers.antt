@@ -6,7 +6,7 @@ use borrow.Author.Rules.{rules}
 use lib.ListN.{length}
 use Rattle.chip_array.specs.Device.{setting}
 use Rattle.bus.specs.Line.{line}
-use Rattle.bus_polling.proofs.OutcomeLaws.{passed_by_tag, other_by_tag}
+use Rattle.bus_polling.proofs.OutcomeLaws.{passed_by_is, other_by_not}
 use Rattle.format_erase.proofs.RoundLaws.{Rounding, round_begins, round_stops, round_goes, round-ends}
 use Rattle.format_erase.proofs.erase_all.Goals as goal
 
@@ -35,7 +35,7 @@ shape_of-page-in_default c =
 
 pub returns-in_default : goal.returns-in_default
 returns-in_default c =
-    round_stops (setting c.args.g c.args.mask.now c.args.fates.now) c.args.marked.now (line c.args.from c.args.array.now c.args.register.now c.args.history.now) (line c.loop-block.b c.loop-block.array c.loop-block.register c.loop-block.history) c.loop-block.block c.loop-block.invalid c.loop-block.numbers c.loop-block-test.true c.loop-block.invariant.5 _ c.erase_block-done.result.outcome _ _ c.erase_block-done.ensures (other_by_tag _ c.in_default.in_default-own.keys2) _ _
+    round_stops (setting c.args.g c.args.mask.now c.args.fates.now) c.args.marked.now (line c.args.from c.args.array.now c.args.register.now c.args.history.now) (line c.loop-block.b c.loop-block.array c.loop-block.register c.loop-block.history) c.loop-block.block c.loop-block.invalid c.loop-block.numbers c.loop-block-test.true c.loop-block.invariant.5 _ c.erase_block-done.result.outcome _ _ c.erase_block-done.ensures (other_by_not _ c.in_default.not-Passed) _ _
 
 pub note_failed-requires : goal.note_failed-requires
 note_failed-requires c =
@@ -56,7 +56,7 @@ loop-block-preserved c = (
       c.register-1.given ∙ c.loop-block.invariant.2,
       c.history-1.given ∙ c.loop-block.invariant.3,
       c.page-1.given ∙ c.loop-block.invariant.4,
-      round_goes (setting c.args.g c.args.mask.now c.args.fates.now) c.args.marked.now (line c.args.from c.args.array.now c.args.register.now c.args.history.now) (line c.loop-block.b c.loop-block.array c.loop-block.register c.loop-block.history) c.loop-block.block c.loop-block.invalid c.loop-block.numbers c.loop-block-test.true c.loop-block.invariant.5 _ c.erase_block-done.result.outcome _ _ c.erase_block-done.ensures (passed_by_tag _ c.in-Passed.in-Passed-own.keys1) c.note_failed.ensures c.join-numbers.ensures,
+      round_goes (setting c.args.g c.args.mask.now c.args.fates.now) c.args.marked.now (line c.args.from c.args.array.now c.args.register.now c.args.history.now) (line c.loop-block.b c.loop-block.array c.loop-block.register c.loop-block.history) c.loop-block.block c.loop-block.invalid c.loop-block.numbers c.loop-block-test.true c.loop-block.invariant.5 _ c.erase_block-done.result.outcome _ _ c.erase_block-done.ensures (passed_by_is _ c.in-Passed.is) c.note_failed.ensures c.join-numbers.ensures,
     )
 
 pub shape_of-array : goal.shape_of-array

@@ -2,7 +2,7 @@
 use mathlib.Core.Path.{sym, ◌∙◌}
 use Rattle.chip_array.specs.Device.{setting}
 use Rattle.bus.specs.Line.{line}
-use Rattle.bus_polling.proofs.OutcomeLaws.{passed_by_tag, passed_unfailed}
+use Rattle.bus_polling.proofs.OutcomeLaws.{passed_by_is, passed_unfailed}
 use Rattle.format_erase.proofs.RoundLaws.{block_marked, answered_called, block_done, after-unfailed}
 use borrow.Author.Rules.{rules}
 use Rattle.format_erase.proofs.erase_block.Goals as goal
@@ -37,4 +37,4 @@ returns c =
     let set = setting c.args.g c.args.mask.now c.args.fates.now in
     let l = line c.args.from c.args.array.now c.args.register.now c.args.history.now in
     block_done set c.args.marked.now l c.args.block (sym c.is_set.ensures ∙ c.if-is_set.false) (record { called = c.requires.called; block_below = c.requires.block_lt_blocks }) _ c.erase-erased.result.outcome c.row_of-row.result c.row_of-row.ensures c.erase-erased.ensures.history_after c.erase-erased.ensures.outcome_value
-    (after-unfailed set c.erase-erased.result.bus _ _ _ c.args.block c.erase-erased.result.outcome (passed_unfailed _ (passed_by_tag _ c.in-Passed.in-Passed-own.keys1)) (answered_called set c.args.marked.now l c.args.block (sym c.is_set.ensures ∙ c.if-is_set.false) (record { called = c.requires.called; block_below = c.requires.block_lt_blocks }) _ c.erase-erased.result.outcome c.row_of-row.result c.row_of-row.ensures c.erase-erased.ensures.history_after c.erase-erased.ensures.outcome_value) c.not_failed-2.ensures)
+    (after-unfailed set c.erase-erased.result.bus _ _ _ c.args.block c.erase-erased.result.outcome (passed_unfailed _ (passed_by_is _ c.in-Passed.is)) (answered_called set c.args.marked.now l c.args.block (sym c.is_set.ensures ∙ c.if-is_set.false) (record { called = c.requires.called; block_below = c.requires.block_lt_blocks }) _ c.erase-erased.result.outcome c.row_of-row.result c.row_of-row.ensures c.erase-erased.ensures.history_after c.erase-erased.ensures.outcome_value) c.not_failed-2.ensures)

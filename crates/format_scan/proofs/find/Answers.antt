@@ -8,7 +8,7 @@ use lib.ListN.{length}
 use Rattle.chip_array.specs.Device.{setting}
 use Rattle.bus.specs.Line.{line}
 use Rattle.bools.proofs.BoolLaws.{clash}
-use Rattle.bus_polling.proofs.OutcomeLaws.{passed_by_tag, other_by_tag, is_passed_lem}
+use Rattle.bus_polling.proofs.OutcomeLaws.{passed_by_is, other_by_not, is_passed_lem}
 use Rattle.scan_summary.specs.declared.Depth.TheVariants.{Full}
 use Rattle.scan_found.specs.Contents.{Contents, contents, contents_to}
 use Rattle.scan.proofs.ChipLaws.{Through, chip_begins, chip_goes, chip_stops}
@@ -40,7 +40,7 @@ shape_of-page-in_default c = c.page-1.given ∙ c.loop-block.invariant.4
 
 pub returns-in_default : goal.returns-in_default
 returns-in_default c =
-    let t = other_by_tag _ c.in_default.in_default-own.keys2 in
+    let t = other_by_not _ c.in_default.not-Passed in
     let stops = chip_stops Full (setting c.args.g c.args.mask.now c.args.fates.now) (line c.args.from c.args.array.now c.args.register.now c.args.history.now) (line c.loop-block.b c.loop-block.array c.loop-block.register c.loop-block.history) c.loop-block.block c.loop-block.found none (contents_to Full c.args.g c.args.array.now none c.loop-block.block) c.loop-block-test.true c.loop-block.invariant.5 _ c.scan_at-done.result.outcome c.scan_at-done.ensures.ran t in
     record {
       line_is = λ cs os. (stops cs os).0;
@@ -64,7 +64,7 @@ pub loop-block-preserved : goal.loop-block-preserved
 loop-block-preserved c =
     let set = setting c.args.g c.args.mask.now c.args.fates.now in
     let l = line c.args.from c.args.array.now c.args.register.now c.args.history.now in
-    let p = passed_by_tag _ c.in-Passed.in-Passed-own.keys1 in
+    let p = passed_by_is _ c.in-Passed.is in
     let next = chip_goes Full set l (line c.loop-block.b c.loop-block.array c.loop-block.register c.loop-block.history) c.loop-block.block c.loop-block.found none (contents_to Full c.args.g c.args.array.now none c.loop-block.block) c.loop-block-test.true c.loop-block.invariant.5 _ c.scan_at-done.result.outcome c.scan_at-done.ensures.ran (is_passed_lem _ p) p (omega (arith, c.loop-block.invariant.5.called.is_valid.pages_least)) c.scan_at-done.result.summary c.scan_at-done.result.right _ (c.scan_at-done.ensures.summary-is p) (c.scan_at-done.ensures.right_is p) (c.scan_at-done.ensures.bits_are p) c.note-found.ensures refl in (
       omega (arith, c.loop-block-test.true),
       c.array-1.given ∙ c.loop-block.invariant.1,

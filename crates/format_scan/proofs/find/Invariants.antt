@@ -8,7 +8,7 @@ use lib.ListN.{length}
 use Rattle.chip_array.specs.Device.{setting}
 use Rattle.bus.specs.Line.{line}
 use Rattle.bools.proofs.BoolLaws.{clash}
-use Rattle.bus_polling.proofs.OutcomeLaws.{passed_by_tag, other_by_tag, is_passed_lem}
+use Rattle.bus_polling.proofs.OutcomeLaws.{passed_by_is, other_by_not, is_passed_lem}
 use Rattle.scan_summary.specs.declared.Depth.TheVariants.{Full}
 use Rattle.scan_found.specs.Contents.{Contents, contents, contents_to}
 use Rattle.scan.proofs.ChipLaws.{Through, chip_begins, chip_goes, chip_stops}

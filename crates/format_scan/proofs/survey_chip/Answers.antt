@@ -4,7 +4,7 @@ use mathlib.Core.Path.{sym, ap, subst, ◌∙◌}
 use native.Mathlib.Omega.{arith}
 use Rattle.geometry.proofs.SizeLaws.{page_size_most}
 use Rattle.bools.proofs.BoolLaws.{clash}
-use Rattle.bus_polling.proofs.OutcomeLaws.{passed_by_tag, other_by_tag}
+use Rattle.bus_polling.proofs.OutcomeLaws.{passed_by_is, other_by_not}
 use Rattle.scan_summary.specs.declared.Depth.TheVariants.{Full}
 use Rattle.scan_found.specs.declared.Found.{Found}
 use Rattle.scan_found.proofs.FoundLaws.{table_small}
@@ -25,16 +25,16 @@ returns-in_default c =
       same_array = c.find-scanned.ensures.same-array;
       same_history = c.find-scanned.ensures.same-history;
       next = c.find-scanned.ensures.next;
-      survey_is = λ t. clash t (other_by_tag _ c.in_default.in_default-own.keys2);
+      survey_is = λ t. clash t (other_by_not _ c.in_default.not-Passed);
     }
 
 pub take_over-survey-requires : goal.take_over-survey-requires
 take_over-survey-requires c =
-    let p = passed_by_tag _ c.in-Passed.in-Passed-own.keys1 in record { valid = c.requires.is-valid; table_bound = subst (λ (x : Found). x.table < 4096) (sym (c.find-scanned.ensures.found-is p)) (table_small Full c.args.g c.args.array.now c.args.g.blocks c.requires.is-valid.blocks_most) }
+    let p = passed_by_is _ c.in-Passed.is in record { valid = c.requires.is-valid; table_bound = subst (λ (x : Found). x.table < 4096) (sym (c.find-scanned.ensures.found-is p)) (table_small Full c.args.g c.args.array.now c.args.g.blocks c.requires.is-valid.blocks_most) }
 
 pub returns : goal.returns
 returns c =
-    let p = passed_by_tag _ c.in-Passed.in-Passed-own.keys1 in
+    let p = passed_by_is _ c.in-Passed.is in
     record {
       line_is = c.find-scanned.ensures.line-is;
       outcome_is = c.find-scanned.ensures.outcome-is;

@@ -6,7 +6,7 @@ use Rattle.geometry.specs.declared.Geometry.{Geometry}
 use Rattle.chip_array.specs.Device.{device, setting}
 use Rattle.bus.specs.Line.{line, send_all}
 use Rattle.bus_polling.specs.Outcomes.{is_passed}
-use Rattle.bus_polling.proofs.OutcomeLaws.{passed_by_tag, other_by_tag}
+use Rattle.bus_polling.proofs.OutcomeLaws.{passed_by_is, other_by_not}
 use Rattle.bus_sequences.specs.Cycles.{reset_cycles}
 use Rattle.request.specs.Start.{start_line}
 use Rattle.identify.specs.Identify.{unknown}

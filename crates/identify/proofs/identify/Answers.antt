@@ -6,7 +6,7 @@ use borrow.Author.Rules.{rules}
 use borrow.Author.Tests.{ne_eqb}
 use lib.ListN.{length}
 use Rattle.chip_array.specs.Device.{device}
-use Rattle.bus_polling.proofs.OutcomeLaws.{passed_by_tag, other_by_tag}
+use Rattle.bus_polling.proofs.OutcomeLaws.{passed_by_is, other_by_not}
 use Rattle.parameters.specs.Page.{told}
 use Rattle.request.specs.Call.{Result, result_of}
 use Rattle.identify.specs.Identify.{identified, identify_request}

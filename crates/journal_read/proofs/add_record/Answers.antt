@@ -8,7 +8,7 @@ use native.Mathlib.Omega.{arith}
 use Rattle.bitmaps.specs.Bitmap.{bit_at}
 use Rattle.chip_array.specs.Device.{setting}
 use Rattle.bus.specs.Line.{line}
-use Rattle.bus_polling.proofs.OutcomeLaws.{passed_by_tag, other_by_tag, is_passed_lem}
+use Rattle.bus_polling.proofs.OutcomeLaws.{passed_by_is, other_by_not, is_passed_lem}
 use Rattle.journal.proofs.EndLaws.{room_most, room_within}
 use Rattle.journal_read.proofs.SumLaws.{added_none, added_stopped, added_one}
 use borrow.Author.Rules.{rules}
@@ -31,7 +31,7 @@ read_part-read-requires c = record { lent = c.requires.lent; mapped = c.requires
 
 pub returns-in_default : goal.returns-in_default
 returns-in_default c =
-    let clear : bit_at c.args.replaced.now (suc c.args.k) ≡ false = ap (bit_at c.args.replaced.now) (sym (add-one c.args.k)) ∙ sym c.is_set.ensures ∙ c.if-is_set.false in record { by_index = λ e told. added_stopped (setting c.args.g c.args.mask.now c.args.fates.now) c.args.map.now c.args.kinds.now e c.args.k (line c.args.from c.args.array.now c.args.register.now c.args.history.now) c.args.sum c.args.replaced.now (omega (arith, c.requires.k_bound, room_most c.args.g)) told clear _ _ _ c.read_part-read.ensures (other_by_tag _ c.in_default.in_default-own.keys2) 0; sum_bound_2 = omega arith }
+    let clear : bit_at c.args.replaced.now (suc c.args.k) ≡ false = ap (bit_at c.args.replaced.now) (sym (add-one c.args.k)) ∙ sym c.is_set.ensures ∙ c.if-is_set.false in record { by_index = λ e told. added_stopped (setting c.args.g c.args.mask.now c.args.fates.now) c.args.map.now c.args.kinds.now e c.args.k (line c.args.from c.args.array.now c.args.register.now c.args.history.now) c.args.sum c.args.replaced.now (omega (arith, c.requires.k_bound, room_most c.args.g)) told clear _ _ _ c.read_part-read.ensures (other_by_not _ c.in_default.not-Passed) 0; sum_bound_2 = omega arith }
 
 pub overflow_add-result : goal.overflow_add-result
 overflow_add-result c =
@@ -39,4 +39,4 @@ overflow_add-result c =
 
 pub returns : goal.returns
 returns c =
-    let clear : bit_at c.args.replaced.now (suc c.args.k) ≡ false = ap (bit_at c.args.replaced.now) (sym (add-one c.args.k)) ∙ sym c.is_set.ensures ∙ c.if-is_set.false in record { by_index = λ e told. added_one (setting c.args.g c.args.mask.now c.args.fates.now) c.args.map.now c.args.kinds.now e c.args.k (line c.args.from c.args.array.now c.args.register.now c.args.history.now) c.args.sum c.args.replaced.now (omega (arith, c.requires.k_bound, room_most c.args.g)) told clear _ _ _ c.read_part-read.ensures (is_passed_lem _ (passed_by_tag _ c.in-Passed.in-Passed-own.keys1)) _ _ c.amount_of.ensures.0 refl; sum_bound_2 = omega (arith, c.requires.sum_bound, c.amount_of.ensures.1, suc-mul c.args.k 281470681677825) }
+    let clear : bit_at c.args.replaced.now (suc c.args.k) ≡ false = ap (bit_at c.args.replaced.now) (sym (add-one c.args.k)) ∙ sym c.is_set.ensures ∙ c.if-is_set.false in record { by_index = λ e told. added_one (setting c.args.g c.args.mask.now c.args.fates.now) c.args.map.now c.args.kinds.now e c.args.k (line c.args.from c.args.array.now c.args.register.now c.args.history.now) c.args.sum c.args.replaced.now (omega (arith, c.requires.k_bound, room_most c.args.g)) told clear _ _ _ c.read_part-read.ensures (is_passed_lem _ (passed_by_is _ c.in-Passed.is)) _ _ c.amount_of.ensures.0 refl; sum_bound_2 = omega (arith, c.requires.sum_bound, c.amount_of.ensures.1, suc-mul c.args.k 281470681677825) }

@@ -6,7 +6,7 @@ use borrow.Author.Rules.{rules}
 use lib.ListN.{length, length-replicate}
 use Rattle.chip_array.specs.Device.{setting}
 use Rattle.bus.specs.Line.{line}
-use Rattle.bus_polling.proofs.OutcomeLaws.{passed_by_tag, other_by_tag, is_passed_lem}
+use Rattle.bus_polling.proofs.OutcomeLaws.{passed_by_is, other_by_not, is_passed_lem}
 use borrow.Author.Tests.{not-true, not-false}
 use Rattle.journal.specs.Records.{room}
 use Rattle.journal.proofs.EndLaws.{room_most, room_within}
@@ -50,7 +50,7 @@ pub returns-in_default : goal.returns-in_default
 returns-in_default c =
     let below : c.loop-n.n < room c.args.g = omega (arith, c.loop-n-test.true, c.room_for-most.ensures) in
     let long = c.loop-n.invariant.4 ∙ c.requires.page_len in
-    pass_stops (setting c.args.g c.args.mask.now c.args.fates.now) c.args.map.now c.args.kinds.now (line c.args.from c.args.array.now c.args.register.now c.args.history.now) (line c.loop-n.b c.loop-n.array c.loop-n.register c.loop-n.history) c.loop-n.n c.loop-n.replaced c.loop-n.invariant.6 below _ long _ c.read_part-read.result.outcome _ c.read_part-read.ensures (other_by_tag _ c.in_default.in_default-own.keys2) 0 _
+    pass_stops (setting c.args.g c.args.mask.now c.args.fates.now) c.args.map.now c.args.kinds.now (line c.args.from c.args.array.now c.args.register.now c.args.history.now) (line c.loop-n.b c.loop-n.array c.loop-n.register c.loop-n.history) c.loop-n.n c.loop-n.replaced c.loop-n.invariant.6 below _ long _ c.read_part-read.result.outcome _ c.read_part-read.ensures (other_by_not _ c.in_default.not-Passed) 0 _
 
 pub is_next-requires : goal.is_next-requires
 is_next-requires c = record { in_bounds = omega (arith, c.page-1.given, c.loop-n.invariant.4, c.requires.page_len, c.requires.lent.is_valid.main_least); before_bound = omega (arith, c.loop-n-test.true, c.room_for-most.ensures, room_most c.args.g) }
@@ -79,7 +79,7 @@ pub returns-then-not-is_next : goal.returns-then-not-is_next
 returns-then-not-is_next c =
     let below : c.loop-n.n < room c.args.g = omega (arith, c.loop-n-test.true, c.room_for-most.ensures) in
     let long = c.loop-n.invariant.4 ∙ c.requires.page_len in
-    pass_ends (setting c.args.g c.args.mask.now c.args.fates.now) c.args.map.now c.args.kinds.now (line c.args.from c.args.array.now c.args.register.now c.args.history.now) (line c.loop-n.b c.loop-n.array c.loop-n.register c.loop-n.history) c.loop-n.n c.loop-n.replaced c.loop-n.invariant.6 below _ long _ c.read_part-read.result.outcome _ c.read_part-read.ensures (is_passed_lem _ (passed_by_tag _ c.in-Passed.in-Passed-own.keys1)) (sym c.is_next.ensures ∙ not-true _ c.if-not-is_next.true-raw)
+    pass_ends (setting c.args.g c.args.mask.now c.args.fates.now) c.args.map.now c.args.kinds.now (line c.args.from c.args.array.now c.args.register.now c.args.history.now) (line c.loop-n.b c.loop-n.array c.loop-n.register c.loop-n.history) c.loop-n.n c.loop-n.replaced c.loop-n.invariant.6 below _ long _ c.read_part-read.result.outcome _ c.read_part-read.ensures (is_passed_lem _ (passed_by_is _ c.in-Passed.is)) (sym c.is_next.ensures ∙ not-true _ c.if-not-is_next.true-raw)
 
 pub replaces_of-requires : goal.replaces_of-requires
 replaces_of-requires c =
@@ -106,7 +106,7 @@ loop-n-preserved c =
       c.history-1.given ∙ c.loop-n.invariant.3,
       c.page-1.given ∙ c.loop-n.invariant.4,
       c.replaced-1.given ∙ c.loop-n.invariant.5,
-      pass_goes (setting c.args.g c.args.mask.now c.args.fates.now) c.args.map.now c.args.kinds.now (line c.args.from c.args.array.now c.args.register.now c.args.history.now) (line c.loop-n.b c.loop-n.array c.loop-n.register c.loop-n.history) c.loop-n.n c.loop-n.replaced c.loop-n.invariant.6 below _ long _ c.read_part-read.result.outcome _ c.read_part-read.ensures (is_passed_lem _ (passed_by_tag _ c.in-Passed.in-Passed-own.keys1)) (sym c.is_next.ensures ∙ not-false _ c.if-not-is_next.false-raw) _ c.replaces_of.ensures.0 c.replaces_of.ensures.1 (c.loop-n.invariant.5 ∙ ap length c.requires.replaced_value ∙ length-replicate {A = ℕ} 8192 0) _ c.set_bit.ensures,
+      pass_goes (setting c.args.g c.args.mask.now c.args.fates.now) c.args.map.now c.args.kinds.now (line c.args.from c.args.array.now c.args.register.now c.args.history.now) (line c.loop-n.b c.loop-n.array c.loop-n.register c.loop-n.history) c.loop-n.n c.loop-n.replaced c.loop-n.invariant.6 below _ long _ c.read_part-read.result.outcome _ c.read_part-read.ensures (is_passed_lem _ (passed_by_is _ c.in-Passed.is)) (sym c.is_next.ensures ∙ not-false _ c.if-not-is_next.false-raw) _ c.replaces_of.ensures.0 c.replaces_of.ensures.1 (c.loop-n.invariant.5 ∙ ap length c.requires.replaced_value ∙ length-replicate {A = ℕ} 8192 0) _ c.set_bit.ensures,
     )
 
 pub shape_of-array : goal.shape_of-array

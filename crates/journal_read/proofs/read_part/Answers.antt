@@ -8,7 +8,7 @@ use Rattle.cells.specs.Cells.{over}
 use Rattle.bus.specs.Line.{line, send_all}
 use Rattle.bus_sequences.specs.Cycles.{read_cycles, read_outcome, read_outputs}
 use Rattle.bools.proofs.BoolLaws.{clash}
-use Rattle.bus_polling.proofs.OutcomeLaws.{other_by_tag}
+use Rattle.bus_polling.proofs.OutcomeLaws.{other_by_not}
 use Rattle.geometry.specs.Sizes.{row_of}
 use Rattle.geometry.proofs.SizeLaws.{row_page_below}
 use Rattle.journal_read.specs.Reads.{block_of}

@@ -6,7 +6,7 @@ use lib.ListN.{length}
 use borrow.Author.Rules.{rules}
 use Rattle.chip_array.specs.Device.{setting}
 use Rattle.bus.specs.Line.{line}
-use Rattle.bus_polling.proofs.OutcomeLaws.{passed_by_tag, other_by_tag, is_passed_lem}
+use Rattle.bus_polling.proofs.OutcomeLaws.{passed_by_is, other_by_not, is_passed_lem}
 use Rattle.journal.proofs.EndLaws.{room_most}
 use Rattle.journal_read.specs.Reads.{pages_by}
 use Rattle.journal_read.proofs.RanLaws.{ran-lent}
@@ -34,7 +34,7 @@ shape_of-history-in_default c =
 
 pub returns-in_default : goal.returns-in_default
 returns-in_default c =
-    sum_stops (setting c.args.g c.args.mask.now c.args.fates.now) c.args.map.now (pages_by c.args.g c.args.array.now c.args.map.now c.args.kinds.now) c.args.records (line c.args.from c.args.array.now c.args.register.now c.args.history.now) (line c.loop-k.b c.loop-k.array c.loop-k.register c.loop-k.history) c.loop-k.k c.loop-k.sum c.loop-k.invariant.4 _ _ _ (added_here (setting c.args.g c.args.mask.now c.args.fates.now) c.args.map.now c.args.kinds.now c.args.records c.loop-k.k c.loop-k.array c.args.array.now (line c.loop-k.b c.loop-k.array c.loop-k.register c.loop-k.history) _ c.add_record-next.result.outcome c.loop-k.sum _ c.args.replaced.now c.loop-k.invariant.4.ran.same_array c.requires.told c.add_record-next.ensures.by_index) c.loop-k-test.true (other_by_tag _ c.in_default.in_default-own.keys2) 0
+    sum_stops (setting c.args.g c.args.mask.now c.args.fates.now) c.args.map.now (pages_by c.args.g c.args.array.now c.args.map.now c.args.kinds.now) c.args.records (line c.args.from c.args.array.now c.args.register.now c.args.history.now) (line c.loop-k.b c.loop-k.array c.loop-k.register c.loop-k.history) c.loop-k.k c.loop-k.sum c.loop-k.invariant.4 _ _ _ (added_here (setting c.args.g c.args.mask.now c.args.fates.now) c.args.map.now c.args.kinds.now c.args.records c.loop-k.k c.loop-k.array c.args.array.now (line c.loop-k.b c.loop-k.array c.loop-k.register c.loop-k.history) _ c.add_record-next.result.outcome c.loop-k.sum _ c.args.replaced.now c.loop-k.invariant.4.ran.same_array c.requires.told c.add_record-next.ensures.by_index) c.loop-k-test.true (other_by_not _ c.in_default.not-Passed) 0
 
 pub overflow_add-k : goal.overflow_add-k
 overflow_add-k c =
@@ -45,7 +45,7 @@ loop-k-smaller c = omega (arith, c.loop-k-test.true)
 
 pub loop-k-preserved : goal.loop-k-preserved
 loop-k-preserved c =
-    (omega (arith, c.loop-k-test.true), c.array-1.given ∙ c.loop-k.invariant.1, c.register-1.given ∙ c.loop-k.invariant.2, c.history-1.given ∙ c.loop-k.invariant.3, sum_goes (setting c.args.g c.args.mask.now c.args.fates.now) c.args.map.now (pages_by c.args.g c.args.array.now c.args.map.now c.args.kinds.now) c.args.records (line c.args.from c.args.array.now c.args.register.now c.args.history.now) (line c.loop-k.b c.loop-k.array c.loop-k.register c.loop-k.history) c.loop-k.k c.loop-k.sum c.loop-k.invariant.4 _ _ _ (added_here (setting c.args.g c.args.mask.now c.args.fates.now) c.args.map.now c.args.kinds.now c.args.records c.loop-k.k c.loop-k.array c.args.array.now (line c.loop-k.b c.loop-k.array c.loop-k.register c.loop-k.history) _ c.add_record-next.result.outcome c.loop-k.sum _ c.args.replaced.now c.loop-k.invariant.4.ran.same_array c.requires.told c.add_record-next.ensures.by_index) (is_passed_lem _ (passed_by_tag _ c.in-Passed.in-Passed-own.keys1)) c.add_record-next.ensures.sum_bound_2)
+    (omega (arith, c.loop-k-test.true), c.array-1.given ∙ c.loop-k.invariant.1, c.register-1.given ∙ c.loop-k.invariant.2, c.history-1.given ∙ c.loop-k.invariant.3, sum_goes (setting c.args.g c.args.mask.now c.args.fates.now) c.args.map.now (pages_by c.args.g c.args.array.now c.args.map.now c.args.kinds.now) c.args.records (line c.args.from c.args.array.now c.args.register.now c.args.history.now) (line c.loop-k.b c.loop-k.array c.loop-k.register c.loop-k.history) c.loop-k.k c.loop-k.sum c.loop-k.invariant.4 _ _ _ (added_here (setting c.args.g c.args.mask.now c.args.fates.now) c.args.map.now c.args.kinds.now c.args.records c.loop-k.k c.loop-k.array c.args.array.now (line c.loop-k.b c.loop-k.array c.loop-k.register c.loop-k.history) _ c.add_record-next.result.outcome c.loop-k.sum _ c.args.replaced.now c.loop-k.invariant.4.ran.same_array c.requires.told c.add_record-next.ensures.by_index) (is_passed_lem _ (passed_by_is _ c.in-Passed.is)) c.add_record-next.ensures.sum_bound_2)
 
 pub shape_of-array : goal.shape_of-array
 shape_of-array c = c.loop-k.invariant.1

@@ -6,7 +6,7 @@ use lib.ListN.{length}
 use borrow.Author.Rules.{rules}
 use Rattle.chip_array.specs.Device.{setting}
 use Rattle.bus.specs.Line.{line}
-use Rattle.bus_polling.proofs.OutcomeLaws.{passed_by_tag, other_by_tag, is_passed_lem}
+use Rattle.bus_polling.proofs.OutcomeLaws.{passed_by_is, other_by_not, is_passed_lem}
 use Rattle.journal.proofs.EndLaws.{room_most}
 use Rattle.journal_read.specs.Reads.{pages_by}
 use Rattle.journal_read.proofs.RanLaws.{ran-lent}

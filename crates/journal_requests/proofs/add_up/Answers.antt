@@ -4,7 +4,7 @@ use native.Mathlib.Omega.{arith}
 use lib.ListN.{length}
 use Rattle.chip_array.specs.Device.{setting}
 use Rattle.bus.specs.Line.{line}
-use Rattle.bus_polling.proofs.OutcomeLaws.{passed_by_tag, other_by_tag}
+use Rattle.bus_polling.proofs.OutcomeLaws.{passed_by_is, other_by_not}
 use Rattle.journal_read.specs.Reads.{pages_by}
 use Rattle.journal_requests.proofs.EndLaws.{mapped, sum_stopped, sum_told}
 use borrow.Author.Rules.{rules}
@@ -31,7 +31,7 @@ stop-requires c =
 
 pub returns-in_default : goal.returns-in_default
 returns-in_default c =
-    sum_stopped (setting c.args.g c.args.mask.now c.args.fates.now) c.args.state.map (pages_by c.args.g c.args.array.now c.args.state.map c.args.state.kinds) c.args.allowed c.args.state (line c.args.from c.args.array.now c.args.register.now c.args.history.now) _ _ c.args.records _ c.total-sum.ensures (other_by_tag _ c.in_default.in_default-own.keys2) (c.stop.ensures _ _ _)
+    sum_stopped (setting c.args.g c.args.mask.now c.args.fates.now) c.args.state.map (pages_by c.args.g c.args.array.now c.args.state.map c.args.state.kinds) c.args.allowed c.args.state (line c.args.from c.args.array.now c.args.register.now c.args.history.now) _ _ c.args.records _ c.total-sum.ensures (other_by_not _ c.in_default.not-Passed) (c.stop.ensures _ _ _)
 
 pub end-requires : goal.end-requires
 end-requires c =
@@ -39,4 +39,4 @@ end-requires c =
 
 pub returns : goal.returns
 returns c =
-    sum_told (setting c.args.g c.args.mask.now c.args.fates.now) c.args.state.map (pages_by c.args.g c.args.array.now c.args.state.map c.args.state.kinds) c.args.allowed c.args.state (line c.args.from c.args.array.now c.args.register.now c.args.history.now) _ _ c.args.records _ c.total-sum.ensures (passed_by_tag _ c.in-Passed.in-Passed-own.keys1) (c.end.ensures _ _ _)
+    sum_told (setting c.args.g c.args.mask.now c.args.fates.now) c.args.state.map (pages_by c.args.g c.args.array.now c.args.state.map c.args.state.kinds) c.args.allowed c.args.state (line c.args.from c.args.array.now c.args.register.now c.args.history.now) _ _ c.args.records _ c.total-sum.ensures (passed_by_is _ c.in-Passed.is) (c.end.ensures _ _ _)

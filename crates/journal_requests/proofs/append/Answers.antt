@@ -2,7 +2,7 @@
 use Prim.Native.Nat.{ℕ}
 use mathlib.Core.Path.{refl, sym, ap₂, ◌∙◌}
 use Rattle.chip_array.specs.Device.{device, setting}
-use Rattle.bus_polling.proofs.OutcomeLaws.{passed_by_tag, other_by_tag}
+use Rattle.bus_polling.proofs.OutcomeLaws.{passed_by_is, other_by_not}
 use Rattle.request.proofs.CallLaws.{sizes}
 use Rattle.journal.specs.Records.{room}
 use Rattle.journal_requests.specs.Requests.{journal_pages, append_refusal}
@@ -27,7 +27,7 @@ returns-in_default c =
     let set = (setting c.args.g c.args.mask.now c.args.fates.now) in
     let d = (device c.args.interface c.args.array.now c.args.register.now c.args.history.now) in
     let a = accepted c.args.g _ c.args.state (sym c.refusal-refused.ensures ∙ c.if-refused-ne0.false) in
-    append_stops set d c.args.allowed c.args.state c.refusal-refused.result c.refusal-refused.ensures c.if-refused-ne0.false _ c.survey-found.result.outcome c.survey-found.result.records _ c.survey-found.ensures c.args.sale (other_by_tag _ c.in_default.in_default-own.keys2) (c.stop.ensures _ _ _)
+    append_stops set d c.args.allowed c.args.state c.refusal-refused.result c.refusal-refused.ensures c.if-refused-ne0.false _ c.survey-found.result.outcome c.survey-found.result.records _ c.survey-found.ensures c.args.sale (other_by_not _ c.in_default.not-Passed) (c.stop.ensures _ _ _)
 
 pub room_for-requires : goal.room_for-requires
 room_for-requires c =
@@ -53,7 +53,7 @@ returns-then-late-ne0 c =
     let set = (setting c.args.g c.args.mask.now c.args.fates.now) in
     let d = (device c.args.interface c.args.array.now c.args.register.now c.args.history.now) in
     let a = accepted c.args.g _ c.args.state (sym c.refusal-refused.ensures ∙ c.if-refused-ne0.false) in
-    let t = passed_by_tag _ c.in-Passed.in-Passed-own.keys1 in
+    let t = passed_by_is _ c.in-Passed.is in
     let late = c.append_refusal-late.ensures (journal_pages set d c.args.state) (c.survey-found.ensures.bits_are t) ∙ ap₂ (λ (x y : ℕ). append_refusal (journal_pages set d c.args.state) x c.survey-found.result.records y) c.room_for.ensures c.wide.ensures.0 in
     append_late set d c.args.allowed c.args.state c.refusal-refused.result c.refusal-refused.ensures c.if-refused-ne0.false _ c.survey-found.result.outcome c.survey-found.result.records _ c.survey-found.ensures t c.args.sale _ late c.if-late-ne0.true (c.end.ensures _ _ _)
 
@@ -62,7 +62,7 @@ enter-requires c =
     let set = (setting c.args.g c.args.mask.now c.args.fates.now) in
     let d = (device c.args.interface c.args.array.now c.args.register.now c.args.history.now) in
     let a = accepted c.args.g _ c.args.state (sym c.refusal-refused.ensures ∙ c.if-refused-ne0.false) in
-    let t = passed_by_tag _ c.in-Passed.in-Passed-own.keys1 in
+    let t = passed_by_is _ c.in-Passed.is in
     let late = c.append_refusal-late.ensures (journal_pages set d c.args.state) (c.survey-found.ensures.bits_are t) ∙ ap₂ (λ (x y : ℕ). append_refusal (journal_pages set d c.args.state) x c.survey-found.result.records y) c.room_for.ensures c.wide.ensures.0 in record { lent = c.survey-found.ensures.ran.next t; left_le_allowed = c.survey-found.ensures.ran.left_most; last_lt_blocks = last_below c.args.g c.args.state (sizes _ _ _ _ _ a.0).chip_fits.is_valid a.1; records_bound = has_room (journal_pages set d c.args.state) (room c.args.g) c.survey-found.result.records c.args.sale.replaces (sym late ∙ c.if-late-ne0.false) }
 
 pub shape_of-array : goal.shape_of-array
@@ -79,6 +79,6 @@ returns c =
     let set = (setting c.args.g c.args.mask.now c.args.fates.now) in
     let d = (device c.args.interface c.args.array.now c.args.register.now c.args.history.now) in
     let a = accepted c.args.g _ c.args.state (sym c.refusal-refused.ensures ∙ c.if-refused-ne0.false) in
-    let t = passed_by_tag _ c.in-Passed.in-Passed-own.keys1 in
+    let t = passed_by_is _ c.in-Passed.is in
     let late = c.append_refusal-late.ensures (journal_pages set d c.args.state) (c.survey-found.ensures.bits_are t) ∙ ap₂ (λ (x y : ℕ). append_refusal (journal_pages set d c.args.state) x c.survey-found.result.records y) c.room_for.ensures c.wide.ensures.0 in
     append_ends set d c.args.allowed c.args.state c.refusal-refused.result c.refusal-refused.ensures c.if-refused-ne0.false _ c.survey-found.result.outcome c.survey-found.result.records _ c.survey-found.ensures t c.args.sale _ late c.if-late-ne0.false c.enter.ensures

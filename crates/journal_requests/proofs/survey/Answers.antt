@@ -25,6 +25,11 @@ slice_bounds-find_end-end c = sym (map_long c.before.before.before.before.before
 pub slice_bounds-find_end-end-2 : goal.slice_bounds-find_end-end-2
 slice_bounds-find_end-end-2 c = sym (kinds_long c.before.before.before.before.before.before.before.before.before.before.before.before.before.before)
 
+pub slice_bounds-page-end : goal.slice_bounds-page-end
+slice_bounds-page-end c =
+    let v = (sizes _ _ _ _ _ c.requires.mask_value).chip_fits.is_valid in
+    omega (arith, v.main_most, length-replicate {A = ℕ} 4096 0)
+
 pub find_end-requires : goal.find_end-requires
 find_end-requires c =
     let set = (setting c.args.g c.args.mask.now c.args.fates.now) in

@@ -8,7 +8,7 @@ use native.Mathlib.Omega.{arith}
 use Rattle.chip_array.specs.Device.{setting}
 use Rattle.bus.specs.Line.{line}
 use Rattle.bus_polling.specs.declared.Outcome.TheVariants.{Passed}
-use Rattle.bus_polling.proofs.OutcomeLaws.{passed_by_tag, other_by_tag}
+use Rattle.bus_polling.proofs.OutcomeLaws.{passed_by_is, other_by_not}
 use Rattle.progress.specs.Progress.{progress}
 use Rattle.scan.specs.Scan.{blocks_read}
 use Rattle.scan_found.proofs.FoundLaws.{table_small}
@@ -40,11 +40,11 @@ pub returns-in_default : goal.returns-in_default
 returns-in_default c =
     let set = setting c.args.g c.args.mask.now c.args.fates.now in
     let l = line c.args.from c.args.array.now c.args.register.now c.args.history.now in
-    λ cs os. c.end.ensures _ _ _ ∙ stopped_end c.args.depth set c.args.allowed (blocks_read c.args.depth set c.args.g.blocks (progress l Passed cs os)) _ c.scan_chip-scanned.result.outcome (c.scan_chip-scanned.ensures.history_after cs os) (c.scan_chip-scanned.ensures.outcome_value cs os) _ _ (other_by_tag _ c.in_default.in_default-own.keys2) c.stop_answer.ensures c.blank.ensures
+    λ cs os. c.end.ensures _ _ _ ∙ stopped_end c.args.depth set c.args.allowed (blocks_read c.args.depth set c.args.g.blocks (progress l Passed cs os)) _ c.scan_chip-scanned.result.outcome (c.scan_chip-scanned.ensures.history_after cs os) (c.scan_chip-scanned.ensures.outcome_value cs os) _ _ (other_by_not _ c.in_default.not-Passed) c.stop_answer.ensures c.blank.ensures
 
 pub judge-answer-requires : goal.judge-answer-requires
 judge-answer-requires c =
-    let p = passed_by_tag _ c.in-Passed.in-Passed-own.keys1 in record { valid = c.requires.called.is_valid; table_bound = subst (λ (x : Found). x.table < 4096) (sym (c.scan_chip-scanned.ensures.found_value p)) (table_small c.args.depth c.args.g c.args.array.now c.args.g.blocks c.requires.called.is_valid.blocks_most) }
+    let p = passed_by_is _ c.in-Passed.is in record { valid = c.requires.called.is_valid; table_bound = subst (λ (x : Found). x.table < 4096) (sym (c.scan_chip-scanned.ensures.found_value p)) (table_small c.args.depth c.args.g c.args.array.now c.args.g.blocks c.requires.called.is_valid.blocks_most) }
 
 pub end-requires-then-answer-ne0 : goal.end-requires-then-answer-ne0
 end-requires-then-answer-ne0 c =
@@ -66,7 +66,7 @@ pub returns-then-answer-ne0 : goal.returns-then-answer-ne0
 returns-then-answer-ne0 c =
     let set = setting c.args.g c.args.mask.now c.args.fates.now in
     let l = line c.args.from c.args.array.now c.args.register.now c.args.history.now in
-    let p = passed_by_tag _ c.in-Passed.in-Passed-own.keys1 in
+    let p = passed_by_is _ c.in-Passed.is in
     let a = answer_found c.args.depth c.args.g c.requires.called.is_valid c.args.array.now _ c.requires.called.array_long c.scan_chip-scanned.ensures.array_unchanged _ _ (c.scan_chip-scanned.ensures.found_value p) (c.scan_chip-scanned.ensures.numbers_after p) in
     λ cs os. c.end-then-answer-ne0.ensures _ _ _ ∙ refused_end c.args.depth set c.args.allowed (blocks_read c.args.depth set c.args.g.blocks (progress l Passed cs os)) _ c.scan_chip-scanned.result.outcome (c.scan_chip-scanned.ensures.history_after cs os) (c.scan_chip-scanned.ensures.outcome_value cs os) p _ (c.judge-answer.ensures ∙ a) _ c.if-answer-ne0.true c.blank-then-answer-ne0.ensures
 
@@ -94,7 +94,7 @@ pub returns : goal.returns
 returns c =
     let set = setting c.args.g c.args.mask.now c.args.fates.now in
     let l = line c.args.from c.args.array.now c.args.register.now c.args.history.now in
-    let p = passed_by_tag _ c.in-Passed.in-Passed-own.keys1 in
+    let p = passed_by_is _ c.in-Passed.is in
     let a = answer_found c.args.depth c.args.g c.requires.called.is_valid c.args.array.now _ c.requires.called.array_long c.scan_chip-scanned.ensures.array_unchanged _ _ (c.scan_chip-scanned.ensures.found_value p) (c.scan_chip-scanned.ensures.numbers_after p) in
     let z = sym (c.judge-answer.ensures ∙ a) ∙ c.if-answer-ne0.false in
     let st = state_found c.args.depth c.args.g c.requires.called.is_valid c.args.array.now _ c.requires.called.array_long c.scan_chip-scanned.ensures.array_unchanged _ _ (c.scan_chip-scanned.ensures.found_value p) (c.scan_chip-scanned.ensures.numbers_after p) z in

@@ -48,6 +48,9 @@ bounds-page-p c = omega (arith, first c.before.before)
 pub write_number-requires : goal.write_number-requires
 write_number-requires c = simp length-set (omega (arith, first c.before.before.before))
 
+pub slice_bounds-zero_bits-end : goal.slice_bounds-zero_bits-end
+slice_bounds-zero_bits-end c = omega (arith, second c.before.before.before)
+
 pub write_pair-requires-2 : goal.write_pair-requires-2
 write_pair-requires-2 c = omega (arith, second c.before.before.before.before.before.before)
 
@@ -62,5 +65,5 @@ returns c =
     let counted : c.zero_bits-check.result ≡ zero_bits (take (c.args.main + 13) c.write_number.new.0) = c.zero_bits-check.ensures ∙ rw sub-zero in
     finished c.args.main c.args.kind c.args.logical c.args.place c.args.number c.zero_bits-check.result c.args.page.now
     c.write_pair.new.0 c.write_number.new.0 c.write_pair-2.new.0 c.fill_ones.new.0
-    (omega (arith, c.requires)) c.requires.kind_value (omega (arith, c.requires))
+    (omega (arith, (c.requires.sized, (c.requires.kind_value, (c.requires.logical_bound, c.requires.place_bound))))) c.requires.kind_value (omega (arith, (c.requires.sized, (c.requires.kind_value, (c.requires.logical_bound, c.requires.place_bound)))))
     c.write_pair.ensures c.write_number.ensures counted c.write_pair-2.ensures c.fill_ones.ensures

@@ -52,8 +52,15 @@ overflow_add-rest c = omega (arith, small c.before.before.before)
 pub slice_bounds-all_ones-count : goal.slice_bounds-all_ones-count
 slice_bounds-all_ones-count c = omega (arith, small c.before.before.before)
 
+pub slice_bounds-all_ones-start : goal.slice_bounds-all_ones-start
+slice_bounds-all_ones-start c = omega (arith, small c.before.before.before)
+
 pub pair_at-requires : goal.pair_at-requires
 pair_at-requires c = omega (arith, small c.before.before.before.before.before.before, c.before.before.before.before.before.before.before.before.before)
+
+pub slice_bounds-zero_bits-end : goal.slice_bounds-zero_bits-end
+slice_bounds-zero_bits-end c =
+    omega (arith, small (place), c.requires)
 
 pub zero_bits-requires : goal.zero_bits-requires
 zero_bits-requires c =

@@ -2,7 +2,7 @@
 use native.Mathlib.Omega.{arith}
 use Rattle.chip_array.specs.Device.{setting}
 use Rattle.bus.specs.Line.{line}
-use Rattle.bus_polling.proofs.OutcomeLaws.{passed_by_tag, other_by_tag}
+use Rattle.bus_polling.proofs.OutcomeLaws.{passed_by_is, other_by_not}
 use Rattle.read_page.proofs.FetchLaws.{fetch_line, fetch_outcome, fetch_stopped, fetch_passed}
 use borrow.Author.Rules.{rules}
 use Rattle.read_page.proofs.fetch.Goals as goal

@@ -3,7 +3,7 @@ use mathlib.Core.Path.{ap}
 use Rattle.chip_array.specs.Device.{device, setting}
 use Rattle.bus.specs.Line.{line}
 use Rattle.bus.specs.declared.Bus.{Bus}
-use Rattle.bus_polling.proofs.OutcomeLaws.{passed_by_tag, other_by_tag}
+use Rattle.bus_polling.proofs.OutcomeLaws.{passed_by_is, other_by_not}
 use Rattle.read_page.proofs.PageLaws.{left_most, ends_passed, ends-stopped}
 use borrow.Author.Rules.{rules}
 use Rattle.read_page.proofs.read_block.Goals as goal

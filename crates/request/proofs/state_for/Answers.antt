@@ -1,11 +1,11 @@
 -- `request::state_for` meets its contract. Assumes nothing.
 use mathlib.Core.Path.{◌∙◌}
-use Rattle.bus_polling.proofs.OutcomeLaws.{passed_by_tag, other_by_tag}
+use Rattle.bus_polling.proofs.OutcomeLaws.{passed_by_is, other_by_not}
 use borrow.Author.Rules.{rules}
 use Rattle.request.proofs.state_for.Goals as goal
 
 pub returns-in_default : goal.returns-in_default
-returns-in_default c = c.blank.ensures ∙ rw (other_by_tag _ c.in_default.in_default-own.keys2)
+returns-in_default c = c.blank.ensures ∙ rw (other_by_not _ c.in_default.not-Passed)
 
 pub returns : goal.returns
-returns c = rw (passed_by_tag _ c.in-Passed.in-Passed-own.keys1)
+returns c = rw (passed_by_is _ c.in-Passed.is)

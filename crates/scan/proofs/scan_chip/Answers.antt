@@ -8,7 +8,7 @@ use borrow.Author.Rules.{rules}
 use lib.ListN.{length}
 use Rattle.chip_array.specs.Device.{setting}
 use Rattle.bus.specs.Line.{line}
-use Rattle.bus_polling.proofs.OutcomeLaws.{passed_by_tag, other_by_tag, is_passed_lem}
+use Rattle.bus_polling.proofs.OutcomeLaws.{passed_by_is, other_by_not, is_passed_lem}
 use Rattle.scan_summary.specs.Summary.{says_complete}
 use Rattle.scan_summary.specs.declared.Summary.{Summary}
 use Rattle.scan_found.specs.Found.{summary_at}
@@ -54,7 +54,7 @@ shape_of-numbers-in_default c =
 
 pub returns-in_default : goal.returns-in_default
 returns-in_default c =
-    let t = other_by_tag _ c.in_default.in_default-own.keys2 in
+    let t = other_by_not _ c.in_default.not-Passed in
     let stops = chip_stops c.args.depth (setting c.args.g c.args.mask.now c.args.fates.now) (line c.args.from c.args.array.now c.args.register.now c.args.history.now) (line c.loop-block.b c.loop-block.array c.loop-block.register c.loop-block.history) c.loop-block.block c.loop-block.found (contents c.args.kinds.now c.args.logicals.now c.args.numbers.now) (contents c.loop-block.kinds c.loop-block.logicals c.loop-block.numbers) c.loop-block-test.true c.loop-block.invariant.8 _ c.scan_at-done.result.outcome c.scan_at-done.ensures.ran t in record { history_after = λ cs os. (stops cs os).0; outcome_value = λ cs os. (stops cs os).1; array_unchanged = c.scan_at-done.ensures.ran.same_array ∙ c.loop-block.invariant.8.same_array; history_unchanged = c.scan_at-done.ensures.ran.same_history ∙ c.loop-block.invariant.8.same_history; called_2 = λ p. absurd (false≢true (sym t ∙ p)); found_value = λ p. absurd (false≢true (sym t ∙ p)); numbers_after = λ p. absurd (false≢true (sym t ∙ p)) }
 
 pub note-found-requires : goal.note-found-requires
@@ -63,7 +63,7 @@ note-found-requires c =
 
 pub note_copy-requires : goal.note_copy-requires
 note_copy-requires c =
-    let p = passed_by_tag _ c.in-Passed.in-Passed-own.keys1 in
+    let p = passed_by_is _ c.in-Passed.is in
     let summary_is = c.scan_at-done.ensures.summary-is p ∙ ap (λ (x : List ℕ). summary_at c.args.depth c.args.g x c.loop-block.block) c.loop-block.invariant.8.same_array in record { kind_bound = subst (λ (x : Summary). says_complete x ≡ true → (x.kind < 256) × (x.logical < 65536)) (sym summary_is)
           (copy_fits c.args.depth c.args.g (omega (arith, c.loop-block.invariant.8.called.is_valid.pages_least)) c.args.array.now (λ i. omega (arith, c.slice_known-1.given i)) c.loop-block.block); block_in_bounds = omega (arith, c.loop-block-test.true, c.loop-block.invariant.5, c.requires.blocks_in_bounds); block_in_bounds_2 = omega (arith, c.loop-block-test.true, c.loop-block.invariant.6, c.requires.blocks_in_bounds_2); block_in_bounds_3 = omega (arith, c.loop-block-test.true, c.loop-block.invariant.7, c.requires.blocks_in_bounds_3) }
 
@@ -77,7 +77,7 @@ loop-block-smaller c =
 
 pub loop-block-preserved : goal.loop-block-preserved
 loop-block-preserved c =
-    let p = passed_by_tag _ c.in-Passed.in-Passed-own.keys1 in
+    let p = passed_by_is _ c.in-Passed.is in
     let t = is_passed_lem _ p in (
       omega (arith, c.loop-block-test.true),
       c.array-1.given ∙ c.loop-block.invariant.1,

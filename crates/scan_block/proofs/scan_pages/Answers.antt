@@ -6,18 +6,18 @@ use borrow.Author.Rules.{rules}
 use lib.ListN.{length}
 use Rattle.chip_array.specs.Device.{setting}
 use Rattle.bus.specs.Line.{line}
-use Rattle.bus_polling.proofs.OutcomeLaws.{passed_by_tag, other_by_tag, is_passed_lem}
+use Rattle.bus_polling.proofs.OutcomeLaws.{passed_by_is, other_by_not, is_passed_lem}
 use Rattle.scan_block.specs.Gathered.{gathered}
 use Rattle.scan_block.proofs.ScanLaws.{Middle, scan_begins, scan_none, scan_goes, scan_stops, scan_ends}
 use Rattle.scan_block.proofs.scan_pages.Goals as goal
 
 pub returns-in_default : goal.returns-in_default
 returns-in_default c =
-    scan_none (setting c.args.g c.args.mask.now c.args.fates.now) (line c.args.from.bus c.args.array.now c.args.register.now c.args.history.now) c.args.from.outcome c.args.block c.args.first c.args.count (gathered c.args.from.summary c.args.from.right c.args.bits.now c.args.page.now) (other_by_tag _ c.in_default.in_default-own.keys2)
+    scan_none (setting c.args.g c.args.mask.now c.args.fates.now) (line c.args.from.bus c.args.array.now c.args.register.now c.args.history.now) c.args.from.outcome c.args.block c.args.first c.args.count (gathered c.args.from.summary c.args.from.right c.args.bits.now c.args.page.now) (other_by_not _ c.in_default.not-Passed)
 
 pub loop-done-init : goal.loop-done-init
 loop-done-init c =
-    (omega arith, refl, refl, refl, refl, refl, scan_begins (setting c.args.g c.args.mask.now c.args.fates.now) (line c.args.from.bus c.args.array.now c.args.register.now c.args.history.now) c.args.block c.args.first (gathered c.args.from.summary c.args.from.right c.args.bits.now c.args.page.now) (c.requires.called (passed_by_tag _ c.in-Passed.in-Passed-own.keys1)))
+    (omega arith, refl, refl, refl, refl, refl, scan_begins (setting c.args.g c.args.mask.now c.args.fates.now) (line c.args.from.bus c.args.array.now c.args.register.now c.args.history.now) c.args.block c.args.first (gathered c.args.from.summary c.args.from.right c.args.bits.now c.args.page.now) (c.requires.called (passed_by_is _ c.in-Passed.is)))
 
 pub overflow_add-place : goal.overflow_add-place
 overflow_add-place c =
@@ -49,7 +49,7 @@ shape_of-bits-in_default-outcome c =
 pub returns-in_default-outcome : goal.returns-in_default-outcome
 returns-in_default-outcome c =
     let long = c.loop-done.invariant.4 ∙ c.requires.page_len in
-    scan_stops (setting c.args.g c.args.mask.now c.args.fates.now) (line c.args.from.bus c.args.array.now c.args.register.now c.args.history.now) (line c.loop-done.b c.loop-done.array c.loop-done.register c.loop-done.history) c.args.block c.args.first c.loop-done.done (gathered c.args.from.summary c.args.from.right c.args.bits.now c.args.page.now) (gathered c.loop-done.summary c.loop-done.right c.loop-done.bits c.loop-done.page) c.requires.block_lt_blocks (omega (arith, c.requires.count_bound, c.loop-done-test.true)) c.loop-done.invariant.6 c.row_of-row.result c.row_of-row.ensures c.loop-done.page long _ c.read-read.result.outcome _ c.read-read.ensures.history_after c.read-read.ensures.outcome_value c.read-read.ensures.buffer_after c.args.from.outcome (is_passed_lem _ (passed_by_tag _ c.in-Passed.in-Passed-own.keys1)) (other_by_tag _ c.in_default-outcome.in_default-outcome-own.keys2) c.args.count c.loop-done-test.true _
+    scan_stops (setting c.args.g c.args.mask.now c.args.fates.now) (line c.args.from.bus c.args.array.now c.args.register.now c.args.history.now) (line c.loop-done.b c.loop-done.array c.loop-done.register c.loop-done.history) c.args.block c.args.first c.loop-done.done (gathered c.args.from.summary c.args.from.right c.args.bits.now c.args.page.now) (gathered c.loop-done.summary c.loop-done.right c.loop-done.bits c.loop-done.page) c.requires.block_lt_blocks (omega (arith, c.requires.count_bound, c.loop-done-test.true)) c.loop-done.invariant.6 c.row_of-row.result c.row_of-row.ensures c.loop-done.page long _ c.read-read.result.outcome _ c.read-read.ensures.history_after c.read-read.ensures.outcome_value c.read-read.ensures.buffer_after c.args.from.outcome (is_passed_lem _ (passed_by_is _ c.in-Passed.is)) (other_by_not _ c.in_default-outcome.not-Passed) c.args.count c.loop-done-test.true _
 
 pub step-summary-requires : goal.step-summary-requires
 step-summary-requires c =
@@ -72,7 +72,7 @@ loop-done-smaller c =
 
 pub loop-done-preserved : goal.loop-done-preserved
 loop-done-preserved c =
-    let t = is_passed_lem _ (passed_by_tag _ c.in-Passed-outcome.in-Passed-outcome-own.keys1) in
+    let t = is_passed_lem _ (passed_by_is _ c.in-Passed-outcome.is) in
     let long = c.loop-done.invariant.4 ∙ c.requires.page_len in (
       omega (arith, c.loop-done-test.true),
       c.array-1.given ∙ c.loop-done.invariant.1,
@@ -102,4 +102,4 @@ pub returns : goal.returns
 returns c =
     let e : c.loop-done.done ≡ c.args.count = omega arith in
     let r = subst (λ (k : ℕ). Middle (setting c.args.g c.args.mask.now c.args.fates.now) (line c.args.from.bus c.args.array.now c.args.register.now c.args.history.now) (line c.loop-done.b c.loop-done.array c.loop-done.register c.loop-done.history) c.args.block c.args.first k (gathered c.args.from.summary c.args.from.right c.args.bits.now c.args.page.now) (gathered c.loop-done.summary c.loop-done.right c.loop-done.bits c.loop-done.page)) e c.loop-done.invariant.6 in
-    scan_ends (setting c.args.g c.args.mask.now c.args.fates.now) (line c.args.from.bus c.args.array.now c.args.register.now c.args.history.now) (line c.loop-done.b c.loop-done.array c.loop-done.register c.loop-done.history) c.args.from.outcome c.args.block c.args.first c.args.count (gathered c.args.from.summary c.args.from.right c.args.bits.now c.args.page.now) (gathered c.loop-done.summary c.loop-done.right c.loop-done.bits c.loop-done.page) (is_passed_lem _ (passed_by_tag _ c.in-Passed.in-Passed-own.keys1)) r
+    scan_ends (setting c.args.g c.args.mask.now c.args.fates.now) (line c.args.from.bus c.args.array.now c.args.register.now c.args.history.now) (line c.loop-done.b c.loop-done.array c.loop-done.register c.loop-done.history) c.args.from.outcome c.args.block c.args.first c.args.count (gathered c.args.from.summary c.args.from.right c.args.bits.now c.args.page.now) (gathered c.loop-done.summary c.loop-done.right c.loop-done.bits c.loop-done.page) (is_passed_lem _ (passed_by_is _ c.in-Passed.is)) r

@@ -6,7 +6,7 @@ use borrow.Author.Rules.{rules}
 use lib.ListN.{length}
 use Rattle.chip_array.specs.Device.{setting}
 use Rattle.bus.specs.Line.{line}
-use Rattle.bus_polling.proofs.OutcomeLaws.{passed_by_tag, other_by_tag, is_passed_lem}
+use Rattle.bus_polling.proofs.OutcomeLaws.{passed_by_is, other_by_not, is_passed_lem}
 use Rattle.scan_block.specs.Gathered.{gathered}
 use Rattle.scan_block.proofs.ScanLaws.{Middle, scan_begins, scan_none, scan_goes, scan_stops, scan_ends}
 use Rattle.scan_block.proofs.scan_pages.Given as goal

@@ -14,8 +14,7 @@ unfolding count_permitted
 loop-b-init c = (omega arith, refl, omega arith)
 
 pub is_permitted-requires : goal.is_permitted-requires
-is_permitted-requires c =    let h : byte_of c.loop-b.b < 512 = omega arith in
-    search rules
+is_permitted-requires c =    let h : byte_of c.loop-b.b < 512 = omega arith in record { block_in_bounds = search rules; block_in_bounds_2 = search rules; block_in_bounds_3 = search rules }
 
 pub loop-b-preserved : goal.loop-b-preserved
 loop-b-preserved c =

@@ -1,6 +1,6 @@
 -- `fill_cursor::Cursor::settle` meets its contract. Assumes nothing.
 use mathlib.Core.Path.{◌≡◌, ◌∙◌}
-use Rattle.bus_polling.proofs.OutcomeLaws.{passed_by_tag, other_by_tag}
+use Rattle.bus_polling.proofs.OutcomeLaws.{passed_by_is, other_by_not}
 use Rattle.fill_cursor.specs.Cursor.{withdrawn}
 use Rattle.fill_cursor.proofs.NextLaws.{settled_unfilled, settled_table, settled_copy}
 use borrow.Author.Rules.{rules}
@@ -8,12 +8,12 @@ use Rattle.fill_cursor.proofs.Cursor.settle.Goals as goal
 
 pub returns-in_default : goal.returns-in_default
 returns-in_default c =
-    c.withdraw.ensures ∙ settled_unfilled c.args.self c.args.state c.args.outcome (other_by_tag _ c.in_default.in_default-own.keys2)
+    c.withdraw.ensures ∙ settled_unfilled c.args.self c.args.state c.args.outcome (other_by_not _ c.in_default.not-Passed)
 
 pub returns-then-phase-ne0 : goal.returns-then-phase-ne0
 returns-then-phase-ne0 c =
-    c.record_table.ensures ∙ settled_table c.args.self c.args.state c.args.outcome (passed_by_tag _ c.in-Passed.in-Passed-own.keys1) c.if-phase-ne0.true
+    c.record_table.ensures ∙ settled_table c.args.self c.args.state c.args.outcome (passed_by_is _ c.in-Passed.is) c.if-phase-ne0.true
 
 pub returns : goal.returns
 returns c =
-    c.record_copy.ensures ∙ settled_copy c.args.self c.args.state c.args.outcome (passed_by_tag _ c.in-Passed.in-Passed-own.keys1) c.if-phase-ne0.false
+    c.record_copy.ensures ∙ settled_copy c.args.self c.args.state c.args.outcome (passed_by_is _ c.in-Passed.is) c.if-phase-ne0.false
