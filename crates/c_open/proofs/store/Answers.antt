@@ -14,6 +14,6 @@ kinds_long s = search rules
 
 pub returns : goal.returns
 returns c =
-    let long = c.store.auto.1.0 ∙ first-long c.args.bytes.now c.requires in
+    let long = c.store.auto.bytes ∙ first-long c.args.bytes.now c.requires in
     stored_open c.args.state c.args.write c.args.bytes.now _ _ _ c.requires (sym (ap length c.store.ensures) ∙ long) (kinds_long s)
-    (put-lent 0 (9248 - 0) c.store.new.1.0 c.args.bytes.now long ∙ ap (λ (ys : List ℕ). put 0 ys c.args.bytes.now) c.store.ensures) c.put_words.ensures c.put_kinds.ensures
+    (put-lent 0 (9248 - 0) c.store.new.bytes c.args.bytes.now long ∙ ap (λ (ys : List ℕ). put 0 ys c.args.bytes.now) c.store.ensures) c.put_words.ensures c.put_kinds.ensures

@@ -8,4 +8,4 @@ use Rattle.c_state.proofs.bits_at.Goals as goal
 
 pub returns : goal.returns
 returns c =
-    bits_read c.args.at (c.args.at + 512 - c.args.at) c.args.bytes.now _ c.copy.new.1.0 (omega arith) c.requires refl c.copy.ensures
+    bits_read c.args.at (c.args.at + 512 - c.args.at) c.args.bytes.now _ c.copy.new.into (omega arith) c.requires refl c.copy.ensures

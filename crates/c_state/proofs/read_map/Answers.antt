@@ -12,7 +12,7 @@ pub overflow_cast-map : goal.overflow_cast-map
 overflow_cast-map c =
     let at = 1056 + 2 * c.loop-l.l in
     let less : c.pair_at.result < 65536 =
-    rw c.pair_at.ensures (pair_lt at c.args.bytes.now (omega arith) (omega (arith, c.shared_slice_known-1.given at)) (omega (arith, c.shared_slice_known-1.given (at + 1)))) in
+    rw c.pair_at.ensures (pair_lt at c.args.bytes.now (omega arith) (omega (arith, c.type_inv.bytes at)) (omega (arith, c.type_inv.bytes (at + 1)))) in
     omega (arith, less)
 
 pub loop-l-preserved : goal.loop-l-preserved

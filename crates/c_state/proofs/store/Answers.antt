@@ -25,8 +25,8 @@ write_map-requires c = record { bytes_len = omega arith; map_len = map_long (pla
 pub returns : goal.returns
 returns c =
     stored c.args.state c.args.bytes.now
-    c.write_number.new.0 c.write_number-2.new.0 c.write_number-3.new.0 c.write_number-4.new.0
-    c.write_bitmaps.new.0 c.write_map.new.0
+    c.write_number.new.bytes c.write_number-2.new.bytes c.write_number-3.new.bytes c.write_number-4.new.bytes
+    c.write_bitmaps.new.bytes c.write_map.new.bytes
     c.requires (marked_long s) (invalid_long s) (map_long s)
     c.write_number.ensures c.write_number-2.ensures c.write_number-3.ensures c.write_number-4.ensures
     c.write_bitmaps.ensures c.write_map.ensures

@@ -10,8 +10,8 @@ loop-l-init c = stored-none _ _
 
 pub loop-l-preserved : goal.loop-l-preserved
 loop-l-preserved c =
-    stored_more c.wide.result c.write_pair.new.0 c.loop-l.invariant c.loop-l-test.true c.requires.map_len (omega (arith, c.requires.bytes_len))
-    c.wide.ensures c.write_pair.auto.0 c.write_pair.ensures
+    stored_more c.wide.result c.write_pair.new.bytes c.loop-l.invariant c.loop-l-test.true c.requires.map_len (omega (arith, c.requires.bytes_len))
+    c.wide.ensures c.write_pair.auto.bytes c.write_pair.ensures
 
 pub shape_of-bytes : goal.shape_of-bytes
 shape_of-bytes c = c.loop-l.invariant.same

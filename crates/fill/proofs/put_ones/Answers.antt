@@ -12,4 +12,4 @@ pub returns : goal.returns
 returns c =
     c.form_main.ensures
     ∙ ap (λ (xs : List ℕ). formed c.args.kind c.args.place xs)
-    (put_ones c.args.g.main c.args.page.now (omega (arith, c.requires.page_len)) _ _ c.erase_whole.auto.0 c.erase_whole.ensures)
+    (put_ones c.args.g.main c.args.page.now (omega (arith, c.requires.page_len)) _ _ c.erase_whole.auto.block c.erase_whole.ensures)

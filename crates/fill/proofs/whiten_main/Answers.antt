@@ -6,4 +6,4 @@ use Rattle.fill.proofs.whiten_main.Goals as goal
 
 pub returns : goal.returns
 returns c =
-    put_white c.args.g.main c.args.page.now (omega (arith, c.requires.page_len)) _ _ c.whiten.auto.1.0 c.args.place c.whiten.ensures
+    put_white c.args.g.main c.args.page.now (omega (arith, c.requires.page_len)) _ _ c.whiten.auto.bytes c.args.place c.whiten.ensures

@@ -8,4 +8,4 @@ use Rattle.journal.proofs.replaces_of.Goals as goal
 pub returns : goal.returns
 unfolding replaces_in
 returns c =
-    (c.pair_at.ensures, rw c.pair_at.ensures (pair_lt 9 c.args.page.now c.requires (omega (arith, c.shared_slice_known-1.given 9)) (omega (arith, c.shared_slice_known-1.given 10))))
+    (c.pair_at.ensures, rw c.pair_at.ensures (pair_lt 9 c.args.page.now c.requires (omega (arith, c.type_inv.page 9)) (omega (arith, c.type_inv.page 10))))

@@ -33,11 +33,6 @@ pub row_of-row-requires : goal.row_of-row-requires
 row_of-row-requires c =
     let is : c.wide-block.result ≡ block_of c.args.g c.args.map.now c.args.k = c.wide-block.ensures ∙ ap (λ (i : ℕ). get_or c.args.map.now i 0) c.block_of_row-logical.ensures in record { valid = c.requires.lent.is_valid; block_lt_blocks = omega (arith, is, block_below (setting c.args.g c.args.mask.now c.args.fates.now) c.args.map.now c.args.kinds.now c.args.k (length c.args.bytes.now) (line c.args.from c.args.array.now c.args.register.now c.args.history.now) c.requires.lent c.requires.mapped c.requires.k_bound c.requires.bytes_len_bound (λ z. c.if-block-eq-NONE.false (is ∙ z))); page_lt_pages = omega (arith, c.page_of_row-page.ensures, row_page_below c.args.g c.requires.lent.is_valid c.args.k) }
 
-pub shape_of-bytes-in_default : goal.shape_of-bytes-in_default
-shape_of-bytes-in_default c = search rules
-
--- the read did not pass
-
 pub returns-in_default : goal.returns-in_default
 returns-in_default c =
     let set = (setting c.args.g c.args.mask.now c.args.fates.now) in
@@ -57,11 +52,6 @@ bounds-kinds-logical c =
 
 pub undo-requires : goal.undo-requires
 undo-requires c = record { page_bound = omega (arith, c.page_of_row-page.ensures, row_page_below c.args.g c.requires.lent.is_valid c.args.k, c.requires.lent.is_valid.pages_most); buffer_len_bound = omega (arith, c.bytes-2-1.given, c.requires.bytes_len_bound, c.requires.lent.is_valid.main_most) }
-
-pub shape_of-bytes : goal.shape_of-bytes
-shape_of-bytes c = search rules
-
--- it passed, and its bytes were undone
 
 pub returns : goal.returns
 returns c =

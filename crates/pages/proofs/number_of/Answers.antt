@@ -5,22 +5,20 @@ use Rattle.pages.specs.Layout.{number_width, kind_of}
 use Rattle.pages.proofs.ByteLaws.{width_eight, number_none, number_is}
 use Rattle.pages.proofs.number_of.Goals as goal
 
-width : (c : tie.After-number-width) → number_width (kind_of c.before.before.before.args.main c.before.before.before.args.page.now) ≡ c.number-width.result
-width c = ap number_width (sym c.before.kind-of.ensures) ∙ sym c.number-width.ensures
-
-pub number_width-width-requires : goal.number_width-width-requires
-number_width-width-requires c = search rules
-
--- the width that was found
-
 pub returns-then-width-eq0 : goal.returns-then-width-eq0
-returns-then-width-eq0 c = number_none _ _ (width c.before ∙ c.if-width-eq0.true)
+returns-then-width-eq0 c =
+    let width : number_width (kind_of c.args.main c.args.page.now) ≡ c.number_width-width.result = ap number_width (sym c.kind_of.ensures) ∙ sym c.number_width-width.ensures in
+    
+    number_none _ _ (width ∙ c.if-width-eq0.true)
 
 pub returns-then-width-eq4 : goal.returns-then-width-eq4
 returns-then-width-eq4 c =
-    rw c.four_at.ensures.0 (number_is c.args.main 4 c.args.page.now (width c.before.before.before ∙ c.if-width-eq4.true))
+    let width : number_width (kind_of c.args.main c.args.page.now) ≡ c.number_width-width.result = ap number_width (sym c.kind_of.ensures) ∙ sym c.number_width-width.ensures in
+    
+    rw c.four_at.ensures.0 (number_is c.args.main 4 c.args.page.now (width ∙ c.if-width-eq4.true))
 
 pub returns : goal.returns
 returns c =
-    let eight = width_eight _ (λ e. c.if-width-eq0.false (sym (width at_width) ∙ e)) (λ e. c.if-width-eq4.false (sym (width at_width) ∙ e)) in
+    let width : number_width (kind_of c.args.main c.args.page.now) ≡ c.number_width-width.result = ap number_width (sym c.kind_of.ensures) ∙ sym c.number_width-width.ensures in
+    let eight = width_eight _ (λ e. c.if-width-eq0.false (sym (width) ∙ e)) (λ e. c.if-width-eq4.false (sym (width) ∙ e)) in
     rw c.number_at.ensures (number_is c.args.main 8 c.args.page.now eight)

@@ -7,10 +7,10 @@ use borrow.Author.Rules.{rules}
 use Rattle.pages.proofs.pair_at.Goals as goal
 
 pub overflow_mul-result : goal.overflow_mul-result
-overflow_mul-result c = omega (arith, c.shared_slice_known-3-1.given (c.args.at + 1), c.shared_slice_known-3-1.given c.args.at)
+overflow_mul-result c = omega (arith, c.type_inv.bytes (c.args.at + 1), c.type_inv.bytes c.args.at)
 
 pub overflow_add-result : goal.overflow_add-result
-overflow_add-result c = omega (arith, c.shared_slice_known-3-1.given (c.args.at + 1), c.shared_slice_known-3-1.given c.args.at)
+overflow_add-result c = omega (arith, c.type_inv.bytes (c.args.at + 1), c.type_inv.bytes c.args.at)
 
 pub returns : goal.returns
 returns c =

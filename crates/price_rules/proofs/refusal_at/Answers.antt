@@ -38,8 +38,6 @@ loop-i-preserved c =
     (λ w. let t = sym c.is_within.ensures ∙ w.0.left in (omega arith, omega (arith, w.1, c.loop-i.invariant.1, cover_same c.args.first.now c.args.last.now c.args.s c.loop-i.i t), none, omega (arith, w.1)))
     c.if-is_within.branch
 
--- after the loop every rule is counted
-
 pub returns-then-covered-eq0 : goal.returns-then-covered-eq0
 returns-then-covered-eq0 c = refused_gap c.args.first.now c.args.last.now c.args.s (none_wrong c.before) (sym (counted c.before) ∙ c.if-covered-eq0.true)
 

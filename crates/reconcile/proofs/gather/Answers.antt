@@ -25,8 +25,6 @@ more c = omega (arith, c.loop-test.true, c.before.loop.invariant.mechanism_in)
 over : (c : tie.After-loop invariant-loop decreases-loop) → length (bn c.before) + length (mn c.before) ≤ c.before.loop.i + c.before.loop.j
 over c = omega (arith, c.loop-test.false)
 
--- what the tests of a turn say of the next numbers, and what is left to take
-
 box-lower : (c : tie.Then1 invariant-loop decreases-loop) → number_at (bn c.before.before.before.before) c.before.before.before.before.loop.i < number_at (mn c.before.before.before.before) c.before.before.before.before.loop.j
 box-lower c = omega (arith, c.if1.true, c.before.before.number_at.ensures, c.before.number-at2.ensures)
 
@@ -50,8 +48,6 @@ both-inside : (c : tie.Else2 invariant-loop decreases-loop) → (c.before.before
 both-inside c =
     let h = c.before.before.before.before.before in
     both_within (bn h) (ba h) (mn h) (ma h) (fine-box h) (fine-mechanism h) (narrow-bn h) (narrow-mn h) h.loop.agreed h.loop.only-box h.loop.only-mechanism h.loop.difference h.loop.i h.loop.j h.loop.invariant (more c.before.before.before.before) (level c)
-
--- one amount minus the other, and the difference so far with it, as the machine holds them
 
 subtracted : (c : tie.After-minus invariant-loop decreases-loop) → to_z w64 (of_z w64 c.minus.result) ≡ sub_ℕ (get_or (ba c.before.before.before.before.before.before.before.before.before) c.before.before.before.before.before.before.before.before.before.loop.i 0) (get_or (ma c.before.before.before.before.before.before.before.before.before) c.before.before.before.before.before.before.before.before.before.loop.j 0)
 subtracted c =

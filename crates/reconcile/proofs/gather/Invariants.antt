@@ -25,7 +25,6 @@ invariant-loop-i l =     Reached l.box_numbers l.box_amounts l.mechanism_numbers
 abbrev pub decreases-loop-i : goal.decreases-loop-i
 decreases-loop-i l =     length l.box_numbers + length l.mechanism_numbers - (l.i + l.j)
 
--- the lists, and what is known of them at the loop's head
 module _ (c : tie.At-loop invariant-loop decreases-loop) where
   abbrev bn : List ℕ
   bn = c.before.before.before.before.before.args.box-numbers.now
@@ -56,5 +55,3 @@ module _ (c : tie.At-loop invariant-loop decreases-loop) where
 
   narrow-ma : Narrow ma
   narrow-ma k = (c.before.shared-slice-known4.given k).fits
-
--- a sale is left, and none is left

@@ -5,7 +5,7 @@ use borrow.Author.Rules.{rules}
 use Rattle.reconcile.proofs.number_at.Goals as goal
 
 pub overflow_cast-result : goal.overflow_cast-result
-overflow_cast-result c = omega (arith, c.shared_slice_known-1.given c.args.i)
+overflow_cast-result c = omega (arith, c.type_inv.numbers c.args.i)
 
 pub returns-then-i-numbers : goal.returns-then-i-numbers
 returns-then-i-numbers c = rw (lt-ltb _ _ c.if-i-numbers.true)

@@ -14,7 +14,7 @@ loop-l-init c = (omega arith, refl)
 
 pub loop-l-preserved : goal.loop-l-preserved
 loop-l-preserved c =
-    (omega arith, empty_on c.args.map.now 4096 c.loop-l.l c.loop-l.other (omega arith) (omega (arith, c.shared_slice_known-1.given c.loop-l.l)) ∙ c.loop-l.invariant.1)
+    (omega arith, empty_on c.args.map.now 4096 c.loop-l.l c.loop-l.other (omega arith) (omega (arith, c.type_inv.map c.loop-l.l)) ∙ c.loop-l.invariant.1)
 
 pub returns : goal.returns
 returns c = empty-over c.args.map.now 4096 c.loop-l.l c.loop-l.other c.loop-l-test.false ∙ c.loop-l.invariant.1

@@ -40,11 +40,11 @@ pub bounds-finished-0 : goal.bounds-finished-0
 bounds-finished-0 c = omega (arith, c.if-finished-ne1.false)
 
 pub hand_back-requires : goal.hand_back-requires
-hand_back-requires c =    let long = right-long _ _ _ (sym c.is_lent_rightly.ensures ∙ not-false _ c.if-not-is_lent_rightly.false-raw) in record { state_len = lent-long c.args.state.now c.advance-ended.new.1.1.0 long.state_long c.advance-ended.auto.1.1.0; interface_len = long.interface_long; sent_len = long.sent_long }
+hand_back-requires c =    let long = right-long _ _ _ (sym c.is_lent_rightly.ensures ∙ not-false _ c.if-not-is_lent_rightly.false-raw) in record { state_len = lent-long c.args.state.now c.advance-ended.new.kept long.state_long c.advance-ended.auto.kept; interface_len = long.interface_long; sent_len = long.sent_long }
 
 pub shape_of-state : goal.shape_of-state
 shape_of-state c =    let long = right-long _ _ _ (sym c.is_lent_rightly.ensures ∙ not-false _ c.if-not-is_lent_rightly.false-raw) in
-    c.state-2-1.given ∙ lent-long c.args.state.now c.advance-ended.new.1.1.0 long.state_long c.advance-ended.auto.1.1.0 ∙ sym long.state_long
+    c.state-2-1.given ∙ lent-long c.args.state.now c.advance-ended.new.kept long.state_long c.advance-ended.auto.kept ∙ sym long.state_long
 
 pub returns : goal.returns
 returns c =
@@ -53,4 +53,4 @@ returns c =
     let right = sym c.is_lent_rightly.ensures ∙ not-false _ c.if-not-is_lent_rightly.false-raw in
     let d = device c.interface_of-start.result c.args.array.now c.args.register.now c.args.history.now in
     let long = (right-long _ _ _ right).state_long in let v = advance_handed_fact set l c.args.allowed c.args.most c.args.finished.now right c.if-finished-ne1.false c.state_of-before.result c.write_of-write.result c.interface_of-start.result c.state_of-before.ensures c.write_of-write.ensures c.interface_of-start.ensures _ _ _ _ _
-    (advanced-page (page-put c.args.state.now c.advance-ended.new.1.1.0 long c.advance-ended.auto.1.1.0) ∙ c.advance-ended.ensures ∙ ap (λ (p : List ℕ). advancing_write set d c.args.allowed (open_state c.state_of-before.result c.write_of-write.result p) c.args.most) (page-lent c.args.state.now long)) (c.hand_back.ensures.by_index _ _ _) c.hand_back.ensures.state_after (single c.args.finished.now c.advance-ended.result.finished c.if-finished-ne1.false) in record { finished_after = v.0; passed_on = v.1 }
+    (advanced-page (page-put c.args.state.now c.advance-ended.new.kept long c.advance-ended.auto.kept) ∙ c.advance-ended.ensures ∙ ap (λ (p : List ℕ). advancing_write set d c.args.allowed (open_state c.state_of-before.result c.write_of-write.result p) c.args.most) (page-lent c.args.state.now long)) (c.hand_back.ensures.by_index _ _ _) c.hand_back.ensures.state_after (single c.args.finished.now c.advance-ended.result.finished c.if-finished-ne1.false) in record { finished_after = v.0; passed_on = v.1 }

@@ -9,15 +9,6 @@ use Rattle.scan_found.proofs.ContentsLaws.{candidate, entry_set, entry_kept, ent
 use borrow.Author.Rules.{rules}
 use Rattle.scan_found.proofs.contents.note_entry.Goals as goal
 
-below : (c : tie.After-wide) → c.wide.result < 4096
-below c =
-    let at-if = c.before.before in
-    let a = at-if.before.before.args in
-    let d = candidate (contents a.kinds.now a.logicals.now a.numbers.now) a.bits.now a.logical a.block (sym at-if.before.is-candidate.ensures ∙ at-if.if1.true) in
-    omega (arith, d.logical_below, at-if.before.before.requires.1, c.wide.ensures)
-
--- what the test of its entry says
-
 replacing : (c : tie.After-does-replace) (b : Bool) → c.does-replace.result ≡ b → let a = c.before.before.before.before.before.before.before.args in
     replaces (contents a.kinds.now a.logicals.now a.numbers.now) a.blocks (get_or a.map.now (get_or a.logicals.now a.block 0) 0) a.block ≡ b
 replacing c b e =
@@ -28,16 +19,28 @@ replacing c b e =
     ∙ e
 
 pub offset_bounds-map-l : goal.offset_bounds-map-l
-offset_bounds-map-l c = search (rules, below c)
+offset_bounds-map-l c =
+    let below : c.wide-l.result < 4096 = let d = candidate (contents c.args.kinds.now c.args.logicals.now c.args.numbers.now) c.args.bits.now c.args.logical c.args.block (sym c.is_candidate.ensures ∙ c.if-is_candidate.true) in omega (arith, d.logical_below, c.requires.1, c.wide-l.ensures) in
+    
+    search (rules, below)
 
 pub bounds-map-l : goal.bounds-map-l
-bounds-map-l c = search (rules, below c)
+bounds-map-l c =
+    let below : c.wide-l.result < 4096 = let d = candidate (contents c.args.kinds.now c.args.logicals.now c.args.numbers.now) c.args.bits.now c.args.logical c.args.block (sym c.is_candidate.ensures ∙ c.if-is_candidate.true) in omega (arith, d.logical_below, c.requires.1, c.wide-l.ensures) in
+    
+    search (rules, below)
 
 pub offset_bounds-map-l-then-does_replace : goal.offset_bounds-map-l-then-does_replace
-offset_bounds-map-l-then-does_replace c = search (rules, below c.before.before.before.before)
+offset_bounds-map-l-then-does_replace c =
+    let below : c.wide-l.result < 4096 = let d = candidate (contents c.args.kinds.now c.args.logicals.now c.args.numbers.now) c.args.bits.now c.args.logical c.args.block (sym c.is_candidate.ensures ∙ c.if-is_candidate.true) in omega (arith, d.logical_below, c.requires.1, c.wide-l.ensures) in
+    
+    search (rules, below)
 
 pub bounds-map-l-then-does_replace : goal.bounds-map-l-then-does_replace
-bounds-map-l-then-does_replace c = search (rules, below c.before.before.before.before)
+bounds-map-l-then-does_replace c =
+    let below : c.wide-l.result < 4096 = let d = candidate (contents c.args.kinds.now c.args.logicals.now c.args.numbers.now) c.args.bits.now c.args.logical c.args.block (sym c.is_candidate.ensures ∙ c.if-is_candidate.true) in omega (arith, d.logical_below, c.requires.1, c.wide-l.ensures) in
+    
+    search (rules, below)
 
 pub returns-then-does_replace : goal.returns-then-does_replace
 returns-then-does_replace c =

@@ -5,8 +5,8 @@ use Rattle.state.specs.State.{number_end}
 use Rattle.state.proofs.NumberLaws.{spent_last}
 use Rattle.state.proofs.State.is_spent.Goals as goal
 
-fits : (c : tie.Start) → c.args.self.number < number_end
-fits c = search rules
-
 pub returns : goal.returns
-returns c = spent_last c.args.self (fits c)
+returns c =
+    let fits : c.args.self.number < number_end = search rules in
+    
+    spent_last c.args.self (fits)

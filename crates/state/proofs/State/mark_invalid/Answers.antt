@@ -15,7 +15,5 @@ with-bits s bits =
 pub set_bit-requires : goal.set_bit-requires
 set_bit-requires c = let h : byte_of c.args.block < 512 = omega arith in search rules
 
--- the state with these bits of invalid blocks
-
 pub returns : goal.returns
 returns c = ap (with-bits c.args.self) c.set_bit.ensures
