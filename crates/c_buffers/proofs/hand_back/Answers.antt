@@ -13,104 +13,30 @@ use Rattle.c_buffers.proofs.BufferLaws.{put_back_lem}
 use borrow.Author.Rules.{rules}
 use Rattle.c_buffers.proofs.hand_back.Goals as goal
 
-status_fits : (s : tie.Start) → Fits w64 s.args.returned.state.status
-status_fits s = search rules
-
-table_fits : (s : tie.Start) → Fits w64 s.args.returned.state.table
-table_fits s = search rules
-
-last_fits : (s : tie.Start) → Fits w64 s.args.returned.state.last
-last_fits s = search rules
-
-number_fits : (s : tie.Start) → Fits w64 s.args.returned.state.number
-number_fits s = search rules
-
-marked_long : (s : tie.Start) → length s.args.returned.state.marked ≡ 512
-marked_long s = search rules
-
-marked-fits : (s : tie.Start) (i : ℕ) → Fits w8 (get_or s.args.returned.state.marked i 0)
-marked-fits s i = search rules
-
-invalid_long : (s : tie.Start) → length s.args.returned.state.invalid ≡ 512
-invalid_long s = search rules
-
-invalid-fits : (s : tie.Start) (i : ℕ) → Fits w8 (get_or s.args.returned.state.invalid i 0)
-invalid-fits s i = search rules
-
-map_long : (s : tie.Start) → length s.args.returned.state.map ≡ 4096
-map_long s = search rules
-
-map_fits : (s : tie.Start) (i : ℕ) → Fits w16 (get_or s.args.returned.state.map i 0)
-map_fits s i = search rules
-
-kinds_long : (s : tie.Start) → length s.args.returned.state.kinds ≡ 4096
-kinds_long s = search (rules, s.well-formed.0.1.1.1.0.1.1.1.1.1.1.1.1.1.0.1.0)
-
-kinds-fit : (s : tie.Start) (i : ℕ) → Fits w8 (get_or s.args.returned.state.kinds i 0)
-kinds-fit s i = search (rules, s.well-formed.0.1.1.1.0.1.1.1.1.1.1.1.1.1.0.1.1)
-
-ranged : (s : tie.Start) → Ranged s.args.returned.state
-ranged s =
-    record {
-      status_fits = (status_fits s).ranges;
-      table_fits = (table_fits s).ranges;
-      last_fits = (last_fits s).ranges;
-      number_fits = (number_fits s).ranges;
-      marked_long = marked_long s;
-      marked_bytes = λ i. (marked-fits s i).fits;
-      invalid_long = invalid_long s;
-      invalid_bytes = λ i. (invalid-fits s i).fits;
-      map_long = map_long s;
-      map_fits = λ i. (map_fits s i).fits;
-      kinds_long = kinds_long s;
-      kinds_bytes = λ i. (kinds-fit s i).fits;
-    }
-
-opened-word : (s : tie.Start) → Fits w64 s.args.write.opened
-opened-word s = search rules
-
-phase-word : (s : tie.Start) → Fits w64 s.args.write.phase
-phase-word s = search rules
-
-step-word : (s : tie.Start) → Fits w64 s.args.write.step
-step-word s = search rules
-
-logical-word : (s : tie.Start) → Fits w64 s.args.write.logical
-logical-word s = search rules
-
-first_word : (s : tie.Start) → Fits w64 s.args.write.first
-first_word s = search rules
-
-old-word : (s : tie.Start) → Fits w64 s.args.write.old
-old-word s = search rules
-
-block-word : (s : tie.Start) → Fits w64 s.args.write.block
-block-word s = search rules
-
-number_word : (s : tie.Start) → Fits w64 s.args.write.number
-number_word s = search rules
-
-page-word : (s : tie.Start) → Fits w64 s.args.write.page
-page-word s = search rules
-
-failed-word : (s : tie.Start) → Fits w64 s.args.write.failed
-failed-word s = search rules
-
-words-ranged : (s : tie.Start) → WordsRanged s.args.write
-words-ranged s =
-    record {
-      opened_fits = (opened-word s).ranges;
-      phase_fits = (phase-word s).ranges;
-      step_fits = (step-word s).ranges;
-      logical_fits = (logical-word s).ranges;
-      first_fits = (first_word s).ranges;
-      old_fits = (old-word s).ranges;
-      block_fits = (block-word s).ranges;
-      number_fits = (number_word s).ranges;
-      page_fits = (page-word s).ranges;
-      failed_fits = (failed-word s).ranges;
-    }
-
 pub returns : goal.returns
 returns c =
-    let page = bytes_page c.args.state.now in record { by_index = put_back_lem c.args.returned.answer c.args.returned.sent (left_open c.args.gone c.args.returned.state c.args.write page) c.args.returned.interface _ _ c.args.sent.now c.leave.ensures c.write_interface.ensures c.requires.sent_len; state_after = ap bytes_open c.leave.ensures ∙ load-left c.args.gone c.args.returned.state c.args.write page (ranged s) (words-ranged s) (length_part 9328 4096 c.args.state.now (omega (arith, c.requires.state_len))) }
+    let status_fits : Fits w64 c.args.returned.state.status = search rules in
+    let table_fits : Fits w64 c.args.returned.state.table = search rules in
+    let last_fits : Fits w64 c.args.returned.state.last = search rules in
+    let number_fits : Fits w64 c.args.returned.state.number = search rules in
+    let marked_long : length c.args.returned.state.marked ≡ 512 = search rules in
+    let marked-fits : (i : ℕ) → Fits w8 (get_or c.args.returned.state.marked i 0) = λ i. search rules in
+    let invalid_long : length c.args.returned.state.invalid ≡ 512 = search rules in
+    let invalid-fits : (i : ℕ) → Fits w8 (get_or c.args.returned.state.invalid i 0) = λ i. search rules in
+    let map_long : length c.args.returned.state.map ≡ 4096 = search rules in
+    let map_fits : (i : ℕ) → Fits w16 (get_or c.args.returned.state.map i 0) = λ i. search rules in
+    let kinds_long : length c.args.returned.state.kinds ≡ 4096 = search (rules, c.well_formed.0.1.1.1.0.1.1.1.1.1.1.1.1.1.0.1.0) in
+    let kinds-fit : (i : ℕ) → Fits w8 (get_or c.args.returned.state.kinds i 0) = λ i. search (rules, c.well_formed.0.1.1.1.0.1.1.1.1.1.1.1.1.1.0.1.1) in
+    let ranged : Ranged c.args.returned.state = record { status_fits = (status_fits).ranges; table_fits = (table_fits).ranges; last_fits = (last_fits).ranges; number_fits = (number_fits).ranges; marked_long = marked_long; marked_bytes = λ i. (marked-fits i).fits; invalid_long = invalid_long; invalid_bytes = λ i. (invalid-fits i).fits; map_long = map_long; map_fits = λ i. (map_fits i).fits; kinds_long = kinds_long; kinds_bytes = λ i. (kinds-fit i).fits; } in
+    let opened-word : Fits w64 c.args.write.opened = search rules in
+    let phase-word : Fits w64 c.args.write.phase = search rules in
+    let step-word : Fits w64 c.args.write.step = search rules in
+    let logical-word : Fits w64 c.args.write.logical = search rules in
+    let first_word : Fits w64 c.args.write.first = search rules in
+    let old-word : Fits w64 c.args.write.old = search rules in
+    let block-word : Fits w64 c.args.write.block = search rules in
+    let number_word : Fits w64 c.args.write.number = search rules in
+    let page-word : Fits w64 c.args.write.page = search rules in
+    let failed-word : Fits w64 c.args.write.failed = search rules in
+    let words-ranged : WordsRanged c.args.write = record { opened_fits = (opened-word).ranges; phase_fits = (phase-word).ranges; step_fits = (step-word).ranges; logical_fits = (logical-word).ranges; first_fits = (first_word).ranges; old_fits = (old-word).ranges; block_fits = (block-word).ranges; number_fits = (number_word).ranges; page_fits = (page-word).ranges; failed_fits = (failed-word).ranges; } in
+    let page = bytes_page c.args.state.now in record { by_index = put_back_lem c.args.returned.answer c.args.returned.sent (left_open c.args.gone c.args.returned.state c.args.write page) c.args.returned.interface _ _ c.args.sent.now c.leave.ensures c.write_interface.ensures c.requires.sent_len; state_after = ap bytes_open c.leave.ensures ∙ load-left c.args.gone c.args.returned.state c.args.write page (ranged) (words-ranged) (length_part 9328 4096 c.args.state.now (omega (arith, c.requires.state_len))) }

@@ -9,11 +9,9 @@ use Rattle.c_open.proofs.ByteLaws.{first-long, stored_open}
 use borrow.Author.Rules.{rules}
 use Rattle.c_open.proofs.store.Goals as goal
 
-kinds_long : (s : tie.Start) → length s.args.state.kinds ≡ 4096
-kinds_long s = search rules
-
 pub returns : goal.returns
 returns c =
+    let kinds_long : length c.args.state.kinds ≡ 4096 = search rules in
     let long = c.store.auto.bytes ∙ first-long c.args.bytes.now c.requires in
-    stored_open c.args.state c.args.write c.args.bytes.now _ _ _ c.requires (sym (ap length c.store.ensures) ∙ long) (kinds_long s)
+    stored_open c.args.state c.args.write c.args.bytes.now _ _ _ c.requires (sym (ap length c.store.ensures) ∙ long) (kinds_long)
     (put-lent 0 (9248 - 0) c.store.new.bytes c.args.bytes.now long ∙ ap (λ (ys : List ℕ). put 0 ys c.args.bytes.now) c.store.ensures) c.put_words.ensures c.put_kinds.ensures

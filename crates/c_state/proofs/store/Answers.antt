@@ -6,27 +6,26 @@ use Rattle.c_state.proofs.PieceLaws.{stored}
 use borrow.Author.Rules.{rules}
 use Rattle.c_state.proofs.store.Goals as goal
 
-marked_long : (s : tie.Start) → length s.args.state.marked ≡ 512
-marked_long s = search rules
-
-invalid_long : (s : tie.Start) → length s.args.state.invalid ≡ 512
-invalid_long s = search rules
-
-map_long : (s : tie.Start) → length s.args.state.map ≡ 4096
-map_long s = search rules
-
 pub slice_bounds-write_map-end : goal.slice_bounds-write_map-end
 slice_bounds-write_map-end c =
-    sym (map_long (place))
+    let map_long : length c.args.state.map ≡ 4096 = search rules in
+    
+    sym (map_long)
 
 pub write_map-requires : goal.write_map-requires
-write_map-requires c = record { bytes_len = omega arith; map_len = map_long (place) }
+write_map-requires c =
+    let map_long : length c.args.state.map ≡ 4096 = search rules in
+     record { bytes_len = omega arith; map_len = map_long }
 
 pub returns : goal.returns
 returns c =
+    let marked_long : length c.args.state.marked ≡ 512 = search rules in
+    let invalid_long : length c.args.state.invalid ≡ 512 = search rules in
+    let map_long : length c.args.state.map ≡ 4096 = search rules in
+    
     stored c.args.state c.args.bytes.now
     c.write_number.new.bytes c.write_number-2.new.bytes c.write_number-3.new.bytes c.write_number-4.new.bytes
     c.write_bitmaps.new.bytes c.write_map.new.bytes
-    c.requires (marked_long s) (invalid_long s) (map_long s)
+    c.requires (marked_long) (invalid_long) (map_long)
     c.write_number.ensures c.write_number-2.ensures c.write_number-3.ensures c.write_number-4.ensures
     c.write_bitmaps.ensures c.write_map.ensures

@@ -9,9 +9,6 @@ use Rattle.format.proofs.WholeLaws.{round-left, round_stop, round_goes_on}
 use borrow.Author.Rules.{rules}
 use Rattle.format.proofs.erase_and_fill.Goals as goal
 
-carried_long : (s : tie.Start) → length s.args.survey.carried ≡ 512
-carried_long s = search rules
-
 pub erase_all-erased-requires : goal.erase_all-erased-requires
 erase_all-erased-requires c = record { called = c.requires.called; page_len = c.requires.page_len }
 
@@ -28,7 +25,9 @@ returns-in_default c =
     λ cs os. c.end.ensures _ _ _ ∙ round_stop set c.args.allowed c.args.survey _ c.passed_over-skip.ensures l _ c.erase_all-erased.result.outcome _ _ c.erase_all-erased.ensures (other_by_not _ c.in_default.not-Passed) _ _ c.stop_answer.ensures c.blank.ensures cs os
 
 pub add_bits-requires : goal.add_bits-requires
-add_bits-requires c = record { blocks_bound = omega (arith, c.requires.called.is_valid.blocks_most); bits_len = carried_long s }
+add_bits-requires c =
+    let carried_long : length c.args.survey.carried ≡ 512 = search rules in
+     record { blocks_bound = omega (arith, c.requires.called.is_valid.blocks_most); bits_len = carried_long }
 
 pub fill_first-requires : goal.fill_first-requires
 fill_first-requires c =

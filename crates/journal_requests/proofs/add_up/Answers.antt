@@ -10,20 +10,23 @@ use Rattle.journal_requests.proofs.EndLaws.{mapped, sum_stopped, sum_told}
 use borrow.Author.Rules.{rules}
 use Rattle.journal_requests.proofs.add_up.Goals as goal
 
-map_long : (s : tie.Start) → length s.args.state.map ≡ 4096
-map_long s = search (rules, s.well-formed.0.1.1.1.1.1.1.1.1.0.1.0)
-
-kinds_long : (s : tie.Start) → length s.args.state.kinds ≡ 4096
-kinds_long s = search (rules, s.well-formed.0.1.1.1.1.1.1.1.1.1.0.1.0)
-
 pub slice_bounds-total-end : goal.slice_bounds-total-end
-slice_bounds-total-end c = sym (map_long c.before.before.before.before.before.before.before.before.before.before.before.before)
+slice_bounds-total-end c =
+    let map_long : length c.args.state.map ≡ 4096 = search (rules, c.well_formed.0.1.1.1.1.1.1.1.1.0.1.0) in
+    
+    sym (map_long)
 
 pub slice_bounds-total-end-2 : goal.slice_bounds-total-end-2
-slice_bounds-total-end-2 c = sym (kinds_long c.before.before.before.before.before.before.before.before.before.before.before.before.before)
+slice_bounds-total-end-2 c =
+    let kinds_long : length c.args.state.kinds ≡ 4096 = search (rules, c.well_formed.0.1.1.1.1.1.1.1.1.1.0.1.0) in
+    
+    sym (kinds_long)
 
 pub total-sum-requires : goal.total-sum-requires
-total-sum-requires c = record { lent = c.requires.lent; mapped = mapped c.args.g c.args.state c.requires.lent.is_valid (map_long s) (kinds_long s) c.requires.logical_value; replaced_len = c.requires.replaced_len.0; records_bound = c.requires.replaced_len.1; told = c.requires.told }
+total-sum-requires c =
+    let map_long : length c.args.state.map ≡ 4096 = search (rules, c.well_formed.0.1.1.1.1.1.1.1.1.0.1.0) in
+    let kinds_long : length c.args.state.kinds ≡ 4096 = search (rules, c.well_formed.0.1.1.1.1.1.1.1.1.1.0.1.0) in
+     record { lent = c.requires.lent; mapped = mapped c.args.g c.args.state c.requires.lent.is_valid (map_long) (kinds_long) c.requires.logical_value; replaced_len = c.requires.replaced_len.0; records_bound = c.requires.replaced_len.1; told = c.requires.told }
 
 pub stop-requires : goal.stop-requires
 stop-requires c =

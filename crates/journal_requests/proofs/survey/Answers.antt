@@ -13,17 +13,17 @@ use Rattle.journal_requests.proofs.EndLaws.{mapped, lent_main, counted-from}
 use borrow.Author.Rules.{rules}
 use Rattle.journal_requests.proofs.survey.Goals as goal
 
-map_long : (s : tie.Start) → length s.args.state.map ≡ 4096
-map_long s = search rules
-
-kinds_long : (s : tie.Start) → length s.args.state.kinds ≡ 4096
-kinds_long s = search rules
-
 pub slice_bounds-find_end-end : goal.slice_bounds-find_end-end
-slice_bounds-find_end-end c = sym (map_long c.before.before.before.before.before.before.before.before.before.before.before.before.before)
+slice_bounds-find_end-end c =
+    let map_long : length c.args.state.map ≡ 4096 = search rules in
+    
+    sym (map_long)
 
 pub slice_bounds-find_end-end-2 : goal.slice_bounds-find_end-end-2
-slice_bounds-find_end-end-2 c = sym (kinds_long c.before.before.before.before.before.before.before.before.before.before.before.before.before.before)
+slice_bounds-find_end-end-2 c =
+    let kinds_long : length c.args.state.kinds ≡ 4096 = search rules in
+    
+    sym (kinds_long)
 
 pub slice_bounds-page-end : goal.slice_bounds-page-end
 slice_bounds-page-end c =
@@ -32,9 +32,11 @@ slice_bounds-page-end c =
 
 pub find_end-requires : goal.find_end-requires
 find_end-requires c =
+    let map_long : length c.args.state.map ≡ 4096 = search rules in
+    let kinds_long : length c.args.state.kinds ≡ 4096 = search rules in
     let set = (setting c.args.g c.args.mask.now c.args.fates.now) in
     let d = (device c.args.interface c.args.array.now c.args.register.now c.args.history.now) in
-    let v = (sizes _ _ _ _ _ c.requires.mask_value).chip_fits.is_valid in record { lent = subst (λ (x : Bus). Lent set (line x c.args.array.now c.args.register.now c.args.history.now)) (sym c.begin-from.ensures) (call_lent set d c.args.allowed c.requires.mask_value); mapped = mapped c.args.g c.args.state v (map_long s) (kinds_long s) c.requires.logical_value; page_len = lent_main c.args.g.main v.main_most; replaced_value = c.requires.replaced_value }
+    let v = (sizes _ _ _ _ _ c.requires.mask_value).chip_fits.is_valid in record { lent = subst (λ (x : Bus). Lent set (line x c.args.array.now c.args.register.now c.args.history.now)) (sym c.begin-from.ensures) (call_lent set d c.args.allowed c.requires.mask_value); mapped = mapped c.args.g c.args.state v (map_long) (kinds_long) c.requires.logical_value; page_len = lent_main c.args.g.main v.main_most; replaced_value = c.requires.replaced_value }
 
 pub returns : goal.returns
 returns c =

@@ -9,12 +9,6 @@ use Rattle.price_rules.specs.Rules.{covering, any_faulted}
 use Rattle.price_rules.proofs.RuleLaws.{cover_more, cover_same, none_more, any_at, refused_wrong, refused_overlap, refused_gap, refused_not}
 use Rattle.price_rules.proofs.refusal_at.Goals as goal
 
-counted : (c : tie.After-loop invariant-loop decreases-loop) → c.before.loop.covered ≡ covering c.before.before.before.before.args.first.now c.before.before.before.before.args.last.now c.before.before.before.before.args.s (length c.before.before.before.before.args.first.now)
-counted c = c.before.loop.invariant.1 ∙ ap (covering c.before.before.before.before.args.first.now c.before.before.before.before.args.last.now c.before.before.before.before.args.s) (omega arith)
-
-none_wrong : (c : tie.After-loop invariant-loop decreases-loop) → any_faulted c.before.before.before.before.args.first.now c.before.before.before.before.args.last.now c.before.before.before.before.args.s (length c.before.before.before.before.args.first.now) ≡ false
-none_wrong c = ap (any_faulted c.before.before.before.before.args.first.now c.before.before.before.before.args.last.now c.before.before.before.before.args.s) (omega arith) ∙ c.before.loop.invariant.2
-
 pub loop-i-init : goal.loop-i-init
 unfolding covering any_faulted
 loop-i-init c = (omega arith, refl, refl, omega arith)
@@ -39,12 +33,24 @@ loop-i-preserved c =
     c.if-is_within.branch
 
 pub returns-then-covered-eq0 : goal.returns-then-covered-eq0
-returns-then-covered-eq0 c = refused_gap c.args.first.now c.args.last.now c.args.s (none_wrong c.before) (sym (counted c.before) ∙ c.if-covered-eq0.true)
+returns-then-covered-eq0 c =
+    let counted : c.loop-i.covered ≡ covering c.args.first.now c.args.last.now c.args.s (length c.args.first.now) = c.loop-i.invariant.1 ∙ ap (covering c.args.first.now c.args.last.now c.args.s) (omega arith) in
+    let none_wrong : any_faulted c.args.first.now c.args.last.now c.args.s (length c.args.first.now) ≡ false = ap (any_faulted c.args.first.now c.args.last.now c.args.s) (omega arith) ∙ c.loop-i.invariant.2 in
+    
+    refused_gap c.args.first.now c.args.last.now c.args.s (none_wrong) (sym (counted) ∙ c.if-covered-eq0.true)
 
 pub returns-then-covered-eq1 : goal.returns-then-covered-eq1
-returns-then-covered-eq1 c =    refused_not c.args.first.now c.args.last.now c.args.s (none_wrong c.before.before)
-    (sym (counted c.before.before) ∙ c.if-covered-eq1.true)
+returns-then-covered-eq1 c =
+    let counted : c.loop-i.covered ≡ covering c.args.first.now c.args.last.now c.args.s (length c.args.first.now) = c.loop-i.invariant.1 ∙ ap (covering c.args.first.now c.args.last.now c.args.s) (omega arith) in
+    let none_wrong : any_faulted c.args.first.now c.args.last.now c.args.s (length c.args.first.now) ≡ false = ap (any_faulted c.args.first.now c.args.last.now c.args.s) (omega arith) ∙ c.loop-i.invariant.2 in
+    
+    refused_not c.args.first.now c.args.last.now c.args.s (none_wrong)
+    (sym (counted) ∙ c.if-covered-eq1.true)
 
 pub returns : goal.returns
-returns c =    refused_overlap c.args.first.now c.args.last.now c.args.s (none_wrong c.before.before)
-    (omega (arith, counted c.before.before, c.if-covered-eq0.false, c.if-covered-eq1.false))
+returns c =
+    let counted : c.loop-i.covered ≡ covering c.args.first.now c.args.last.now c.args.s (length c.args.first.now) = c.loop-i.invariant.1 ∙ ap (covering c.args.first.now c.args.last.now c.args.s) (omega arith) in
+    let none_wrong : any_faulted c.args.first.now c.args.last.now c.args.s (length c.args.first.now) ≡ false = ap (any_faulted c.args.first.now c.args.last.now c.args.s) (omega arith) ∙ c.loop-i.invariant.2 in
+    
+    refused_overlap c.args.first.now c.args.last.now c.args.s (none_wrong)
+    (omega (arith, counted, c.if-covered-eq0.false, c.if-covered-eq1.false))

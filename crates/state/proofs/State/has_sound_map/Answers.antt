@@ -10,6 +10,7 @@ use lib.Dec.{eqb}
 use lib.ListN.{length, set, length-set}
 use Rattle.state.proofs.TakenLaws.{takes_from, takes_block, takes_past, takes_none, takes-over, takes_all}
 use Rattle.state.proofs.State.has_sound_map.Goals as goal
+use Rattle.state.proofs.State.has_sound_map.Goals.{then-block-blocks, else-block-blocks+then-block-ne65535, else-block-blocks+else-block-ne65535}
 
 pub loop-l-init : goal.loop-l-init
 loop-l-init c =
@@ -24,12 +25,14 @@ loop-l-preserved c =
     let on = takes_block c.args.self.map c.args.blocks c.loop-l.taken c.if-block-blocks.taken c.args.logical c.loop-l.l c.loop-l.unsound c.if-block-blocks.unsound c.wide-block.result c.loop-l-test.true c.wide-block.ensures in
     let past = takes_past c.args.self.map c.args.blocks c.loop-l.taken c.if-block-blocks.taken c.args.logical c.loop-l.l c.loop-l.unsound c.if-block-blocks.unsound c.wide-block.result c.loop-l-test.true c.wide-block.ensures in
     let none = takes_none c.args.self.map c.args.blocks c.loop-l.taken c.if-block-blocks.taken c.args.logical c.loop-l.l c.loop-l.unsound c.if-block-blocks.unsound c.wide-block.result c.loop-l-test.true c.wide-block.ensures in
-    ⊎_elim
-    (λ w. (omega arith, on w.0.taken w.1 w.2 ∙ c.loop-l.invariant.1, ap length w.1 ∙ length-set c.loop-l.taken c.wide-block.result 1 ∙ c.loop-l.invariant.2))
-    (⊎_elim
-    (λ w. (omega arith, past w.0.left w.1.taken w.3 ∙ c.loop-l.invariant.1, ap length w.2 ∙ c.loop-l.invariant.2))
-    (λ w. (omega arith, none w.0.left w.1.left w.2 w.3 ∙ c.loop-l.invariant.1, ap length w.2 ∙ c.loop-l.invariant.2)))
-    c.if-block-blocks.branch
+    elim c.if-block-blocks.branch [
+      then-block-blocks w ↦
+      (omega arith, on w.if-block-blocks.true w.taken-is w.unsound-is ∙ c.loop-l.invariant.1, ap length w.taken-is ∙ length-set c.loop-l.taken c.wide-block.result 1 ∙ c.loop-l.invariant.2)
+      | else-block-blocks+then-block-ne65535 w ↦
+      (omega arith, past w.if-block-blocks.false w.if-block-ne65535.true w.unsound-is ∙ c.loop-l.invariant.1, ap length w.taken-is ∙ c.loop-l.invariant.2)
+      | else-block-blocks+else-block-ne65535 w ↦
+      (omega arith, none w.if-block-blocks.false w.if-block-ne65535.false w.taken-is w.unsound-is ∙ c.loop-l.invariant.1, ap length w.taken-is ∙ c.loop-l.invariant.2)
+    ]
 
 pub returns : goal.returns
 returns c =
