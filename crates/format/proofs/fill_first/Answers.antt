@@ -47,7 +47,7 @@ pub erase_old-requires : goal.erase_old-requires
 erase_old-requires c =
     let set = setting c.args.g c.args.mask.now c.args.fates.now in
     let l = line c.args.from c.args.array.now c.args.register.now c.args.history.now in
-    let next = c.fill_tables-ran.ensures.next-called c.if-answer-ne0.false in record { called = next.0; last_lt_blocks = next.1; lt_blocks = c.if-old-g.false; page_len = c.page-1.given ∙ c.requires.page_len; left_le_allowed = omega (arith, c.requires.left_le_allowed, tables_left set c.args.allowed _ l _ _ _ c.fill_tables-ran.ensures) }
+    let next = c.fill_tables-ran.ensures.next_called c.if-answer-ne0.false in record { called = next.0; last_lt_blocks = next.1; lt_blocks = c.if-old-g.false; page_len = c.page-1.given ∙ c.requires.page_len; left_le_allowed = omega (arith, c.requires.left_le_allowed, tables_left set c.args.allowed _ l _ _ _ c.fill_tables-ran.ensures) }
 
 pub shape_of-array : goal.shape_of-array
 shape_of-array c = c.array-2-1.given ∙ c.array-1.given

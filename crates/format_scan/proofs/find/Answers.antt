@@ -65,7 +65,7 @@ loop-block-preserved c =
     let set = setting c.args.g c.args.mask.now c.args.fates.now in
     let l = line c.args.from c.args.array.now c.args.register.now c.args.history.now in
     let p = passed_by_is _ c.in-Passed.is in
-    let next = chip_goes Full set l (line c.loop-block.b c.loop-block.array c.loop-block.register c.loop-block.history) c.loop-block.block c.loop-block.found none (contents_to Full c.args.g c.args.array.now none c.loop-block.block) c.loop-block-test.true c.loop-block.invariant.5 _ c.scan_at-done.result.outcome c.scan_at-done.ensures.ran (is_passed_lem _ p) p (omega (arith, c.loop-block.invariant.5.called.is_valid.pages_least)) c.scan_at-done.result.summary c.scan_at-done.result.right _ (c.scan_at-done.ensures.summary-is p) (c.scan_at-done.ensures.right_is p) (c.scan_at-done.ensures.bits_are p) c.note-found.ensures refl in (
+    let next = chip_goes Full set l (line c.loop-block.b c.loop-block.array c.loop-block.register c.loop-block.history) c.loop-block.block c.loop-block.found none (contents_to Full c.args.g c.args.array.now none c.loop-block.block) c.loop-block-test.true c.loop-block.invariant.5 _ c.scan_at-done.result.outcome c.scan_at-done.ensures.ran (is_passed_lem _ p) p (omega (arith, c.loop-block.invariant.5.called.is_valid.pages_least)) c.scan_at-done.result.summary c.scan_at-done.result.right _ (c.scan_at-done.ensures.summary_is p) (c.scan_at-done.ensures.right_is p) (c.scan_at-done.ensures.bits_are p) c.note-found.ensures refl in (
       omega (arith, c.loop-block-test.true),
       c.array-1.given ∙ c.loop-block.invariant.1,
       c.register-1.given ∙ c.loop-block.invariant.2,

@@ -20,26 +20,26 @@ find-scanned-requires c = record { called = c.requires; page_len = lent-page _ _
 pub returns-in_default : goal.returns-in_default
 returns-in_default c =
     record {
-      line_is = c.find-scanned.ensures.line-is;
-      outcome_is = c.find-scanned.ensures.outcome-is;
-      same_array = c.find-scanned.ensures.same-array;
-      same_history = c.find-scanned.ensures.same-history;
+      line_is = c.find-scanned.ensures.line_is;
+      outcome_is = c.find-scanned.ensures.outcome_is;
+      same_array = c.find-scanned.ensures.same_array;
+      same_history = c.find-scanned.ensures.same_history;
       next = c.find-scanned.ensures.next;
       survey_is = λ t. clash t (other_by_not _ c.in_default.not-Passed);
     }
 
 pub take_over-survey-requires : goal.take_over-survey-requires
 take_over-survey-requires c =
-    let p = passed_by_is _ c.in-Passed.is in record { valid = c.requires.is-valid; table_bound = subst (λ (x : Found). x.table < 4096) (sym (c.find-scanned.ensures.found-is p)) (table_small Full c.args.g c.args.array.now c.args.g.blocks c.requires.is-valid.blocks_most) }
+    let p = passed_by_is _ c.in-Passed.is in record { valid = c.requires.is-valid; table_bound = subst (λ (x : Found). x.table < 4096) (sym (c.find-scanned.ensures.found_is p)) (table_small Full c.args.g c.args.array.now c.args.g.blocks c.requires.is-valid.blocks_most) }
 
 pub returns : goal.returns
 returns c =
     let p = passed_by_is _ c.in-Passed.is in
     record {
-      line_is = c.find-scanned.ensures.line-is;
-      outcome_is = c.find-scanned.ensures.outcome-is;
-      same_array = c.find-scanned.ensures.same-array;
-      same_history = c.find-scanned.ensures.same-history;
+      line_is = c.find-scanned.ensures.line_is;
+      outcome_is = c.find-scanned.ensures.outcome_is;
+      same_array = c.find-scanned.ensures.same_array;
+      same_history = c.find-scanned.ensures.same_history;
       next = c.find-scanned.ensures.next;
-      survey_is = λ t. c.take_over-survey.ensures ∙ ap (survey_of c.args.g) (c.find-scanned.ensures.found-is p) ∙ survey_found c.args.g c.requires.is-valid c.args.array.now c.requires.array_long;
+      survey_is = λ t. c.take_over-survey.ensures ∙ ap (survey_of c.args.g) (c.find-scanned.ensures.found_is p) ∙ survey_found c.args.g c.requires.is-valid c.args.array.now c.requires.array_long;
     }

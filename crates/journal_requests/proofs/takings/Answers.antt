@@ -32,7 +32,7 @@ add_up-requires c =
     let set = (setting c.args.g c.args.mask.now c.args.fates.now) in
     let d = (device c.args.interface c.args.array.now c.args.register.now c.args.history.now) in
     let a = accepted c.args.g _ c.args.state (sym c.refusal-refused.ensures ∙ c.if-refused-ne0.false) in
-    let t = passed_by_is _ c.in-Passed.is in record { lent = c.survey-found.ensures.ran.next t; left_le_allowed = c.survey-found.ensures.ran.left_most; logical_value = a.1; replaced_len = (c.replaced-2-1.given, records-most (journal_pages set d c.args.state) (room c.args.g) c.survey-found.result.records (c.survey-found.ensures.records-are t)); told = told_here c.args.g c.args.state.map c.args.state.kinds c.survey-found.result.records _ c.survey-found.ensures.ran.same_array (c.survey-found.ensures.bits_are t) }
+    let t = passed_by_is _ c.in-Passed.is in record { lent = c.survey-found.ensures.ran.next t; left_le_allowed = c.survey-found.ensures.ran.left_most; logical_value = a.1; replaced_len = (c.replaced-2-1.given, records-most (journal_pages set d c.args.state) (room c.args.g) c.survey-found.result.records (c.survey-found.ensures.records_are t)); told = told_here c.args.g c.args.state.map c.args.state.kinds c.survey-found.result.records _ c.survey-found.ensures.ran.same_array (c.survey-found.ensures.bits_are t) }
 
 pub returns : goal.returns
 returns c =

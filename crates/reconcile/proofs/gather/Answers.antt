@@ -23,7 +23,7 @@ pub loop-i-init : goal.loop-i-init
 loop-i-init c = start _ _ _ _
 
 pub overflow_add-i : goal.overflow_add-i
-overflow_add-i c = omega (arith, c.loop-i.invariant.box_in, c.loop-i.invariant.mechanism-in, (fine-box c).short, (fine-mechanism c).short)
+overflow_add-i c = omega (arith, c.loop-i.invariant.box_in, c.loop-i.invariant.mechanism_in, (fine-box c).short, (fine-mechanism c).short)
 
 pub overflow_add-box_numbers : goal.overflow_add-box_numbers
 overflow_add-box_numbers c = omega (arith, (fine-box c).short, (fine-mechanism c).short)
@@ -44,7 +44,7 @@ bounds-box_amounts-i c =
 
 pub overflow_add-only_box : goal.overflow_add-only_box
 overflow_add-only_box c =
-    omega (arith, c.loop-i.invariant.only-box-is, sum_so_far (bn h) (ba h) (fine-box h) (narrow-ba h) (sales (mn h) (ma h)) c.loop-i.i c.loop-i.invariant.box_in if_missing missing_at-most, c.wide-only_box.ensures, narrow-ba h c.loop-i.i)
+    omega (arith, c.loop-i.invariant.only_box_is, sum_so_far (bn h) (ba h) (fine-box h) (narrow-ba h) (sales (mn h) (ma h)) c.loop-i.i c.loop-i.invariant.box_in if_missing missing_at-most, c.wide-only_box.ensures, narrow-ba h c.loop-i.i)
 
 pub overflow_add-i : goal.overflow_add-i
 overflow_add-i c =
@@ -55,7 +55,7 @@ overflow_add-i c =
 
 pub loop-i-smaller-then-number-other : goal.loop-i-smaller-then-number-other
 loop-i-smaller-then-number-other c =
-    let more : c.loop-i.i + c.loop-i.j < length (bn c.before) + length (mn c.before) = omega (arith, c.loop-i-test.true, c.loop-i.invariant.mechanism-in) in
+    let more : c.loop-i.i + c.loop-i.j < length (bn c.before) + length (mn c.before) = omega (arith, c.loop-i-test.true, c.loop-i.invariant.mechanism_in) in
     
     omega (arith, more)
 
@@ -81,7 +81,7 @@ bounds-mechanism_amounts-j c =
 
 pub overflow_add-only_mechanism : goal.overflow_add-only_mechanism
 overflow_add-only_mechanism c =
-    omega (arith, c.loop-i.invariant.only-mechanism-is, sum_so_far (mn h) (ma h) (fine-mechanism h) (narrow-ma h) (sales (bn h) (ba h)) c.loop-i.j c.loop-i.invariant.mechanism-in if_missing missing_at-most, c.wide-only_mechanism.ensures, narrow-ma h c.loop-i.j)
+    omega (arith, c.loop-i.invariant.only_mechanism_is, sum_so_far (mn h) (ma h) (fine-mechanism h) (narrow-ma h) (sales (bn h) (ba h)) c.loop-i.j c.loop-i.invariant.mechanism_in if_missing missing_at-most, c.wide-only_mechanism.ensures, narrow-ma h c.loop-i.j)
 
 pub overflow_add-j : goal.overflow_add-j
 overflow_add-j c =
@@ -92,7 +92,7 @@ overflow_add-j c =
 
 pub loop-i-smaller-then-other-number : goal.loop-i-smaller-then-other-number
 loop-i-smaller-then-other-number c =
-    let more : c.loop-i.i + c.loop-i.j < length (bn c.before) + length (mn c.before) = omega (arith, c.loop-i-test.true, c.loop-i.invariant.mechanism-in) in
+    let more : c.loop-i.i + c.loop-i.j < length (bn c.before) + length (mn c.before) = omega (arith, c.loop-i-test.true, c.loop-i.invariant.mechanism_in) in
     
     omega (arith, more)
 
@@ -104,7 +104,7 @@ loop-i-preserved-then-other-number c =
 
 pub offset_bounds-box_amounts-i-in-loop-i : goal.offset_bounds-box_amounts-i-in-loop-i
 offset_bounds-box_amounts-i-in-loop-i c =
-    let more : c.loop-i.i + c.loop-i.j < length (bn c.before) + length (mn c.before) = omega (arith, c.loop-i-test.true, c.loop-i.invariant.mechanism-in) in
+    let more : c.loop-i.i + c.loop-i.j < length (bn c.before) + length (mn c.before) = omega (arith, c.loop-i-test.true, c.loop-i.invariant.mechanism_in) in
     let level : number_at (bn c.before.before.before.before.before) c.loop-i.i ≡ number_at (mn c.before.before.before.before.before) c.loop-i.j = omega (arith, c.if-other-number.false, c.if-number-other.false, c.number_at-number.ensures, c.number_at-other.ensures) in
     let both-inside : (c.loop-i.i < length (bn c.before.before.before.before.before)) × (c.loop-i.j < length (mn c.before.before.before.before.before)) = both_within (bn h) (ba h) (mn h) (ma h) (fine-box h) (fine-mechanism h) (narrow-bn h) (narrow-mn h) c.loop-i.agreed c.loop-i.only-box c.loop-i.only-mechanism c.loop-i.difference-bits c.loop-i.i c.loop-i.j c.loop-i.invariant (more) (level) in
     
@@ -112,7 +112,7 @@ offset_bounds-box_amounts-i-in-loop-i c =
 
 pub bounds-box_amounts-i-in-loop-i : goal.bounds-box_amounts-i-in-loop-i
 bounds-box_amounts-i-in-loop-i c =
-    let more : c.loop-i.i + c.loop-i.j < length (bn c.before) + length (mn c.before) = omega (arith, c.loop-i-test.true, c.loop-i.invariant.mechanism-in) in
+    let more : c.loop-i.i + c.loop-i.j < length (bn c.before) + length (mn c.before) = omega (arith, c.loop-i-test.true, c.loop-i.invariant.mechanism_in) in
     let level : number_at (bn c.before.before.before.before.before) c.loop-i.i ≡ number_at (mn c.before.before.before.before.before) c.loop-i.j = omega (arith, c.if-other-number.false, c.if-number-other.false, c.number_at-number.ensures, c.number_at-other.ensures) in
     let both-inside : (c.loop-i.i < length (bn c.before.before.before.before.before)) × (c.loop-i.j < length (mn c.before.before.before.before.before)) = both_within (bn h) (ba h) (mn h) (ma h) (fine-box h) (fine-mechanism h) (narrow-bn h) (narrow-mn h) c.loop-i.agreed c.loop-i.only-box c.loop-i.only-mechanism c.loop-i.difference-bits c.loop-i.i c.loop-i.j c.loop-i.invariant (more) (level) in
     
@@ -120,7 +120,7 @@ bounds-box_amounts-i-in-loop-i c =
 
 pub offset_bounds-mechanism_amounts-j-in-loop-i : goal.offset_bounds-mechanism_amounts-j-in-loop-i
 offset_bounds-mechanism_amounts-j-in-loop-i c =
-    let more : c.loop-i.i + c.loop-i.j < length (bn c.before) + length (mn c.before) = omega (arith, c.loop-i-test.true, c.loop-i.invariant.mechanism-in) in
+    let more : c.loop-i.i + c.loop-i.j < length (bn c.before) + length (mn c.before) = omega (arith, c.loop-i-test.true, c.loop-i.invariant.mechanism_in) in
     let level : number_at (bn c.before.before.before.before.before) c.loop-i.i ≡ number_at (mn c.before.before.before.before.before) c.loop-i.j = omega (arith, c.if-other-number.false, c.if-number-other.false, c.number_at-number.ensures, c.number_at-other.ensures) in
     let both-inside : (c.loop-i.i < length (bn c.before.before.before.before.before)) × (c.loop-i.j < length (mn c.before.before.before.before.before)) = both_within (bn h) (ba h) (mn h) (ma h) (fine-box h) (fine-mechanism h) (narrow-bn h) (narrow-mn h) c.loop-i.agreed c.loop-i.only-box c.loop-i.only-mechanism c.loop-i.difference-bits c.loop-i.i c.loop-i.j c.loop-i.invariant (more) (level) in
     
@@ -128,7 +128,7 @@ offset_bounds-mechanism_amounts-j-in-loop-i c =
 
 pub bounds-mechanism_amounts-j-in-loop-i : goal.bounds-mechanism_amounts-j-in-loop-i
 bounds-mechanism_amounts-j-in-loop-i c =
-    let more : c.loop-i.i + c.loop-i.j < length (bn c.before) + length (mn c.before) = omega (arith, c.loop-i-test.true, c.loop-i.invariant.mechanism-in) in
+    let more : c.loop-i.i + c.loop-i.j < length (bn c.before) + length (mn c.before) = omega (arith, c.loop-i-test.true, c.loop-i.invariant.mechanism_in) in
     let level : number_at (bn c.before.before.before.before.before) c.loop-i.i ≡ number_at (mn c.before.before.before.before.before) c.loop-i.j = omega (arith, c.if-other-number.false, c.if-number-other.false, c.number_at-number.ensures, c.number_at-other.ensures) in
     let both-inside : (c.loop-i.i < length (bn c.before.before.before.before.before)) × (c.loop-i.j < length (mn c.before.before.before.before.before)) = both_within (bn h) (ba h) (mn h) (ma h) (fine-box h) (fine-mechanism h) (narrow-bn h) (narrow-mn h) c.loop-i.agreed c.loop-i.only-box c.loop-i.only-mechanism c.loop-i.difference-bits c.loop-i.i c.loop-i.j c.loop-i.invariant (more) (level) in
     
@@ -136,11 +136,11 @@ bounds-mechanism_amounts-j-in-loop-i c =
 
 pub overflow_add-agreed : goal.overflow_add-agreed
 overflow_add-agreed c =
-    omega (arith, c.loop-i.invariant.agreed-is, sum_so_far (bn h) (ba h) (fine-box h) (narrow-ba h) (sales (mn h) (ma h)) c.loop-i.i c.loop-i.invariant.box_in if_agreed agreed-at-most, c.if_agreed-agreed.ensures, agreed-at-most (some (get_or (ma h) c.loop-i.j 0)) (get_or (ba h) c.loop-i.i 0), narrow-ba h c.loop-i.i)
+    omega (arith, c.loop-i.invariant.agreed_is, sum_so_far (bn h) (ba h) (fine-box h) (narrow-ba h) (sales (mn h) (ma h)) c.loop-i.i c.loop-i.invariant.box_in if_agreed agreed-at-most, c.if_agreed-agreed.ensures, agreed-at-most (some (get_or (ma h) c.loop-i.j 0)) (get_or (ba h) c.loop-i.i 0), narrow-ba h c.loop-i.i)
 
 pub plus-difference-requires : goal.plus-difference-requires
 plus-difference-requires c =
-    let more : c.loop-i.i + c.loop-i.j < length (bn c.before) + length (mn c.before) = omega (arith, c.loop-i-test.true, c.loop-i.invariant.mechanism-in) in
+    let more : c.loop-i.i + c.loop-i.j < length (bn c.before) + length (mn c.before) = omega (arith, c.loop-i-test.true, c.loop-i.invariant.mechanism_in) in
     let level : number_at (bn c.before.before.before.before.before) c.loop-i.i ≡ number_at (mn c.before.before.before.before.before) c.loop-i.j = omega (arith, c.if-other-number.false, c.if-number-other.false, c.number_at-number.ensures, c.number_at-other.ensures) in
     let subtracted : to_z w64 (of_z w64 c.minus.result) ≡ sub_ℕ (get_or (ba c.before.before.before.before.before.before.before.before.before) c.loop-i.i 0) (get_or (ma c.before.before.before.before.before.before.before.before.before) c.loop-i.j 0) = ap (λ (z : ℤ). to_z w64 (of_z w64 z)) c.minus.ensures ∙ to_z-of_z (sub_fits (get_or (ba h) c.loop-i.i 0) (get_or (ma h) c.loop-i.j 0) (narrow-ba h c.loop-i.i) (narrow-ma h c.loop-i.j)) in
     
@@ -148,7 +148,7 @@ plus-difference-requires c =
 
 pub overflow_add-i-in-loop-i : goal.overflow_add-i-in-loop-i
 overflow_add-i-in-loop-i c =
-    let more : c.loop-i.i + c.loop-i.j < length (bn c.before) + length (mn c.before) = omega (arith, c.loop-i-test.true, c.loop-i.invariant.mechanism-in) in
+    let more : c.loop-i.i + c.loop-i.j < length (bn c.before) + length (mn c.before) = omega (arith, c.loop-i-test.true, c.loop-i.invariant.mechanism_in) in
     let level : number_at (bn c.before.before.before.before.before) c.loop-i.i ≡ number_at (mn c.before.before.before.before.before) c.loop-i.j = omega (arith, c.if-other-number.false, c.if-number-other.false, c.number_at-number.ensures, c.number_at-other.ensures) in
     let both-inside : (c.loop-i.i < length (bn c.before.before.before.before.before)) × (c.loop-i.j < length (mn c.before.before.before.before.before)) = both_within (bn h) (ba h) (mn h) (ma h) (fine-box h) (fine-mechanism h) (narrow-bn h) (narrow-mn h) c.loop-i.agreed c.loop-i.only-box c.loop-i.only-mechanism c.loop-i.difference-bits c.loop-i.i c.loop-i.j c.loop-i.invariant (more) (level) in
     
@@ -156,7 +156,7 @@ overflow_add-i-in-loop-i c =
 
 pub overflow_add-j-in-loop-i : goal.overflow_add-j-in-loop-i
 overflow_add-j-in-loop-i c =
-    let more : c.loop-i.i + c.loop-i.j < length (bn c.before) + length (mn c.before) = omega (arith, c.loop-i-test.true, c.loop-i.invariant.mechanism-in) in
+    let more : c.loop-i.i + c.loop-i.j < length (bn c.before) + length (mn c.before) = omega (arith, c.loop-i-test.true, c.loop-i.invariant.mechanism_in) in
     let level : number_at (bn c.before.before.before.before.before) c.loop-i.i ≡ number_at (mn c.before.before.before.before.before) c.loop-i.j = omega (arith, c.if-other-number.false, c.if-number-other.false, c.number_at-number.ensures, c.number_at-other.ensures) in
     let both-inside : (c.loop-i.i < length (bn c.before.before.before.before.before)) × (c.loop-i.j < length (mn c.before.before.before.before.before)) = both_within (bn h) (ba h) (mn h) (ma h) (fine-box h) (fine-mechanism h) (narrow-bn h) (narrow-mn h) c.loop-i.agreed c.loop-i.only-box c.loop-i.only-mechanism c.loop-i.difference-bits c.loop-i.i c.loop-i.j c.loop-i.invariant (more) (level) in
     
@@ -164,13 +164,13 @@ overflow_add-j-in-loop-i c =
 
 pub loop-i-smaller : goal.loop-i-smaller
 loop-i-smaller c =
-    let more : c.loop-i.i + c.loop-i.j < length (bn c.before) + length (mn c.before) = omega (arith, c.loop-i-test.true, c.loop-i.invariant.mechanism-in) in
+    let more : c.loop-i.i + c.loop-i.j < length (bn c.before) + length (mn c.before) = omega (arith, c.loop-i-test.true, c.loop-i.invariant.mechanism_in) in
     
     omega (arith, more)
 
 pub loop-i-preserved : goal.loop-i-preserved
 loop-i-preserved c =
-    let more : c.loop-i.i + c.loop-i.j < length (bn c.before) + length (mn c.before) = omega (arith, c.loop-i-test.true, c.loop-i.invariant.mechanism-in) in
+    let more : c.loop-i.i + c.loop-i.j < length (bn c.before) + length (mn c.before) = omega (arith, c.loop-i-test.true, c.loop-i.invariant.mechanism_in) in
     let level : number_at (bn c.before.before.before.before.before) c.loop-i.i ≡ number_at (mn c.before.before.before.before.before) c.loop-i.j = omega (arith, c.if-other-number.false, c.if-number-other.false, c.number_at-number.ensures, c.number_at-other.ensures) in
     let subtracted : to_z w64 (of_z w64 c.minus.result) ≡ sub_ℕ (get_or (ba c.before.before.before.before.before.before.before.before.before) c.loop-i.i 0) (get_or (ma c.before.before.before.before.before.before.before.before.before) c.loop-i.j 0) = ap (λ (z : ℤ). to_z w64 (of_z w64 z)) c.minus.ensures ∙ to_z-of_z (sub_fits (get_or (ba h) c.loop-i.i 0) (get_or (ma h) c.loop-i.j 0) (narrow-ba h c.loop-i.i) (narrow-ma h c.loop-i.j)) in
     let summed : c.plus-difference.result ≡ to_z w64 c.loop-i.difference-bits +ℤ sub_ℕ (get_or (ba c.before.before.before.before.before.before.before.before.before.before) c.loop-i.i 0) (get_or (ma c.before.before.before.before.before.before.before.before.before.before) c.loop-i.j 0) = c.plus-difference.ensures ∙ ap (λ (z : ℤ). to_z w64 c.loop-i.difference-bits +ℤ z) (subtracted) in

@@ -61,6 +61,12 @@ pub note-found-requires : goal.note-found-requires
 note-found-requires c =
     omega (arith, c.loop-block-test.true, c.loop-block.invariant.8.called.is_valid.blocks_most)
 
+pub note_copy-requires : goal.note_copy-requires
+note_copy-requires c =
+    let p = passed_by_is _ c.in-Passed.is in
+    let summary_is = c.scan_at-done.ensures.summary_is p ∙ ap (λ (x : List ℕ). summary_at c.args.depth c.args.g x c.loop-block.block) c.loop-block.invariant.8.same_array in record { kind_bound = subst (λ (x : Summary). says_complete x ≡ true → (x.kind < 256) × (x.logical < 65536)) (sym summary_is)
+          (copy_fits c.args.depth c.args.g (omega (arith, c.loop-block.invariant.8.called.is_valid.pages_least)) c.args.array.now (λ i. omega (arith, c.slice_known-1.given i)) c.loop-block.block); block_in_bounds = omega (arith, c.loop-block-test.true, c.loop-block.invariant.5, c.requires.blocks_in_bounds); block_in_bounds_2 = omega (arith, c.loop-block-test.true, c.loop-block.invariant.6, c.requires.blocks_in_bounds_2); block_in_bounds_3 = omega (arith, c.loop-block-test.true, c.loop-block.invariant.7, c.requires.blocks_in_bounds_3) }
+
 pub overflow_add-block : goal.overflow_add-block
 overflow_add-block c =
     search (rules, c.loop-block-test.true, c.loop-block.invariant.8.called.is_valid.blocks_most)
@@ -68,6 +74,21 @@ overflow_add-block c =
 pub loop-block-smaller : goal.loop-block-smaller
 loop-block-smaller c =
     omega (arith, c.loop-block-test.true)
+
+pub loop-block-preserved : goal.loop-block-preserved
+loop-block-preserved c =
+    let p = passed_by_is _ c.in-Passed.is in
+    let t = is_passed_lem _ p in (
+      omega (arith, c.loop-block-test.true),
+      c.array-1.given ∙ c.loop-block.invariant.1,
+      c.register-1.given ∙ c.loop-block.invariant.2,
+      c.history-1.given ∙ c.loop-block.invariant.3,
+      c.page-1.given ∙ c.loop-block.invariant.4,
+      c.kinds-1.given ∙ c.loop-block.invariant.5,
+      c.logicals-1.given ∙ c.loop-block.invariant.6,
+      c.numbers-1.given ∙ c.loop-block.invariant.7,
+      chip_goes c.args.depth (setting c.args.g c.args.mask.now c.args.fates.now) (line c.args.from c.args.array.now c.args.register.now c.args.history.now) (line c.loop-block.b c.loop-block.array c.loop-block.register c.loop-block.history) c.loop-block.block c.loop-block.found (contents c.args.kinds.now c.args.logicals.now c.args.numbers.now) (contents c.loop-block.kinds c.loop-block.logicals c.loop-block.numbers) c.loop-block-test.true c.loop-block.invariant.8 _ c.scan_at-done.result.outcome c.scan_at-done.ensures.ran t p (omega (arith, c.loop-block.invariant.8.called.is_valid.pages_least)) c.scan_at-done.result.summary c.scan_at-done.result.right _ (c.scan_at-done.ensures.summary_is p) (c.scan_at-done.ensures.right_is p) (c.scan_at-done.ensures.bits_are p) c.note-found.ensures c.note_copy.ensures,
+    )
 
 pub shape_of-array : goal.shape_of-array
 shape_of-array c = c.loop-block.invariant.1
