@@ -30,7 +30,7 @@ choose_block-choice-requires c =
 pub returns-in_default : goal.returns-in_default
 returns-in_default c =
     let is = sym (c.choose_block-choice.ensures ∙ ap₂ (λ (x : State) (h : List ℕ). chosen x.marked x.invalid h c.args.g.blocks x.last) c.take_number-taken.ensures c.held-held.ensures) in
-    c.stop-in_default.ensures ∙ prepared_worn c.args.g c.args.c c.args.state (sym c.is_spent.ensures ∙ c.if-is_spent.false) (is ∙ c.in_default.is
+    c.stop-in_default.ensures ∙ prepared_worn c.args.g c.args.c c.args.state (sym c.is_spent.ensures ∙ c.if-is_spent.false) (is ∙ c.in_default.is)
 
 pub returns : goal.returns
 returns c =

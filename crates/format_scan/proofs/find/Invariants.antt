@@ -15,6 +15,9 @@ use Rattle.scan.proofs.ChipLaws.{Through, chip_begins, chip_goes, chip_stops}
 use Rattle.format_scan.proofs.SurveyLaws.{keeps_none}
 use Rattle.format_scan.proofs.find.Given as goal
 
+abbrev none : Contents
+none = contents [] [] []
+
 abbrev pub invariant-loop-block : goal.invariant-loop-block
 invariant-loop-block l =     (l.block ≤ l.g.blocks) × (length l.array ≡ length l.initial.array) × (length l.register ≡ length l.initial.register) × (length l.history ≡ length l.initial.history) × (length l.page ≡ length l.initial.page)
     × Through Full (setting l.g l.mask l.fates) (line l.initial.b l.initial.array l.initial.register l.initial.history) (line l.b l.array l.register l.history) l.block l.found none (contents_to Full l.g l.initial.array none l.block)

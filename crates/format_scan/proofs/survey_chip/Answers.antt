@@ -15,7 +15,7 @@ use borrow.Author.Rules.{rules}
 use Rattle.format_scan.proofs.survey_chip.Goals as goal
 
 pub find-scanned-requires : goal.find-scanned-requires
-find-scanned-requires c = record { called = c.requires; page_len = lent-page _ _ (omega (arith, c.page_size-size.ensures, page_size_most c.args.g c.requires.is-valid)) c.page_size-size.ensures }
+find-scanned-requires c = record { called = c.requires; page_len = lent-page _ _ (omega (arith, c.page_size-size.ensures, page_size_most c.args.g c.requires.is_valid)) c.page_size-size.ensures }
 
 pub returns-in_default : goal.returns-in_default
 returns-in_default c =
@@ -30,7 +30,7 @@ returns-in_default c =
 
 pub take_over-survey-requires : goal.take_over-survey-requires
 take_over-survey-requires c =
-    let p = passed_by_is _ c.in-Passed.is in record { valid = c.requires.is-valid; table_bound = subst (λ (x : Found). x.table < 4096) (sym (c.find-scanned.ensures.found_is p)) (table_small Full c.args.g c.args.array.now c.args.g.blocks c.requires.is-valid.blocks_most) }
+    let p = passed_by_is _ c.in-Passed.is in record { valid = c.requires.is_valid; table_bound = subst (λ (x : Found). x.table < 4096) (sym (c.find-scanned.ensures.found_is p)) (table_small Full c.args.g c.args.array.now c.args.g.blocks c.requires.is_valid.blocks_most) }
 
 pub returns : goal.returns
 returns c =
@@ -41,5 +41,5 @@ returns c =
       same_array = c.find-scanned.ensures.same_array;
       same_history = c.find-scanned.ensures.same_history;
       next = c.find-scanned.ensures.next;
-      survey_is = λ t. c.take_over-survey.ensures ∙ ap (survey_of c.args.g) (c.find-scanned.ensures.found_is p) ∙ survey_found c.args.g c.requires.is-valid c.args.array.now c.requires.array_long;
+      survey_is = λ t. c.take_over-survey.ensures ∙ ap (survey_of c.args.g) (c.find-scanned.ensures.found_is p) ∙ survey_found c.args.g c.requires.is_valid c.args.array.now c.requires.array_long;
     }

@@ -18,7 +18,7 @@ returns-in_default c =
     let set = setting unknown c.args.mask.now c.args.fates.now in
     let d = device c.args.interface c.args.array.now c.args.register.now c.args.history.now in
     let start : _ ≡ start_line set d c.args.allowed = c.reset-reset.ensures.history_after ∙ (λ i. send_all (setting (c.unknown_geometry-g.ensures i) c.args.mask.now c.args.fates.now) (line (c.begin-from.ensures i) c.args.array.now c.args.register.now c.args.history.now) reset_cycles) in
-    let stopped = other_by_tag c.reset-reset.result.outcome c.in_default.in_default-own.keys2 in
+    let stopped = other_by_not c.reset-reset.result.outcome c.in_default.not-Passed in
     let r = run_stops set d c.args.allowed c.args.parameters.now _ _ start c.reset-reset.ensures.outcome_value stopped in record { history_after = r.0; outcome_value = r.1; fact = (λ t. clash t stopped, start_left set d c.args.allowed c.args.parameters.now _ start) }
 
 pub returns : goal.returns
@@ -30,5 +30,5 @@ returns c =
     let cycles = cycles_as set _ _ given c.requires.bytes_len c.read_parameters.ensures.history_after in
     let ends = outcome_as set _ _ given c.requires.bytes_len c.read_parameters.ensures.outcome_value in
     let bytes = bytes_as set _ _ given c.requires.bytes_len c.args.bytes.now c.read_parameters.ensures.buffer_after in
-    let passed = ap is_passed (sym c.reset-reset.ensures.outcome_value) ∙ passed_by_tag c.reset-reset.result.outcome c.in-Passed.in-Passed-own.keys1 in
+    let passed = ap is_passed (sym c.reset-reset.ensures.outcome_value) ∙ passed_by_is c.reset-reset.result.outcome c.in-Passed.is in
     let r = run_goes set d c.args.allowed c.args.parameters.now _ _ _ start passed cycles ends in record { history_after = r.0; outcome_value = r.1; fact = (λ t. page_read_lem set d c.args.allowed c.args.parameters.now c.requires.parameters_len _ start passed _ ends t _ c.args.bytes.now c.requires.bytes_len bytes, page_left set d c.args.allowed c.args.parameters.now _ _ start cycles) }

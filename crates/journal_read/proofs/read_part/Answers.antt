@@ -44,7 +44,7 @@ returns-in_default c =
     (c.read-done.ensures.history_after ∙ ap (λ (x : ℕ). send_all set l (read_cycles set l x 0 n)) row)
     (c.read-done.ensures.outcome_value ∙ ap (λ (x : ℕ). read_outcome set l x 0 n) row)
     (c.read-done.ensures.buffer_after ∙ ap (λ (x : ℕ). over (read_outputs set l x 0 n) c.args.bytes.now) row)
-    (λ t. clash t (other_by_tag c.read-done.result.outcome c.in_default.in_default-own.keys2))
+    (λ t. clash t (other_by_not c.read-done.result.outcome c.in_default.not-Passed))
 
 pub bounds-kinds-logical : goal.bounds-kinds-logical
 bounds-kinds-logical c =

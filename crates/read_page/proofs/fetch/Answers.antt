@@ -11,7 +11,7 @@ pub returns-in_default : goal.returns-in_default
 returns-in_default c =
     let set = setting c.args.g c.args.mask.now c.args.fates.now in
     let l = line c.args.from c.args.array.now c.args.register.now c.args.history.now in
-    let t = other_by_tag c.read-done.result.outcome c.in_default.in_default-own.keys2 in record { history_after = fetch_line set l c.args.row c.args.form c.args.page c.args.buffer.now c.args.bytes.now _ c.read-done.result.outcome c.requires.bytes_len c.read-done.ensures.history_after c.read-done.ensures.outcome_value; outcome_value = fetch_outcome set l c.args.row c.args.form c.args.page c.args.buffer.now c.args.bytes.now _ c.read-done.result.outcome c.requires.bytes_len c.read-done.ensures.history_after c.read-done.ensures.outcome_value; buffer_after = fetch_stopped set l c.args.row c.args.form c.args.page c.args.buffer.now c.args.bytes.now _ c.read-done.result.outcome c.requires.bytes_len c.read-done.ensures.history_after c.read-done.ensures.outcome_value t }
+    let t = other_by_not c.read-done.result.outcome c.in_default.not-Passed in record { history_after = fetch_line set l c.args.row c.args.form c.args.page c.args.buffer.now c.args.bytes.now _ c.read-done.result.outcome c.requires.bytes_len c.read-done.ensures.history_after c.read-done.ensures.outcome_value; outcome_value = fetch_outcome set l c.args.row c.args.form c.args.page c.args.buffer.now c.args.bytes.now _ c.read-done.result.outcome c.requires.bytes_len c.read-done.ensures.history_after c.read-done.ensures.outcome_value; buffer_after = fetch_stopped set l c.args.row c.args.form c.args.page c.args.buffer.now c.args.bytes.now _ c.read-done.result.outcome c.requires.bytes_len c.read-done.ensures.history_after c.read-done.ensures.outcome_value t }
 
 pub copy-requires : goal.copy-requires
 copy-requires c =
@@ -24,4 +24,4 @@ pub returns : goal.returns
 returns c =
     let set = setting c.args.g c.args.mask.now c.args.fates.now in
     let l = line c.args.from c.args.array.now c.args.register.now c.args.history.now in
-    let t = passed_by_tag c.read-done.result.outcome c.in-Passed.in-Passed-own.keys1 in record { history_after = fetch_line set l c.args.row c.args.form c.args.page c.args.buffer.now c.args.bytes.now _ c.read-done.result.outcome c.requires.bytes_len c.read-done.ensures.history_after c.read-done.ensures.outcome_value; outcome_value = fetch_outcome set l c.args.row c.args.form c.args.page c.args.buffer.now c.args.bytes.now _ c.read-done.result.outcome c.requires.bytes_len c.read-done.ensures.history_after c.read-done.ensures.outcome_value; buffer_after = fetch_passed set l c.args.row c.args.form c.args.page c.args.buffer.now c.args.bytes.now _ c.read-done.result.outcome c.requires.bytes_len c.read-done.ensures.history_after c.read-done.ensures.outcome_value t c.requires.buffer_len _ _ _ c.read-done.ensures.buffer_after c.copy.ensures c.undo.ensures }
+    let t = passed_by_is c.read-done.result.outcome c.in-Passed.is in record { history_after = fetch_line set l c.args.row c.args.form c.args.page c.args.buffer.now c.args.bytes.now _ c.read-done.result.outcome c.requires.bytes_len c.read-done.ensures.history_after c.read-done.ensures.outcome_value; outcome_value = fetch_outcome set l c.args.row c.args.form c.args.page c.args.buffer.now c.args.bytes.now _ c.read-done.result.outcome c.requires.bytes_len c.read-done.ensures.history_after c.read-done.ensures.outcome_value; buffer_after = fetch_passed set l c.args.row c.args.form c.args.page c.args.buffer.now c.args.bytes.now _ c.read-done.result.outcome c.requires.bytes_len c.read-done.ensures.history_after c.read-done.ensures.outcome_value t c.requires.buffer_len _ _ _ c.read-done.ensures.buffer_after c.copy.ensures c.undo.ensures }

@@ -35,7 +35,7 @@ pub returns-in_default : goal.returns-in_default
 returns-in_default c =
     let set = setting c.args.g c.args.mask.now c.args.fates.now in
     let d = device c.args.interface c.args.array.now c.args.register.now c.args.history.now in
-    let t = other_by_tag c.fetch-done.result.outcome c.in_default.in_default-own.keys2 in
+    let t = other_by_not c.fetch-done.result.outcome c.in_default.not-Passed in
     ends-stopped set d c.args.allowed c.args.state c.args.block c.args.form c.args.page c.args.buffer.now _ _ c.fetch-done.result.outcome c.row_of-row.result _ (ap (λ (x : Bus). line x c.args.array.now c.args.register.now c.args.history.now) c.begin-from.ensures) c.row_of-row.ensures c.fetch-done.ensures.history_after c.fetch-done.ensures.outcome_value c.fetch-done.ensures.buffer_after c.stop_answer.result c.blank.result t c.stop_answer.ensures c.blank.ensures (c.end.ensures _ _ _)
 
 pub end-requires-2 : goal.end-requires-2
@@ -62,5 +62,5 @@ pub returns : goal.returns
 returns c =
     let set = setting c.args.g c.args.mask.now c.args.fates.now in
     let d = device c.args.interface c.args.array.now c.args.register.now c.args.history.now in
-    let t = passed_by_tag c.fetch-done.result.outcome c.in-Passed.in-Passed-own.keys1 in
+    let t = passed_by_is c.fetch-done.result.outcome c.in-Passed.is in
     ends_passed set d c.args.allowed c.args.state c.args.block c.args.form c.args.page c.args.buffer.now _ _ c.fetch-done.result.outcome c.row_of-row.result _ (ap (λ (x : Bus). line x c.args.array.now c.args.register.now c.args.history.now) c.begin-from.ensures) c.row_of-row.ensures c.fetch-done.ensures.history_after c.fetch-done.ensures.outcome_value c.fetch-done.ensures.buffer_after t (c.end-2.ensures _ _ _)
