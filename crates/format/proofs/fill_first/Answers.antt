@@ -13,11 +13,11 @@ pub returns-then-count_permitted-g : goal.returns-then-count_permitted-g
 returns-then-count_permitted-g c =
     let set = setting c.args.g c.args.mask.now c.args.fates.now in
     let l = line c.args.from c.args.array.now c.args.register.now c.args.history.now in
-    λ cs os. c.end.ensures _ _ _ ∙ few_end set c.args.allowed c.args.t8 c.args.t9 c.args.greatest c.args.old c.count_permitted.result c.count_permitted.ensures c.if-count_permitted-g.true l _ c.blank.ensures cs os
+    λ cs os. c.end.ensures _ _ _ ∙ few_end set c.args.allowed c.args.marked c.args.invalid c.args.greatest c.args.old c.count_permitted.result c.count_permitted.ensures c.if-count_permitted-g.true l _ c.blank.ensures cs os
 
 pub fill_tables-ran-requires : goal.fill_tables-ran-requires
 fill_tables-ran-requires c =
-    let last = subst (λ (x : State). x.last < c.args.g.blocks) (sym c.first_state-first.ensures) (last_small c.args.g c.args.t8 c.args.t9 c.args.greatest c.args.old c.requires.called.is_valid) in record { called = c.requires.called; last_lt_blocks = last; page_len = c.requires.page_len }
+    let last = subst (λ (x : State). x.last < c.args.g.blocks) (sym c.first_state-first.ensures) (last_small c.args.g c.args.marked c.args.invalid c.args.greatest c.args.old c.requires.called.is_valid) in record { called = c.requires.called; last_lt_blocks = last; page_len = c.requires.page_len }
 
 pub end-requires-then-answer-ne0 : goal.end-requires-then-answer-ne0
 end-requires-then-answer-ne0 c =
@@ -29,7 +29,7 @@ pub returns-then-answer-ne0 : goal.returns-then-answer-ne0
 returns-then-answer-ne0 c =
     let set = setting c.args.g c.args.mask.now c.args.fates.now in
     let l = line c.args.from c.args.array.now c.args.register.now c.args.history.now in
-    λ cs os. c.end-then-answer-ne0.ensures _ _ _ ∙ unpassed_end set c.args.allowed c.args.t8 c.args.t9 c.args.greatest c.args.old c.count_permitted.result c.count_permitted.ensures c.if-count_permitted-g.false _ c.first_state-first.ensures l _ _ _ c.fill_tables-ran.ensures c.if-answer-ne0.true cs os
+    λ cs os. c.end-then-answer-ne0.ensures _ _ _ ∙ unpassed_end set c.args.allowed c.args.marked c.args.invalid c.args.greatest c.args.old c.count_permitted.result c.count_permitted.ensures c.if-count_permitted-g.false _ c.first_state-first.ensures l _ _ _ c.fill_tables-ran.ensures c.if-answer-ne0.true cs os
 
 pub end-requires-then-old-g : goal.end-requires-then-old-g
 end-requires-then-old-g c =
@@ -41,7 +41,7 @@ pub returns-then-old-g : goal.returns-then-old-g
 returns-then-old-g c =
     let set = setting c.args.g c.args.mask.now c.args.fates.now in
     let l = line c.args.from c.args.array.now c.args.register.now c.args.history.now in
-    λ cs os. c.end-then-old-g.ensures _ _ _ ∙ alone_end set c.args.allowed c.args.t8 c.args.t9 c.args.greatest c.args.old c.count_permitted.result c.count_permitted.ensures c.if-count_permitted-g.false _ c.first_state-first.ensures l _ _ _ c.fill_tables-ran.ensures c.if-answer-ne0.false c.if-old-g.true cs os
+    λ cs os. c.end-then-old-g.ensures _ _ _ ∙ alone_end set c.args.allowed c.args.marked c.args.invalid c.args.greatest c.args.old c.count_permitted.result c.count_permitted.ensures c.if-count_permitted-g.false _ c.first_state-first.ensures l _ _ _ c.fill_tables-ran.ensures c.if-answer-ne0.false c.if-old-g.true cs os
 
 pub erase_old-requires : goal.erase_old-requires
 erase_old-requires c =
@@ -62,4 +62,4 @@ pub returns : goal.returns
 returns c =
     let set = setting c.args.g c.args.mask.now c.args.fates.now in
     let l = line c.args.from c.args.array.now c.args.register.now c.args.history.now in
-    λ cs os. late_end set c.args.allowed c.args.t8 c.args.t9 c.args.greatest c.args.old c.count_permitted.result c.count_permitted.ensures c.if-count_permitted-g.false _ c.first_state-first.ensures l _ _ _ c.fill_tables-ran.ensures c.if-answer-ne0.false c.if-old-g.false _ c.erase_old.ensures cs os
+    λ cs os. late_end set c.args.allowed c.args.marked c.args.invalid c.args.greatest c.args.old c.count_permitted.result c.count_permitted.ensures c.if-count_permitted-g.false _ c.first_state-first.ensures l _ _ _ c.fill_tables-ran.ensures c.if-answer-ne0.false c.if-old-g.false _ c.erase_old.ensures cs os
