@@ -1,5 +1,6 @@
 // Price rules on what C programs lend: the check of a table, and the price of a selection, each written to a lent buffer.
 #![tactic(auto)]
+
 ghost use Rattle.std.specs.Prelude.{◌≡◌};
 ghost use Rattle.c_prices.specs.Prices.{written, checking_lent, pricing_lent};
 

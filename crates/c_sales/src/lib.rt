@@ -1,5 +1,6 @@
 // The box's sales against the coin mechanism's on what C programs lend: three totals and a difference, written to lent buffers.
 #![tactic(auto)]
+
 ghost use Rattle.std.specs.Prelude.{◌≡◌};
 ghost use Rattle.c_sales.specs.Sales.{sales_handed, reconciling_lent};
 

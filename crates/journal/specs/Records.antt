@@ -1,5 +1,5 @@
 -- Records of the journal, one a page: their bytes, and where the journal ends.
-use Rattle.std.specs.Prelude.{ℕ, zero, suc, ◌+◌, ◌-◌, ◌*◌, ◌/◌, ◌%◌, ◌<◌, Bool, false, cond, List, ◌∷◌, ◌++◌, eqb, leb, get_or, drop, replicate}
+use Rattle.std.specs.Prelude.{ℕ, zero, suc, ◌-◌, ◌*◌, ◌/◌, ◌%◌, ◌<◌, Bool, false, cond, List, ◌∷◌, ◌++◌, eqb, leb, get_or, drop, replicate}
 use Rattle.geometry.specs.declared.Geometry.{Geometry}
 use Rattle.cells.specs.Part.{part}
 use Rattle.pages.specs.Layout.{bytes_of, number_of, all_ones}

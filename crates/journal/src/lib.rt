@@ -1,5 +1,6 @@
 // The journal of sales, one record a page: its bytes, which records are in force, and the takings.
 #![tactic(auto)]
+
 ghost use Rattle.std.specs.Prelude.{◌≡◌, ◌+◌, ◌*◌, ◌≤◌, ◌<◌, length};
 ghost use Rattle.cells.specs.Part.{part};
 ghost use Rattle.pages.specs.Layout.{number_of};

@@ -1,5 +1,6 @@
 // The parameter page of a chip (002, Table 13): its integrity CRC, which of its copies are good, and the sizes that they tell.
 #![tactic(auto)]
+
 ghost use Rattle.std.specs.Prelude.{◌≡◌, ◌+◌, ◌≤◌, ◌<◌, length, take, drop};
 ghost use Rattle.pages.specs.Layout.{number_of};
 ghost use Rattle.parameters.specs.Crc.{bit_into, byte_into, integrity};

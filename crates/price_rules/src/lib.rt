@@ -1,5 +1,6 @@
 // Price rules: the check of a table, and the price of a selection.
 #![tactic(auto)]
+
 ghost use Rattle.std.specs.Prelude.{◌≡◌, length};
 ghost use Rattle.price_rules.specs.Rules.{selectable, within, wrong, fault_of, wrong_with, price_among};
 ghost use Rattle.price_rules.specs.Faults.{refusal_at, shaped, checking, pricing};

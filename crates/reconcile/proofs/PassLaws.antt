@@ -9,12 +9,11 @@ use borrow.Table.Steps.{cases}
 use borrow.Author.Count.{below_more}
 use borrow.Author.Tests.{ltb-true, ltb-false, lt-ltb, le-ltb}
 use lib.Dec.{ltb}
-use lib.IntN.{ℤ, sub_ℕ, nat_abs, ◌+ℤ◌, +ℤ_idr}
+use lib.IntN.{ℤ, pos, sub_ℕ, nat_abs, ◌+ℤ◌, +ℤ_idr}
 use lib.ListN.{length, get_or, take}
 use lib.Seq.{take_all, length-take-le}
 use mir.Syntax.{w64}
-use mir.Val.{SFits, of_z, to_z}
-use mir.Facts.{to_z-of_z}
+use mir.Val.{SFits}
 use Rattle.reconcile.specs.Sales.{Sale, sales, rises, amount_of}
 use Rattle.reconcile.specs.Next.{number_at}
 use Rattle.reconcile.specs.Totals.{if_agreed, if_missing, if_both, sum_over, agreed, only_in, difference, totals}
@@ -81,8 +80,8 @@ module _ (numbers others : List ℕ) (narrow : Narrow numbers) (narrow-others : 
       amount_none others amounts (get_or numbers i 0)
       (not_there others narrow-others rising j (get_or numbers i 0) (λ k l. omega (arith, before k l, at_in numbers i lower_within)) lower_here)
 
--- what is gathered at place i of the box's list and place j of the mechanism's; bits: those of the difference
-pub record Reached (box_numbers box_amounts mechanism_numbers mechanism_amounts : List ℕ) (both only_box_of only_mechanism_of bits i j : ℕ) : Type 0 where
+-- what is gathered at place i of the box's list and place j of the mechanism's
+pub record Reached (box_numbers box_amounts mechanism_numbers mechanism_amounts : List ℕ) (both only_box_of only_mechanism_of : ℕ) (balance : ℤ) (i j : ℕ) : Type 0 where
   pub box_in : i ≤ length box_numbers
   pub mechanism_in : j ≤ length mechanism_numbers
   pub box_before : (k : ℕ) → k < i → get_or box_numbers k 0 < number_at mechanism_numbers j
@@ -90,9 +89,9 @@ pub record Reached (box_numbers box_amounts mechanism_numbers mechanism_amounts 
   pub agreed_is : both ≡ agreed (take i (sales box_numbers box_amounts)) (sales mechanism_numbers mechanism_amounts)
   pub only_box_is : only_box_of ≡ only_in (take i (sales box_numbers box_amounts)) (sales mechanism_numbers mechanism_amounts)
   pub only_mechanism_is : only_mechanism_of ≡ only_in (take j (sales mechanism_numbers mechanism_amounts)) (sales box_numbers box_amounts)
-  pub difference_is : bits ≡ of_z w64 (difference (take i (sales box_numbers box_amounts)) (sales mechanism_numbers mechanism_amounts))
+  pub difference_is : balance ≡ difference (take i (sales box_numbers box_amounts)) (sales mechanism_numbers mechanism_amounts)
 
-pub start : (box_numbers box_amounts mechanism_numbers mechanism_amounts : List ℕ) → Reached box_numbers box_amounts mechanism_numbers mechanism_amounts 0 0 0 0 0 0
+pub start : (box_numbers box_amounts mechanism_numbers mechanism_amounts : List ℕ) → Reached box_numbers box_amounts mechanism_numbers mechanism_amounts 0 0 0 (pos 0) 0 0
 unfolding sum_over difference
 start box_numbers box_amounts mechanism_numbers mechanism_amounts =
     record {
@@ -135,7 +134,7 @@ module _ (numbers amounts : List ℕ) (fine : Accepted numbers amounts) (narrow 
   difference_fits small = record { sfits = omega (arith, mag_abs (difference (take i (sales numbers amounts)) other), difference_so_far small) }
 
 module _ (bn ba mn ma : List ℕ) (box : Accepted bn ba) (mechanism : Accepted mn ma) (narrow-box : Narrow bn) (narrow-mechanism : Narrow mn) where
-  module _ (a b m d i j : ℕ) (r : Reached bn ba mn ma a b m d i j) where
+  module _ (a b m : ℕ) (d : ℤ) (i j : ℕ) (r : Reached bn ba mn ma a b m d i j) where
     -- the box's next number is the lower one
     pub box_taken : number_at bn i < number_at mn j → Reached bn ba mn ma a (b + get_or ba i 0) m d (i + 1) j
     box_taken h =
@@ -149,7 +148,7 @@ module _ (bn ba mn ma : List ℕ) (box : Accepted bn ba) (mechanism : Accepted m
           agreed_is = omega (arith, r.agreed_is, counted bn ba box (sales mn ma) i inside none missing if_agreed);
           only_box_is = omega (arith, r.only_box_is, counted bn ba box (sales mn ma) i inside none missing if_missing);
           only_mechanism_is = r.only_mechanism_is;
-          difference_is = r.difference_is ∙ ap (of_z w64) (sym (differs bn ba box (sales mn ma) i inside none missing ∙ +ℤ_idr (difference (take i (sales bn ba)) (sales mn ma))));
+          difference_is = r.difference_is ∙ sym (differs bn ba box (sales mn ma) i inside none missing ∙ +ℤ_idr (difference (take i (sales bn ba)) (sales mn ma)));
         }
 
     -- the mechanism's next number is the lower one
@@ -196,18 +195,18 @@ module _ (bn ba mn ma : List ℕ) (box : Accepted bn ba) (mechanism : Accepted m
 
       -- the difference that the machine adds to is the one gathered
       module _ (narrow-amounts : Narrow ba) (narrow-counted : Narrow ma) where
-        pub difference_on : to_z w64 d +ℤ sub_ℕ (get_or ba i 0) (get_or ma j 0) ≡ difference (take (i + 1) (sales bn ba)) (sales mn ma)
+        pub difference_on : d +ℤ sub_ℕ (get_or ba i 0) (get_or ma j 0) ≡ difference (take (i + 1) (sales bn ba)) (sales mn ma)
         difference_on =
             ap (λ (z : ℤ). z +ℤ sub_ℕ (get_or ba i 0) (get_or ma j 0))
-            (ap (to_z w64) r.difference_is ∙ to_z-of_z (difference_fits bn ba box narrow-amounts (sales mn ma) i r.box_in (sales-small mn ma narrow-counted)))
+            r.difference_is
             ∙ sym (differs bn ba box (sales mn ma) i both_within.0 (some (get_or ma j 0)) in_mechanism)
 
-        pub difference_adds : SFits w64 (to_z w64 d +ℤ sub_ℕ (get_or ba i 0) (get_or ma j 0))
+        pub difference_adds : SFits w64 (d +ℤ sub_ℕ (get_or ba i 0) (get_or ma j 0))
         difference_adds =
             rw difference_on
             (difference_fits bn ba box narrow-amounts (sales mn ma) (i + 1) (omega (arith, both_within.0)) (sales-small mn ma narrow-counted))
 
-        pub both_taken : Reached bn ba mn ma (a + if_agreed (some (get_or ma j 0)) (get_or ba i 0)) b m (of_z w64 (to_z w64 d +ℤ sub_ℕ (get_or ba i 0) (get_or ma j 0))) (i + 1) (j + 1)
+        pub both_taken : Reached bn ba mn ma (a + if_agreed (some (get_or ma j 0)) (get_or ba i 0)) b m (d +ℤ sub_ℕ (get_or ba i 0) (get_or ma j 0)) (i + 1) (j + 1)
         both_taken =
             let inside = both_within in
             let box-up = at_next bn narrow-box box.rising i inside.0 in
@@ -220,12 +219,12 @@ module _ (bn ba mn ma : List ℕ) (box : Accepted bn ba) (mechanism : Accepted m
               agreed_is = omega (arith, r.agreed_is, counted bn ba box (sales mn ma) i inside.0 (some (get_or ma j 0)) in_mechanism if_agreed);
               only_box_is = omega (arith, r.only_box_is, counted bn ba box (sales mn ma) i inside.0 (some (get_or ma j 0)) in_mechanism if_missing);
               only_mechanism_is = omega (arith, r.only_mechanism_is, counted mn ma mechanism (sales bn ba) j inside.1 (some (get_or ba i 0)) in_box if_missing);
-              difference_is = ap (of_z w64) difference_on;
+              difference_is = difference_on;
             }
 
     -- past both ends: the totals
     pub gathered : length bn + length mn ≤ i + j → Narrow ba → Narrow ma
-        → ◌≡◌ {A = Reconciled} (record { answer = 0; agreed = a; only_box = b; only_mechanism = m; difference = to_z w64 d }) (totals (sales bn ba) (sales mn ma))
+        → ◌≡◌ {A = Reconciled} (record { answer = 0; agreed = a; only_box = b; only_mechanism = m; difference = d }) (totals (sales bn ba) (sales mn ma))
     gathered over narrow-amounts narrow-counted =
         λ t.
         record {
@@ -233,7 +232,7 @@ module _ (bn ba mn ma : List ℕ) (box : Accepted bn ba) (mechanism : Accepted m
           agreed = (r.agreed_is ∙ ap (λ (s : List Sale). agreed s (sales mn ma)) all_box) t;
           only_box = (r.only_box_is ∙ ap (λ (s : List Sale). only_in s (sales mn ma)) all_box) t;
           only_mechanism = (r.only_mechanism_is ∙ ap (λ (s : List Sale). only_in s (sales bn ba)) all_mechanism) t;
-          difference = (ap (to_z w64) r.difference_is ∙ to_z-of_z (difference_fits bn ba box narrow-amounts (sales mn ma) i r.box_in (sales-small mn ma narrow-counted)) ∙ ap (λ (s : List Sale). difference s (sales mn ma)) all_box) t;
+          difference = (r.difference_is ∙ ap (λ (s : List Sale). difference s (sales mn ma)) all_box) t;
         }
       where
         all_box : take i (sales bn ba) ≡ sales bn ba

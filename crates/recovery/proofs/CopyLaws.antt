@@ -32,6 +32,7 @@ module _ (g : Geometry) where
 
     pub sent_some : (bytes : List ℕ) (os : List ArrayOperation) → Some (Programs b i bytes) os → is_data_kind (kind_of g.main bytes) ≡ true → sent_page g b i os ≡ true
     unfolding sent_page
+    sent_some bytes [] x t = elim x [ ]
     sent_some bytes (o ∷ os) (first a) t = rw (programs_data bytes o a t)
     sent_some bytes (o ∷ os) (later a) t = rw (sent_some bytes os a t) (one_true (is_data_program g b i o))
 

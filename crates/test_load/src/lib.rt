@@ -1,5 +1,6 @@
 // A test load that can be repeated: draws from a 32-bit seed, and the requests that they make.
 #![tactic(auto)]
+
 ghost use Rattle.std.specs.Prelude.{◌≡◌, ◌<◌, true};
 ghost use Rattle.geometry.specs.Limits.{page_count};
 ghost use Rattle.test_load.specs.Draws.{drawn};

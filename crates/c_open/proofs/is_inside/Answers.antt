@@ -9,4 +9,4 @@ use Rattle.c_open.proofs.is_inside.Goals as goal
 
 pub returns : goal.returns
 returns c =
-    λ st. c.fits2.ensures st ∙ ap (λ (page : List ℕ). open_fits c.args.g (open_state st c.args.write page)) (page-lent c.args.bytes.now c.requires)
+    λ st. c.fits.ensures st ∙ ap (λ (page : List ℕ). open_fits c.args.g (open_state st c.args.write page)) (page-lent c.args.bytes.now c.requires)

@@ -4,7 +4,6 @@ use Rattle.price_rules.specs.declared.Checked.{Checked}
 use Rattle.price_rules.specs.Faults.{checking}
 use Rattle.c_prices.specs.Prices.{result_in}
 use Rattle.c_prices.proofs.PriceLaws.{result_written, result_kept}
-use borrow.Author.Rules.{rules}
 use Rattle.c_prices.proofs.check.Goals as goal
 
 pub returns-then-fault-ne1 : goal.returns-then-fault-ne1

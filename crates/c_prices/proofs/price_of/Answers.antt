@@ -4,7 +4,6 @@ use Rattle.price_rules.specs.declared.Priced.{Priced}
 use Rattle.price_rules.specs.Faults.{pricing}
 use Rattle.c_prices.specs.Prices.{result_in}
 use Rattle.c_prices.proofs.PriceLaws.{result_written, result_kept}
-use borrow.Author.Rules.{rules}
 use Rattle.c_prices.proofs.price_of.Goals as goal
 
 pub returns-then-found-ne1 : goal.returns-then-found-ne1

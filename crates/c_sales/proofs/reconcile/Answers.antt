@@ -27,4 +27,4 @@ pub returns : goal.returns
 returns c =
     let fits : SFits w64 c.reconcile-r.result.difference = search rules in
     ap (λ (d : ℤ). sales_handed c.reconcile-r.result.answer (set (set (set c.args.totals.now 0 c.reconcile-r.result.agreed) 1 c.reconcile-r.result.only_box) 2 c.reconcile-r.result.only_mechanism) (set c.args.difference.now 0 d)) (to_z-of_z fits)
-    ∙ sales_stored c.args.box-numbers.now c.args.box-amounts.now c.args.mechanism-numbers.now c.args.mechanism-amounts.now c.args.totals.now c.args.difference.now c.if-totals-ne3.false c.if-difference-ne1.false c.reconcile-r.result c.reconcile-r.ensures
+    ∙ sales_stored c.args.box_numbers.now c.args.box_amounts.now c.args.mechanism_numbers.now c.args.mechanism_amounts.now c.args.totals.now c.args.difference.now c.if-totals-ne3.false c.if-difference-ne1.false c.reconcile-r.result c.reconcile-r.ensures

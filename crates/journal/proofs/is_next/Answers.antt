@@ -1,7 +1,6 @@
 -- `journal::is_next` meets its contract. Assumes nothing.
 use mathlib.Core.Path.{sym, ◌∙◌, ap}
 use native.Mathlib.Omega.{arith}
-use borrow.Author.Rules.{rules}
 use Rattle.pages.proofs.ByteLaws.{take_rest}
 use Rattle.pages.specs.Layout.{all_ones}
 use Rattle.journal.proofs.CodeLaws.{next_other, next_later, next_tail}

@@ -2,7 +2,6 @@
 use native.Mathlib.Omega.{arith}
 use Rattle.pages.proofs.ByteLaws.{pair_lt}
 use Rattle.journal.specs.Records.{replaces_in}
-use borrow.Author.Rules.{rules}
 use Rattle.journal.proofs.replaces_of.Goals as goal
 
 pub returns : goal.returns

@@ -24,18 +24,18 @@ pub returns-then-not-fits : goal.returns-then-not-fits
 returns-then-not-fits c =
     let sized = sym c.is_sized.ensures ∙ not-false c.is_sized.result c.if-not-is_sized.false-raw in
     let up = sym c.is_mounted.ensures ∙ not-false c.is_mounted.result c.if-not-is_mounted.false-raw in
-    refused_outside c.args.g _ (open_state c.args.state c.args.write c.args.kept.now) c.args.barred sized up (sym (c.fits2.ensures c.args.state) ∙ not-true c.fits2.result c.if-not-fits.true-raw)
+    refused_outside c.args.g _ (open_state c.args.state c.args.write c.args.kept.now) c.args.barred sized up (sym (c.fits.ensures c.args.state) ∙ not-true c.fits.result c.if-not-fits.true-raw)
 
 pub returns-then-barred : goal.returns-then-barred
 returns-then-barred c =
     let sized = sym c.is_sized.ensures ∙ not-false c.is_sized.result c.if-not-is_sized.false-raw in
     let up = sym c.is_mounted.ensures ∙ not-false c.is_mounted.result c.if-not-is_mounted.false-raw in
-    let inside = sym (c.fits2.ensures c.args.state) ∙ not-false c.fits2.result c.if-not-fits.false-raw in
+    let inside = sym (c.fits.ensures c.args.state) ∙ not-false c.fits.result c.if-not-fits.false-raw in
     refused_barred c.args.g _ (open_state c.args.state c.args.write c.args.kept.now) c.args.barred sized up inside c.if-barred.true
 
 pub returns : goal.returns
 returns c =
     let sized = sym c.is_sized.ensures ∙ not-false c.is_sized.result c.if-not-is_sized.false-raw in
     let up = sym c.is_mounted.ensures ∙ not-false c.is_mounted.result c.if-not-is_mounted.false-raw in
-    let inside = sym (c.fits2.ensures c.args.state) ∙ not-false c.fits2.result c.if-not-fits.false-raw in
+    let inside = sym (c.fits.ensures c.args.state) ∙ not-false c.fits.result c.if-not-fits.false-raw in
     unrefused c.args.g _ (open_state c.args.state c.args.write c.args.kept.now) c.args.barred sized up inside c.if-barred.false

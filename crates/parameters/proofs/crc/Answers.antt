@@ -1,10 +1,6 @@
 -- `parameters::crc` meets its contract. Assumes nothing.
-use Prim.Native.Nat.{◌-◌, ◌<◌}
-use mathlib.Core.Path.{◌≡◌, refl, sym, ◌∙◌}
+use mathlib.Core.Path.{refl, sym, ◌∙◌}
 use native.Mathlib.Omega.{arith}
-use borrow.Author.Rules.{rules}
-use lib.ListN.{length, drop}
-use Rattle.parameters.specs.Crc.{bytes_into, integrity}
 use Rattle.parameters.proofs.CrcLaws.{bytes_on, bytes_none}
 use Rattle.parameters.proofs.crc.Goals as goal
 

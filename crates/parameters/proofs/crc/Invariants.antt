@@ -1,11 +1,8 @@
 -- `parameters::crc` meets its contract. Assumes nothing.
 use Prim.Native.Nat.{◌-◌, ◌<◌}
-use mathlib.Core.Path.{◌≡◌, refl, sym, ◌∙◌}
-use native.Mathlib.Omega.{arith}
-use borrow.Author.Rules.{rules}
+use mathlib.Core.Path.{◌≡◌}
 use lib.ListN.{length, drop}
 use Rattle.parameters.specs.Crc.{bytes_into, integrity}
-use Rattle.parameters.proofs.CrcLaws.{bytes_on, bytes_none}
 use Rattle.parameters.proofs.crc.Given as goal
 
 abbrev pub invariant-loop-i : goal.invariant-loop-i

@@ -1,6 +1,5 @@
 -- `parameters::four_at` meets its contract. Assumes nothing.
 use Rattle.parameters.proofs.PageLaws.{four_bytes}
-use borrow.Author.Rules.{rules}
 use Rattle.parameters.proofs.four_at.Goals as goal
 
 pub returns : goal.returns

@@ -3,12 +3,11 @@ use mathlib.Core.Path.{sym, ◌∙◌}
 use borrow.Author.Tests.{eq-eqb, ne_eqb}
 use Rattle.parameters.specs.Page.{told}
 use Rattle.parameters.proofs.PageLaws.{first-told}
-use borrow.Author.Rules.{rules}
 use Rattle.parameters.proofs.tell.Goals as goal
 
 pub returns-then-place-eq3 : goal.returns-then-place-eq3
 unfolding told
-returns-then-place-eq3 c =    rw (eq-eqb _ 3 (sym c.first_good-place.ensures.0 ∙ c.if-place-eq3.true)) c.refused.ensures
+returns-then-place-eq3 c = rw (eq-eqb _ 3 (sym c.first_good-place.ensures.0 ∙ c.if-place-eq3.true)) c.refused.ensures
 
 pub returns : goal.returns
 unfolding told

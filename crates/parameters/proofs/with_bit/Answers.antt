@@ -3,7 +3,6 @@ use Prim.Native.Nat.{◌/◌}
 use mathlib.Core.Path.{refl}
 use borrow.Author.Tests.{eq-eqb, ne_eqb}
 use Rattle.parameters.specs.Crc.{bit_into}
-use borrow.Author.Rules.{rules}
 use Rattle.parameters.proofs.with_bit.Goals as goal
 
 pub returns-then-crc-bit : goal.returns-then-crc-bit

@@ -1,9 +1,8 @@
 -- `parameters::with_byte` meets its contract. Assumes nothing.
-use Prim.Native.Nat.{ℕ, ◌-◌, ◌/◌, ◌%◌, ◌^◌, ◌<◌, ◌≤◌}
-use mathlib.Core.Path.{◌≡◌, refl, sym, ap, ◌∙◌, subst}
+use Prim.Native.Nat.{ℕ, ◌-◌, ◌/◌, ◌%◌, ◌^◌, ◌<◌}
+use mathlib.Core.Path.{refl, sym, ap, ◌∙◌, subst}
 use native.Mathlib.Omega.{arith}
-use borrow.Author.Rules.{rules}
-use Rattle.parameters.specs.Crc.{bits_into, byte_into}
+use Rattle.parameters.specs.Crc.{bits_into}
 use Rattle.parameters.proofs.CrcLaws.{bit-small, bits_on, bits_none, low_bit}
 use Rattle.parameters.proofs.with_byte.Goals as goal
 

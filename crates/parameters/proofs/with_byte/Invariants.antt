@@ -1,10 +1,7 @@
 -- `parameters::with_byte` meets its contract. Assumes nothing.
-use Prim.Native.Nat.{ℕ, ◌-◌, ◌/◌, ◌%◌, ◌^◌, ◌<◌, ◌≤◌}
-use mathlib.Core.Path.{◌≡◌, refl, sym, ap, ◌∙◌, subst}
-use native.Mathlib.Omega.{arith}
-use borrow.Author.Rules.{rules}
+use Prim.Native.Nat.{◌<◌, ◌≤◌}
+use mathlib.Core.Path.{◌≡◌}
 use Rattle.parameters.specs.Crc.{bits_into, byte_into}
-use Rattle.parameters.proofs.CrcLaws.{bit-small, bits_on, bits_none, low_bit}
 use Rattle.parameters.proofs.with_byte.Given as goal
 
 abbrev pub invariant-loop-left : goal.invariant-loop-left

@@ -1,9 +1,8 @@
 -- `price_rules::check` meets its contract. Assumes nothing.
-use Prim.Native.Nat.{ℕ, ◌≤◌, ◌-◌}
+use Prim.Native.Nat.{ℕ}
 use mathlib.Core.Path.{◌≡◌, refl, sym, ap, ◌∙◌}
 use native.Mathlib.Omega.{arith}
-use borrow.Author.Tests.{not-true, not-false}
-use Rattle.price_rules.specs.Faults.{refusal_at, found, fault_from}
+use Rattle.price_rules.specs.Faults.{refusal_at, found}
 use Rattle.price_rules.proofs.FaultLaws.{fault_here, fault_on, fault_over, shaped_facts, checked_shaped, checked_unshaped}
 use Rattle.price_rules.proofs.check.Goals as goal
 
@@ -11,13 +10,13 @@ pub is_shaped-requires : goal.is_shaped-requires
 is_shaped-requires c = tt
 
 pub returns-then-not-is_shaped : goal.returns-then-not-is_shaped
-returns-then-not-is_shaped c = checked_unshaped c.args.first.now c.args.last.now c.args.price.now (sym c.is_shaped.ensures ∙ not-true _ c.if-not-is_shaped.true-raw)
+returns-then-not-is_shaped c = checked_unshaped c.args.first.now c.args.last.now c.args.price.now (sym c.is_shaped.ensures ∙ c.if-not-is_shaped.true)
 
 pub loop-s-init : goal.loop-s-init
 loop-s-init c = (omega arith, refl)
 
 pub refusal_at-refusal-requires : goal.refusal_at-refusal-requires
-refusal_at-refusal-requires c = (shaped_facts _ _ _ (sym c.is_shaped.ensures ∙ not-false _ c.if-not-is_shaped.false-raw)).last_each
+refusal_at-refusal-requires c = (shaped_facts _ _ _ (sym c.is_shaped.ensures ∙ c.if-not-is_shaped.false)).last_each
 
 pub returns-then-refusal-ne0 : goal.returns-then-refusal-ne0
 returns-then-refusal-ne0 c =
@@ -25,7 +24,7 @@ returns-then-refusal-ne0 c =
     here
     ∙ fault_here c.args.first.now c.args.last.now c.loop-s.s (omega (arith, c.loop-s-test.true)) (λ e. c.if-refusal-ne0.true (c.refusal_at-refusal.ensures ∙ e))
     ∙ c.loop-s.invariant.1
-    ∙ checked_shaped c.args.first.now c.args.last.now c.args.price.now (sym c.is_shaped.ensures ∙ not-false _ c.if-not-is_shaped.false-raw)
+    ∙ checked_shaped c.args.first.now c.args.last.now c.args.price.now (sym c.is_shaped.ensures ∙ c.if-not-is_shaped.false)
 
 pub loop-s-preserved : goal.loop-s-preserved
 loop-s-preserved c =
@@ -34,4 +33,4 @@ loop-s-preserved c =
 pub returns : goal.returns
 returns c =
     let over : c.loop-s.s ≡ 100 = omega arith in
-    fault_over c.args.first.now c.args.last.now c.loop-s.s over ∙ c.loop-s.invariant.1 ∙ checked_shaped c.args.first.now c.args.last.now c.args.price.now (sym c.is_shaped.ensures ∙ not-false _ c.if-not-is_shaped.false-raw)
+    fault_over c.args.first.now c.args.last.now c.loop-s.s over ∙ c.loop-s.invariant.1 ∙ checked_shaped c.args.first.now c.args.last.now c.args.price.now (sym c.is_shaped.ensures ∙ c.if-not-is_shaped.false)

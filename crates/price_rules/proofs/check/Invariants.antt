@@ -1,10 +1,7 @@
 -- `price_rules::check` meets its contract. Assumes nothing.
-use Prim.Native.Nat.{ℕ, ◌≤◌, ◌-◌}
-use mathlib.Core.Path.{◌≡◌, refl, sym, ap, ◌∙◌}
-use native.Mathlib.Omega.{arith}
-use borrow.Author.Tests.{not-true, not-false}
-use Rattle.price_rules.specs.Faults.{refusal_at, found, fault_from}
-use Rattle.price_rules.proofs.FaultLaws.{fault_here, fault_on, fault_over, shaped_facts, checked_shaped, checked_unshaped}
+use Prim.Native.Nat.{◌≤◌, ◌-◌}
+use mathlib.Core.Path.{◌≡◌}
+use Rattle.price_rules.specs.Faults.{fault_from}
 use Rattle.price_rules.proofs.check.Given as goal
 
 abbrev pub invariant-loop-s : goal.invariant-loop-s

@@ -1,7 +1,6 @@
 -- `price_rules::fault_of` meets its contract. Assumes nothing.
 use mathlib.Core.Path.{sym, ◌∙◌}
 use Rattle.price_rules.specs.Rules.{fault_of}
-use borrow.Author.Rules.{rules}
 use Rattle.price_rules.proofs.fault_of.Goals as goal
 
 pub returns-then-is_selectable : goal.returns-then-is_selectable

@@ -1,7 +1,6 @@
 -- `price_rules::is_within` meets its contract. Assumes nothing.
 use native.Mathlib.Omega.{arith}
 use Rattle.price_rules.proofs.RuleLaws.{within_below, within_in, within_above}
-use borrow.Author.Rules.{rules}
 use Rattle.price_rules.proofs.is_within.Goals as goal
 
 pub returns-then-s-wide : goal.returns-then-s-wide

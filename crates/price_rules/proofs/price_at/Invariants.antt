@@ -1,12 +1,8 @@
 -- `price_rules::price_at` meets its contract. Assumes nothing.
 use Prim.Native.Nat.{◌≤◌, ◌-◌}
-use mathlib.Core.Logic.{⊎_elim}
-use mathlib.Core.Path.{◌≡◌, refl, sym, ap, ◌∙◌}
-use native.Mathlib.Omega.{arith}
-use borrow.Author.Rules.{rules}
+use mathlib.Core.Path.{◌≡◌}
 use lib.ListN.{length}
 use Rattle.price_rules.specs.Rules.{price_among}
-use Rattle.price_rules.proofs.RuleLaws.{price_here, price_kept}
 use Rattle.price_rules.proofs.price_at.Given as goal
 
 abbrev pub invariant-loop-i : goal.invariant-loop-i

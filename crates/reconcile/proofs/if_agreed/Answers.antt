@@ -1,5 +1,4 @@
 -- `reconcile::if_agreed` meets its contract. Assumes nothing.
-use mathlib.Core.Path.{◌≡◌}
 use borrow.Author.Tests.{eq-eqb, ne_eqb}
 use Rattle.reconcile.proofs.if_agreed.Goals as goal
 

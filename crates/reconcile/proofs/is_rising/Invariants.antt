@@ -1,11 +1,8 @@
 -- `reconcile::is_rising` meets its contract: the test goes on with the rest. Assumes nothing.
-use Prim.Native.Nat.{◌+◌, ◌-◌, ◌≤◌, ◌<◌}
-use mathlib.Core.Path.{◌≡◌, refl, ◌∙◌}
-use native.Mathlib.Omega.{arith}
-use borrow.Author.Rules.{rules}
-use lib.ListN.{length, drop, get_or}
+use Prim.Native.Nat.{◌-◌, ◌≤◌}
+use mathlib.Core.Path.{◌≡◌}
+use lib.ListN.{length, drop}
 use Rattle.reconcile.specs.Sales.{rises}
-use Rattle.reconcile.proofs.SaleLaws.{rises_on, falls_at, rises-over}
 use Rattle.reconcile.proofs.is_rising.Given as goal
 
 abbrev pub invariant-loop-i : goal.invariant-loop-i

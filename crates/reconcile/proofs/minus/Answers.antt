@@ -2,7 +2,6 @@
 use mathlib.Core.Path.{◌∙◌}
 use mir.Facts.{to_z-of_z}
 use Rattle.reconcile.proofs.SignedLaws.{amounts_minus, amounts_fit}
-use borrow.Author.Rules.{rules}
 use Rattle.reconcile.proofs.minus.Goals as goal
 
 pub overflow_sub-result : goal.overflow_sub-result

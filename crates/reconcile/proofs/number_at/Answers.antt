@@ -1,7 +1,6 @@
 -- `reconcile::number_at` meets its contract. Assumes nothing.
 use native.Mathlib.Omega.{arith}
 use borrow.Author.Tests.{lt-ltb, le-ltb}
-use borrow.Author.Rules.{rules}
 use Rattle.reconcile.proofs.number_at.Goals as goal
 
 pub overflow_cast-result : goal.overflow_cast-result

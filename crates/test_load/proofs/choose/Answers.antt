@@ -11,8 +11,34 @@ use Rattle.geometry.proofs.ShiftLaws.{mask_remainder}
 use Rattle.test_load.specs.Draws.{drawn}
 use Rattle.test_load.specs.Requests.{chosen, request_from}
 use Rattle.test_load.specs.declared.Request.TheVariants.{Erase, Read, Write}
-use borrow.Author.Rules.{rules}
 use Rattle.test_load.proofs.choose.Goals as goal
+
+-- the low three bits of a draw are its remainder by 8, and tests on them those of the definition
+module _ (last logical pages k p : ℕ) (first : k ≡ drawn last) (second : p ≡ drawn k) where
+  low : bit_and k 7 ≡ drawn last % 8
+  low = and_mask k 3 ∙ ap (λ (x : ℕ). x % 8) first
+
+  place : p ≡ drawn (drawn last)
+  place = second ∙ ap drawn first
+
+  erases : bit_and k 7 ≡ 0 → chosen (Erase (p % logical)) p ≡ request_from last logical pages
+  unfolding request_from
+  erases e =
+      rw (eq-eqb (drawn last % 8) 0 (sym low ∙ e)) (ap (λ (x : ℕ). chosen (Erase (x % logical)) x) place)
+
+  module _ (count : page_count pages ≡ true) (t : ℕ) (third : t ≡ drawn p) where
+    page : t ≡ drawn (drawn (drawn last))
+    page = third ∙ ap drawn place
+
+    reads : (bit_and k 7 ≡ 0 → ⊥) → bit_and k 7 < 4 → chosen (Read (p % logical) (bit_and t (pages - 1))) t ≡ request_from last logical pages
+    unfolding request_from
+    reads x h =
+        rw (ne_eqb (drawn last % 8) 0 (λ e. x (low ∙ e)), lt-ltb (drawn last % 8) 4 (omega (arith, low, h)), mask_remainder pages count t, sym page, sym place)
+
+    writes : (bit_and k 7 ≡ 0 → ⊥) → 4 ≤ bit_and k 7 → chosen (Write (p % logical) (bit_and t (pages - 1)) (t / 16777216)) t ≡ request_from last logical pages
+    unfolding request_from
+    writes x h =
+        rw (ne_eqb (drawn last % 8) 0 (λ e. x (low ∙ e)), le-ltb (drawn last % 8) 4 (omega (arith, low, h)), mask_remainder pages count t, sym page, sym place)
 
 pub returns-then-kind-eq0 : goal.returns-then-kind-eq0
 returns-then-kind-eq0 c =
