@@ -1,6 +1,6 @@
 /*
- * The flash store of the telemetry box, for C on x86-64 Linux. Link target/staticlib/libflash_store.a, which
- * `rt staticlib flash_store` proves and builds.
+ * The flash store of the telemetry box, for C on x86-64 Linux. Link crates/flash_store/out/libflash_store.a, which
+ * `rt lib`, in crates/flash_store, proves and builds.
  *
  * The chip is the model that the caller lends: its cells, page register, program history and command interface are
  * buffers in memory. No call touches hardware. Array, page register, history, interface and state are all handed to

@@ -1,6 +1,6 @@
 /*
  * Price rules that the depot edits, for C on x86-64 Linux: the check of a table, and the price of a selection. Link
- * target/staticlib/libflash_store.a, which `rt staticlib flash_store` proves and builds; neither call needs a store.
+ * crates/flash_store/out/libflash_store.a, which `rt lib`, in crates/flash_store, proves and builds; neither call needs a store.
  *
  * Rule i of a table says that the selections from first[i] to last[i] cost price[i]. Selections run from 1 to 99. A table is
  * accepted if each selection falls in exactly one rule, and every rule has both ends in 1 to 99 and its last selection not

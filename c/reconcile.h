@@ -1,6 +1,6 @@
 /*
- * The box's sales against the coin mechanism's, for C on x86-64 Linux. Link target/staticlib/libflash_store.a, which
- * `rt staticlib flash_store` proves and builds.
+ * The box's sales against the coin mechanism's, for C on x86-64 Linux. Link crates/flash_store/out/libflash_store.a, which
+ * `rt lib`, in crates/flash_store, proves and builds.
  *
  * Start with struct reconcile_sales, struct reconcile_totals and reconcile_do, at the end of this file. A call goes over both
  * lists once, takes no memory from a heap, and keeps nothing.

@@ -1,5 +1,6 @@
 // The bench: requests from standard input on the small chip, a line printed for each.
 #![tactic(auto)]
+
 mod lines;
 
 ghost use Rattle.std.specs.Prelude.{◌≡◌};

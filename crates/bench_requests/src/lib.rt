@@ -1,5 +1,6 @@
 // The bench's requests on the small chip, and the figures that it prints of each.
 #![tactic(auto)]
+
 ghost use Rattle.std.specs.Prelude.{◌≡◌};
 ghost use Rattle.bench_requests.specs.Requests.{performed, figures_of};
 ghost use Rattle.bench_requests.specs.declared.Request.TheVariants.{Read};

@@ -1,5 +1,6 @@
 // Bitmaps with one bit a block, low bit first.
 #![tactic(auto)]
+
 ghost use Rattle.std.specs.Prelude.{◌≡◌, ◌<◌, ◌≤◌, ◌+◌, ◌-◌, ◌*◌, ◌^◌, length};
 ghost use Rattle.bitmaps.specs.Bitmap.{byte_of, place_of, bit_at, with_bit, count_bits, clear_from, never_both, spread_bits, flags_of};
 

@@ -1,5 +1,6 @@
 // The bus of one call: the chip's interface, and how many cycles are left before the call is cut.
 #![tactic(auto)]
+
 ghost use Rattle.std.specs.Prelude.{◌≡◌, List, ℕ, ◌<◌};
 ghost use Rattle.chip_array.specs.Device.{Setting, setting};
 ghost use Rattle.chip.specs.Chip.{Cycle};

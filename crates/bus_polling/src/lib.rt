@@ -1,5 +1,6 @@
 // Status reads until the chip is ready, and how an operation ended.
 #![tactic(auto)]
+
 ghost use Rattle.std.specs.Prelude.{true, cond, ◌≡◌, List, eqb, ℕ};
 ghost use Rattle.chip_array.specs.Device.{setting};
 ghost use Rattle.bus.specs.Line.{line};

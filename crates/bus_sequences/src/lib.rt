@@ -1,5 +1,6 @@
 // The pieces that operations are made of, but the status reads: address bytes, data cycles and the confirm cycle.
 #![tactic(auto)]
+
 ghost use Rattle.std.specs.Prelude.{◌≡◌, List, map, ℕ, length, replicate};
 ghost use Rattle.cells.specs.Cells.{over};
 ghost use Rattle.chip_array.specs.Device.{Setting, setting};

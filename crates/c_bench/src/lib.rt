@@ -1,5 +1,6 @@
 // A page read and a page program through the model, for the benchmark in C. Each answers the cycles sent.
 #![tactic(auto)]
+
 ghost use Rattle.std.specs.Prelude.{◌≡◌, length};
 ghost use Rattle.cells.specs.Cells.{over};
 ghost use Rattle.chip_array.specs.Device.{setting};

@@ -1,5 +1,6 @@
 // What C programs lend: whether the lengths are right, the interface, what a request hands back.
 #![tactic(auto)]
+
 ghost use Rattle.std.specs.Prelude.{◌≡◌, List, ℕ, length};
 ghost use Rattle.chip_array.specs.Device.{device};
 ghost use Rattle.open_write.specs.Open.{open_state};

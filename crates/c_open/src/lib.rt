@@ -1,5 +1,6 @@
 // The state with its open write as bytes, for programs in C: stored into a buffer, and loaded from one.
 #![tactic(auto)]
+
 ghost use Rattle.std.specs.Prelude.{◌≡◌, length};
 ghost use Rattle.cells.specs.Part.{put};
 ghost use Rattle.state.specs.declared.State.{State};

@@ -1,5 +1,6 @@
 // The mounted state as bytes, for programs in C: stored into a buffer, and loaded from one.
 #![tactic(auto)]
+
 ghost use Rattle.std.specs.Prelude.{◌≡◌, ◌+◌, ◌≤◌, length, drop};
 ghost use Rattle.cells.specs.Part.{part, put};
 ghost use Rattle.c_state.specs.StateBytes.{state_length, pairs, entries, state_bytes, bytes_state};

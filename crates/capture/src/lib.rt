@@ -1,6 +1,7 @@
 // The cycles of an operation one by one, as a logic analyser shows them: the i-th cycle of a reset, a status read, a read, a
 // program and an erase, from the numbers that tell the operation.
 #![tactic(auto)]
+
 ghost use Rattle.std.specs.Prelude.{◌≡◌};
 ghost use Rattle.bus_sequences.specs.Cycles.{reset_cycles, status_cycles, address_cycles, row_cycles};
 ghost use Rattle.capture.specs.Capture.{cycle_at, polled_cycles, output_cycles, fetch_capture, read_capture, program_capture, erase_capture};

@@ -1,5 +1,6 @@
 // What programs and erases do to the bytes of the array, whole or as far as a mask says.
 #![tactic(auto)]
+
 ghost use Rattle.std.specs.Prelude.{◌≡◌, ◌≤◌, length, replicate};
 ghost use Rattle.cells.specs.Cells.{programmed, weakened, raised, over};
 

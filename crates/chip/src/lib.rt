@@ -1,6 +1,7 @@
 // The chip's bus cycles: command, address, data in, data out and status. A cycle that the data sheet does not allow in the
 // present state is answered illegal and changes nothing else.
 #![tactic(auto)]
+
 ghost use Rattle.std.specs.Prelude.{◌≡◌, cond, List, ℕ, ◌<◌, ltb, length, get_or};
 ghost use Rattle.geometry.specs.Sizes.{block_size, row_count};
 ghost use Rattle.chip_array.specs.Device.{device, setting, fitting, Fitting, row_at};

@@ -1,5 +1,6 @@
 // The array under way of a read, program or erase: what the confirm cycle starts, and what a ready status completes.
 #![tactic(auto)]
+
 ghost use Rattle.std.specs.Prelude.{◌≡◌, List, ℕ, ◌<◌, length};
 ghost use Rattle.geometry.specs.Limits.{Valid};
 ghost use Rattle.geometry.specs.Sizes.{page_size, block_size, chip_size, row_count};

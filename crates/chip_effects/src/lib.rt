@@ -1,5 +1,6 @@
 // What programs and erases do to the array. The bytes of the page or the block are lent on, the rest stays.
 #![tactic(auto)]
+
 ghost use Rattle.std.specs.Prelude.{◌≡◌, ◌*◌, ◌<◌, length, replicate};
 ghost use Rattle.geometry.specs.Limits.{Valid};
 ghost use Rattle.geometry.specs.Sizes.{page_size, block_size, chip_size, row_count};

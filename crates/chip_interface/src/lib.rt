@@ -1,5 +1,6 @@
 // The state of the chip's command interface between two bus cycles, and the cycles that change nothing else.
 #![tactic(auto)]
+
 ghost use Rattle.std.specs.Prelude.{◌≡◌, ◌%◌, ◌<◌};
 ghost use Rattle.chip_interface.specs.Interface.{powered_on, refused, in_phase, after_reset, begun, output_resumed, status_mode, read_mode, plain_command, more_address, full_address, latched, addressed, shifted, row_of_address, failed_of, started, unstarted, fate_word, next_fate, address_fits, protected_byte, status_byte, parameters_started, parameter_addressed};
 

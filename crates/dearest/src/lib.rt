@@ -1,6 +1,7 @@
 // The dearest write: the fate words that make a page write over an old copy send the most cycles and still be acknowledged after so many
 // failed fills, and those cycles.
 #![tactic(auto)]
+
 ghost use Rattle.std.specs.Prelude.{◌≡◌, ◌-◌, ◌*◌, ◌<◌, ◌≤◌, length, replicate};
 ghost use Rattle.geometry.specs.Limits.{Valid};
 ghost use Rattle.dearest.specs.Dearest.{slow_word, fail_word, dearest_length, failing_to, dearest_fates, dearest_cycles, told_by, dearest_told};

@@ -1,6 +1,7 @@
 // Captures of three requests on the small chip, cycle by cycle, as a logic analyser shows them: a formatting of a new chip,
 // a write, and a mount.
 #![tactic(auto)]
+
 mod print;
 mod recover;
 mod runs;

@@ -1,6 +1,7 @@
 // Shows the chip at work: address bytes of the largest part, status bytes, then a reset, an erase, a program and a read of the
 // small chip, and the same with its write-protect line low.
 #![tactic(auto)]
+
 use bus::Bus;
 use bus_polling::{Done, Outcome};
 use chip_interface::Interface;

@@ -1,6 +1,7 @@
 // The dearest writes of the small chip. For each number of failed fills: the answer of the call that tells them, how many words there are,
 // the cycles, and the words; then, with those words, the write of each page over an old copy: answer, cycles and free blocks.
 #![tactic(auto)]
+
 use demo_store::UNCUT;
 use geometry::Geometry;
 use libc::STDOUT_FILENO;

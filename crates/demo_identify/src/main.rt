@@ -1,6 +1,7 @@
 // Lets the small chip tell its size from parameter pages good and bad: a word for each case, then answer, cycles sent, and
 // main bytes, spare bytes, pages and blocks; before that the CRC of no byte, of 254 bytes 00h and of 254 bytes FFh.
 #![tactic(auto)]
+
 mod page;
 
 use chip_interface::Interface;

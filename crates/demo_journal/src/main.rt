@@ -1,5 +1,6 @@
 // A driver's day: sales and corrections from standard input go to the journal on the small chip, and a line is printed for each.
 #![tactic(auto)]
+
 mod lines;
 mod sales;
 

@@ -1,5 +1,6 @@
 // The test load: reads seed and count from standard input, and prints the bench's lines of so many requests on the small chip.
 #![tactic(auto)]
+
 mod lines;
 
 ghost use Rattle.std.specs.Prelude.{◌≡◌};

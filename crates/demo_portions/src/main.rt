@@ -1,6 +1,7 @@
 // A write in portions of one page: the cycles of each, what a display reads between them, and what a mount finds where an advance is cut at any
 // of its cycles, with several masks.
 #![tactic(auto)]
+
 use demo_store::{Store, UNCUT};
 use libc::STDOUT_FILENO;
 use open_write::OpenWrite;

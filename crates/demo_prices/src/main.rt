@@ -1,5 +1,6 @@
 // Runs price rules: a word for each table, then answer and selection at fault; a word for each price asked, then answer and price.
 #![tactic(auto)]
+
 use libc::STDOUT_FILENO;
 
 fn print_number(x: u64) {

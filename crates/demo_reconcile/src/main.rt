@@ -1,5 +1,6 @@
 // Holds lists of sales against each other: a word for each case, then the answer, the three totals and the difference with its sign.
 #![tactic(auto)]
+
 mod long;
 
 ghost use Rattle.std.specs.Prelude.{◌≡◌, nat_abs};

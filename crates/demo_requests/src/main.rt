@@ -1,5 +1,6 @@
 // Runs the requests on the small chip: a word for each case, then answer, cycles sent and free blocks.
 #![tactic(auto)]
+
 mod mounts;
 mod protected;
 mod writes;

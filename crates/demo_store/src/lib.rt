@@ -1,5 +1,6 @@
 // The small chip of the requirement paper with the store on it, by value: the requests as programs here make them.
 #![tactic(auto)]
+
 ghost use Rattle.std.specs.Prelude.{◌≡◌, replicate};
 ghost use Rattle.chip_array.specs.Device.{device, setting};
 ghost use Rattle.request.specs.Call.{result_with};

@@ -1,6 +1,7 @@
 // A power-cut sweep: a write cut at every cycle with several masks, then a mount, a quick mount and a reading after each; a formatting
 // cut at every cycle, then a mount and another formatting; and lists of calls.
 #![tactic(auto)]
+
 mod cuts;
 mod formattings;
 mod lists;

@@ -1,5 +1,6 @@
 // What a page of a fill is made of: its main bytes, and its program with label and check.
 #![tactic(auto)]
+
 ghost use Rattle.std.specs.Prelude.{true, ◌≡◌, ◌*◌, ◌<◌, length, take, replicate};
 ghost use Rattle.geometry.specs.Limits.{Valid};
 ghost use Rattle.geometry.specs.Sizes.{page_size, row_of};

@@ -1,5 +1,6 @@
 // A write or erase on its way: a cursor over its fills, and what is due next. Nothing here touches a chip.
 #![tactic(auto)]
+
 ghost use Rattle.std.specs.Prelude.{◌≡◌, ◌<◌};
 ghost use Rattle.geometry.specs.Limits.{Valid};
 ghost use Rattle.fill_cursor.specs.Cursor.{moved, first_cursor, ended, filling, on_page, stopped, prepared, page_after, programs, is_open_now, filled_whole, unfilled, after_action, withdrawn, settled};

@@ -1,5 +1,6 @@
 // One loop that performs what a cursor says is due, on the chip.
 #![tactic(auto)]
+
 ghost use Rattle.std.specs.Prelude.{◌≡◌, ◌*◌, ◌<◌, length};
 ghost use Rattle.geometry.specs.Sizes.{page_size};
 ghost use Rattle.chip_array.specs.Device.{setting};

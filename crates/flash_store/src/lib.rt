@@ -2,6 +2,7 @@
 // and advanced; the journal of sales; the sizes that the chip tells; the dearest write; price rules; sales held against each other; the
 // draws of the test load.
 #![tactic(auto)]
+
 mod costs;
 mod ledger;
 mod load;

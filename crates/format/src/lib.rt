@@ -1,5 +1,6 @@
 // Formatting: every page is read, then the status; every unmarked block that is not carried over is erased, and a table is filled.
 #![tactic(auto)]
+
 ghost use Rattle.std.specs.Prelude.{List, ◌≡◌, ◌<◌, ◌≤◌, max, length};
 ghost use Rattle.geometry.specs.Sizes.{page_size};
 ghost use Rattle.geometry.specs.Limits.{Valid};

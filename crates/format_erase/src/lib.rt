@@ -1,5 +1,6 @@
 // The first round of erases: every unmarked block, blocks rising; a block whose erase failed is read.
 #![tactic(auto)]
+
 ghost use Rattle.std.specs.Prelude.{cond, true, eqb, ◌≡◌, ◌<◌, length};
 ghost use Rattle.geometry.specs.Sizes.{page_size};
 ghost use Rattle.chip_array.specs.Device.{setting};

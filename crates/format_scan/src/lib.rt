@@ -1,5 +1,6 @@
 // The reading of a chip before a formatting: every page, as a mount reads it, and what the formatting takes over.
 #![tactic(auto)]
+
 ghost use Rattle.std.specs.Prelude.{◌≡◌, ◌<◌, ◌≤◌, length, replicate};
 ghost use Rattle.geometry.specs.Limits.{Valid};
 ghost use Rattle.geometry.specs.Sizes.{page_size};

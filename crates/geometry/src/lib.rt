@@ -1,5 +1,6 @@
 // The chip's geometry: its limits, its sizes, and the row and column addresses as bytes.
 #![tactic(auto)]
+
 ghost use Rattle.std.specs.Prelude.{◌≡◌, ◌+◌, ◌*◌, ◌/◌, ◌%◌, ◌<◌, ◌≤◌, true};
 ghost use Rattle.geometry.specs.Limits.{page_count, block_shape, valid, Valid};
 ghost use Rattle.geometry.specs.Sizes.{page_size, block_size, chip_size, row_count, row_of, page_shift};

@@ -1,5 +1,6 @@
 // The call that lets the chip tell its size, before formatting or mounting.
 #![tactic(auto)]
+
 ghost use Rattle.std.specs.Prelude.{◌≡◌, ◌≤◌, true, length};
 ghost use Rattle.chip_array.specs.Device.{device, setting};
 ghost use Rattle.bus.specs.Line.{line};

@@ -1,5 +1,6 @@
 // The requests on the journal: a record appended, and the takings.
 #![tactic(auto)]
+
 ghost use Rattle.std.specs.Prelude.{true, List, ◌≡◌, ℕ, ◌≤◌, ◌<◌, length, replicate};
 ghost use Rattle.chip_array.specs.Device.{device, setting};
 ghost use Rattle.chip.specs.Chip.{Cycle};

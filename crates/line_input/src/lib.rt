@@ -1,5 +1,6 @@
 // Numbers in a line of input, and the lines of standard input.
 #![tactic(auto)]
+
 mod lines;
 
 ghost use Rattle.std.specs.Prelude.{◌≡◌, ◌≤◌};

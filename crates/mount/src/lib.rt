@@ -1,5 +1,6 @@
 // Mounting, full or quick: a reset, a scan of the chip, and the state that it gives. Nothing on the chip changes.
 #![tactic(auto)]
+
 ghost use Rattle.std.specs.Prelude.{List, ◌≡◌, ◌≤◌};
 ghost use Rattle.chip_array.specs.Device.{device, setting};
 ghost use Rattle.chip.specs.Chip.{Cycle};

@@ -1,5 +1,6 @@
 // What a mount makes of what a scan found: the answer, and the mounted state.
 #![tactic(auto)]
+
 ghost use Rattle.std.specs.Prelude.{◌≡◌, ◌<◌};
 ghost use Rattle.geometry.specs.Limits.{Valid};
 ghost use Rattle.scan_found.specs.Contents.{contents};

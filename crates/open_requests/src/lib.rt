@@ -1,5 +1,6 @@
 // The requests that open a write and go on with it.
 #![tactic(auto)]
+
 ghost use Rattle.std.specs.Prelude.{false, cond, List, ◌≡◌, ℕ, ◌≤◌, ◌<◌, eqb, length, take};
 ghost use Rattle.chip_array.specs.Device.{device, setting};
 ghost use Rattle.chip.specs.Chip.{Cycle};

@@ -1,5 +1,6 @@
 // A write that is open between calls: the words kept of it, where it stands, and its page.
 #![tactic(auto)]
+
 ghost use Rattle.std.specs.Prelude.{cond, ◌≡◌, ◌≤◌, eqb, length, replicate};
 ghost use Rattle.state.specs.declared.State.{State};
 ghost use Rattle.open_write.specs.Open.{open_state, cursor_of, words_of, no_write, kept_page, words_fit, open_fits};

@@ -1,5 +1,6 @@
 // The chip's operations as cycles on the bus: reset, status, read, program and erase.
 #![tactic(auto)]
+
 ghost use Rattle.std.specs.Prelude.{◌≡◌, length};
 ghost use Rattle.cells.specs.Cells.{over};
 ghost use Rattle.chip_array.specs.Device.{setting};

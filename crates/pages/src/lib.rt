@@ -1,5 +1,6 @@
 // Pages byte by byte: the check, whether a page is whole, its label, and the spare bytes of a new page.
 #![tactic(auto)]
+
 ghost use Rattle.std.specs.Prelude.{◌≡◌, ℕ, ◌+◌, ◌-◌, ◌≤◌, ◌<◌, length, get_or, take, drop, replicate, ◌++◌};
 ghost use Rattle.std.specs.Int.Count.{ones};
 ghost use Rattle.cells.specs.Part.{part, put};

@@ -1,5 +1,6 @@
 // The operation that reads the chip's parameter page: ECh, its address byte, status reads, and the bytes of the page.
 #![tactic(auto)]
+
 ghost use Rattle.std.specs.Prelude.{◌≡◌, List, ℕ, length, replicate};
 ghost use Rattle.cells.specs.Cells.{over};
 ghost use Rattle.chip_array.specs.Device.{Setting, setting};

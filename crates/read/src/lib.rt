@@ -1,5 +1,6 @@
 // The request that reads one logical page.
 #![tactic(auto)]
+
 ghost use Rattle.std.specs.Prelude.{◌≡◌};
 ghost use Rattle.chip_array.specs.Device.{device, setting};
 ghost use Rattle.request.specs.Call.{result_with};

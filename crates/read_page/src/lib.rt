@@ -1,5 +1,6 @@
 // A page of a block read into a buffer that changes only if the read passed, and undone by the kind of its copy.
 #![tactic(auto)]
+
 ghost use Rattle.std.specs.Prelude.{◌≡◌, ◌<◌, ◌≤◌, length};
 ghost use Rattle.geometry.specs.Limits.{Valid};
 ghost use Rattle.chip_array.specs.Device.{device, setting};

@@ -1,5 +1,6 @@
 // What every request shares: the test of the sizes, the start of a call, and how it is answered.
 #![tactic(auto)]
+
 ghost use Rattle.std.specs.Prelude.{◌≡◌, ◌≤◌, List, ℕ};
 ghost use Rattle.chip_array.specs.Device.{device, setting};
 ghost use Rattle.bus.specs.Line.{line, new_bus};

@@ -1,5 +1,6 @@
 // The refusals that a request on a mounted state can get, and the end of a request that changes nothing.
 #![tactic(auto)]
+
 ghost use Rattle.std.specs.Prelude.{◌≡◌, List, ℕ};
 ghost use Rattle.chip_array.specs.Device.{device};
 ghost use Rattle.request.specs.Call.{result_with, sized};

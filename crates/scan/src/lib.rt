@@ -1,5 +1,6 @@
 // The scan of the chip: every block read through the bus at one depth, and what was found.
 #![tactic(auto)]
+
 ghost use Rattle.std.specs.Prelude.{true, List, ◌≡◌, ◌<◌, ◌≤◌, length};
 ghost use Rattle.geometry.specs.Sizes.{page_size};
 ghost use Rattle.chip_array.specs.Device.{setting};

@@ -1,5 +1,6 @@
 // The scan of a block: its pages read whole through the bus, in order, and what they tell; and the byte of a factory mark alone.
 #![tactic(auto)]
+
 ghost use Rattle.std.specs.Prelude.{true, cond, List, ◌≡◌, ◌+◌, ◌<◌, ◌≤◌, length};
 ghost use Rattle.geometry.specs.Sizes.{page_size};
 ghost use Rattle.chip_array.specs.Device.{setting};

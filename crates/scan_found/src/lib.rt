@@ -1,5 +1,6 @@
 // What a scan of the chip found: marks, complete copies, the current table, the greatest number.
 #![tactic(auto)]
+
 pub mod contents;
 
 ghost use Rattle.std.specs.Prelude.{◌≡◌, ◌<◌};

@@ -1,5 +1,6 @@
 // The scan of a block at either depth: every page, or what a quick mount reads of it.
 #![tactic(auto)]
+
 ghost use Rattle.std.specs.Prelude.{true, ◌≡◌, ◌<◌, ◌≤◌, length};
 ghost use Rattle.geometry.specs.Sizes.{page_size};
 ghost use Rattle.bitmaps.specs.Bitmap.{bitmap_bytes};

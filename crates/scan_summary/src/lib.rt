@@ -1,5 +1,6 @@
 // What the pages of a block tell, one after the other.
 #![tactic(auto)]
+
 ghost use Rattle.std.specs.Prelude.{◌≡◌, max};
 ghost use Rattle.pages.specs.Layout.{Sized, label, label_of};
 ghost use Rattle.copies.specs.Blocks.{agrees};

@@ -1,5 +1,6 @@
 // The mounted state.
 #![tactic(auto)]
+
 ghost use Rattle.std.specs.Prelude.{◌≡◌, ◌+◌, ◌-◌, ◌<◌, ◌≤◌, length, replicate};
 ghost use Rattle.bitmaps.specs.Bitmap.{with_bit};
 ghost use Rattle.state_choose.specs.Choose.{chosen};

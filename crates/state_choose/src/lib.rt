@@ -1,5 +1,6 @@
 // The choice of a block for the next fill, and the count of those that may be filled.
 #![tactic(auto)]
+
 ghost use Rattle.std.specs.Prelude.{◌≡◌, ◌*◌, ◌<◌, ◌≤◌, length};
 ghost use Rattle.bitmaps.specs.Bitmap.{byte_of};
 ghost use Rattle.state_choose.specs.Choose.{permitted, next_block, chosen, count_permitted};

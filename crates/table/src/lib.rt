@@ -1,6 +1,7 @@
 // The table of invalid blocks: page 0 built, and each page judged. The main bytes of the other pages are FFh:
 // pages::fill_ones writes them.
 #![tactic(auto)]
+
 ghost use Rattle.std.specs.Prelude.{◌≡◌, ◌*◌, ◌≤◌, length};
 ghost use Rattle.bitmaps.specs.Bitmap.{bitmap_bytes};
 ghost use Rattle.copies.specs.Table.{bits_with, right_with, right_first, right_page, table_page, with_logical, Roomy};

@@ -1,5 +1,6 @@
 // Whitening: the main bytes of a page XORed with the page's stream, which is made many bytes at once.
 #![tactic(auto)]
+
 ghost use Rattle.std.specs.Prelude.{◌≡◌, ℕ, ◌+◌, ◌*◌, ◌≤◌, ◌<◌, length, get_or};
 ghost use Rattle.whitening.specs.Stream.{stepped, Begins, Repeats};
 ghost use Rattle.whitening.specs.Whitened.{xored, whitened};

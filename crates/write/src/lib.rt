@@ -1,5 +1,6 @@
 // The requests that write one page and erase one logical block.
 #![tactic(auto)]
+
 ghost use Rattle.std.specs.Prelude.{List, ◌≡◌, ℕ, ◌*◌, ◌<◌, ◌≤◌, length};
 ghost use Rattle.chip_array.specs.Device.{device, setting};
 ghost use Rattle.chip.specs.Chip.{Cycle};

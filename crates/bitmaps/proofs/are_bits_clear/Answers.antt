@@ -1,9 +1,8 @@
 -- `bitmaps::are_bits_clear` meets its contract. Assumes nothing.
 use Rattle.bitmaps.proofs.BitLaws.{clear_hit, clear_on, clear_over}
-use Rattle.bitmaps.specs.Bitmap.{clear_from}
 use native.Mathlib.Omega.{arith}
-use mathlib.Core.Path.{◌≡◌, refl, sym, ◌∙◌}
-use Prim.Native.Nat.{◌≤◌, ◌-◌}
+use mathlib.Core.Path.{refl, sym, ◌∙◌}
+use Prim.Native.Nat.{◌-◌}
 use Rattle.bitmaps.proofs.are_bits_clear.Goals as goal
 
 pub loop-block-init : goal.loop-block-init

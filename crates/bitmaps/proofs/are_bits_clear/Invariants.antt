@@ -1,8 +1,6 @@
 -- `bitmaps::are_bits_clear` meets its contract. Assumes nothing.
-use Rattle.bitmaps.proofs.BitLaws.{clear_hit, clear_on, clear_over}
 use Rattle.bitmaps.specs.Bitmap.{clear_from}
-use native.Mathlib.Omega.{arith}
-use mathlib.Core.Path.{◌≡◌, refl, sym, ◌∙◌}
+use mathlib.Core.Path.{◌≡◌}
 use Prim.Native.Nat.{◌≤◌, ◌-◌}
 use Rattle.bitmaps.proofs.are_bits_clear.Given as goal
 

@@ -1,11 +1,8 @@
 -- `bitmaps::are_bytes_clear` meets its contract: what is found and the bytes left decide as all do. Assumes nothing.
-use Prim.Native.Nat.{◌-◌, ◌*◌, ◌≤◌}
-use mathlib.Core.Bool.{cond, false}
-use mathlib.Core.Path.{◌≡◌, refl, ◌∙◌}
+use Prim.Native.Nat.{◌-◌}
+use mathlib.Core.Bool.{false}
+use mathlib.Core.Path.{refl, ◌∙◌}
 use native.Mathlib.Omega.{arith}
-use borrow.Author.Rules.{rules}
-use lib.Dec.{eqb}
-use Rattle.bitmaps.specs.Bitmap.{clear_from}
 use Rattle.bitmaps.proofs.ByteLaws.{clear_bytes_on, clear_bytes_over}
 use Rattle.bitmaps.proofs.are_bytes_clear.Goals as goal
 
@@ -17,5 +14,5 @@ loop-at-preserved c =
     (omega arith, clear_bytes_on c.args.bits.now c.args.end c.loop-at.at c.loop-at.found c.loop-at-test.true (omega (arith, c.shared_slice_known-1.given c.loop-at.at)) ∙ c.loop-at.invariant.1)
 
 pub returns : goal.returns
-returns c =    clear_bytes_over c.args.bits.now c.args.end c.loop-at.at c.loop-at.found c.loop-at-test.false
+returns c = clear_bytes_over c.args.bits.now c.args.end c.loop-at.at c.loop-at.found c.loop-at-test.false
     ∙ c.loop-at.invariant.1

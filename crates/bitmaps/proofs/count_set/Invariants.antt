@@ -1,10 +1,7 @@
 -- `bitmaps::count_set` meets its contract. Assumes nothing.
-use Rattle.bitmaps.proofs.BitLaws.{count_set, count_clear}
-use mathlib.Core.Logic.{⊎_elim}
-use mathlib.Core.Path.{◌≡◌, refl, sym, ap, ◌∙◌}
+use mathlib.Core.Path.{◌≡◌}
 use Prim.Native.Nat.{◌≤◌, ◌-◌}
 use Rattle.bitmaps.specs.Bitmap.{count_bits}
-use native.Mathlib.Omega.{arith}
 use Rattle.bitmaps.proofs.count_set.Given as goal
 
 abbrev pub invariant-loop-block : goal.invariant-loop-block

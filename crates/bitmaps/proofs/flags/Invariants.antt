@@ -1,10 +1,6 @@
 -- `bitmaps::flags` meets its contract: the bytes of the blocks passed are their flags, the others 0. Assumes nothing.
 use Prim.Native.Nat.{◌-◌, ◌≤◌}
-use mathlib.Core.Logic.{⊎_elim}
-use mathlib.Core.Path.{◌∙◌}
-use native.Mathlib.Omega.{arith}
-use borrow.Author.Rules.{rules}
-use Rattle.bitmaps.proofs.ByteLaws.{Flagged, flagged_start, flagged_zero, flagged_spread, flagged_all}
+use Rattle.bitmaps.proofs.ByteLaws.{Flagged}
 use Rattle.bitmaps.proofs.flags.Given as goal
 
 abbrev pub invariant-loop-at : goal.invariant-loop-at

@@ -2,19 +2,17 @@
 use Prim.Native.Nat.{◌+◌}
 use mathlib.Core.Path.{sym, ◌∙◌}
 use native.Mathlib.Omega.{arith}
-use borrow.Author.Rules.{rules}
-use borrow.Author.Tests.{not-true, not-false}
 use Rattle.bitmaps.proofs.ByteLaws.{clear_parts}
 use Rattle.bitmaps.proofs.is_clear_from.Goals as goal
 
 pub returns-then-not-are_bits_clear : goal.returns-then-not-are_bits_clear
 returns-then-not-are_bits_clear c =
-    rw (clear_parts c.args.bits.now c.args.from (c.byte_of-first.result + 1) c.byte_of-last.result c.args.end (omega (arith, c.byte_of-first.ensures)) (omega (arith, c.if-last-first.false)) (omega (arith, c.byte_of-last.ensures)), sym c.are_bits_clear-2.ensures ∙ not-true c.are_bits_clear-2.result c.if-not-are_bits_clear.true-raw)
+    rw (clear_parts c.args.bits.now c.args.from (c.byte_of-first.result + 1) c.byte_of-last.result c.args.end (omega (arith, c.byte_of-first.ensures)) (omega (arith, c.if-last-first.false)) (omega (arith, c.byte_of-last.ensures)), sym c.are_bits_clear-2.ensures ∙ c.if-not-are_bits_clear.true)
 
 pub returns-then-not-are_bytes_clear : goal.returns-then-not-are_bytes_clear
 returns-then-not-are_bytes_clear c =
-    rw (clear_parts c.args.bits.now c.args.from (c.byte_of-first.result + 1) c.byte_of-last.result c.args.end (omega (arith, c.byte_of-first.ensures)) (omega (arith, c.if-last-first.false)) (omega (arith, c.byte_of-last.ensures)), sym c.are_bits_clear-2.ensures ∙ not-false c.are_bits_clear-2.result c.if-not-are_bits_clear.false-raw, sym c.are_bytes_clear.ensures ∙ not-true c.are_bytes_clear.result c.if-not-are_bytes_clear.true-raw)
+    rw (clear_parts c.args.bits.now c.args.from (c.byte_of-first.result + 1) c.byte_of-last.result c.args.end (omega (arith, c.byte_of-first.ensures)) (omega (arith, c.if-last-first.false)) (omega (arith, c.byte_of-last.ensures)), sym c.are_bits_clear-2.ensures ∙ c.if-not-are_bits_clear.false, sym c.are_bytes_clear.ensures ∙ c.if-not-are_bytes_clear.true)
 
 pub returns : goal.returns
 returns c =
-    rw (clear_parts c.args.bits.now c.args.from (c.byte_of-first.result + 1) c.byte_of-last.result c.args.end (omega (arith, c.byte_of-first.ensures)) (omega (arith, c.if-last-first.false)) (omega (arith, c.byte_of-last.ensures)), sym c.are_bits_clear-2.ensures ∙ not-false c.are_bits_clear-2.result c.if-not-are_bits_clear.false-raw, sym c.are_bytes_clear.ensures ∙ not-false c.are_bytes_clear.result c.if-not-are_bytes_clear.false-raw) c.are_bits_clear-3.ensures
+    rw (clear_parts c.args.bits.now c.args.from (c.byte_of-first.result + 1) c.byte_of-last.result c.args.end (omega (arith, c.byte_of-first.ensures)) (omega (arith, c.if-last-first.false)) (omega (arith, c.byte_of-last.ensures)), sym c.are_bits_clear-2.ensures ∙ c.if-not-are_bits_clear.false, sym c.are_bytes_clear.ensures ∙ c.if-not-are_bytes_clear.false) c.are_bits_clear-3.ensures

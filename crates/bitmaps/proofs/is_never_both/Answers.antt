@@ -1,8 +1,7 @@
 -- `bitmaps::is_never_both` meets its contract: the blocks left to look at decide as all do. Assumes nothing.
-use Prim.Native.Nat.{◌≤◌, ◌*◌}
+use Prim.Native.Nat.{◌*◌}
 use mathlib.Core.Path.{◌≡◌, refl, sym, ap, ◌∙◌}
 use native.Mathlib.Omega.{arith}
-use borrow.Author.Rules.{rules}
 use Rattle.bitmaps.specs.Bitmap.{never_both}
 use Rattle.bitmaps.proofs.BitLaws.{never_hit, never_first, never_second}
 use Rattle.bitmaps.proofs.is_never_both.Goals as goal

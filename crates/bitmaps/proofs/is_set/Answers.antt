@@ -2,7 +2,6 @@
 use lib.ListN.{get_or}
 use Rattle.bitmaps.specs.Bitmap.{bit_at, byte_of, place_of}
 use Rattle.bitmaps.proofs.BitLaws.{bit_tested}
-use borrow.Author.Rules.{rules}
 use Rattle.bitmaps.proofs.is_set.Goals as goal
 
 pub returns : goal.returns

@@ -1,6 +1,5 @@
 -- `bitmaps::set_bit` meets its contract. Assumes nothing.
 use Rattle.bitmaps.specs.Bitmap.{with_bit}
-use borrow.Author.Rules.{rules}
 use Rattle.bitmaps.proofs.set_bit.Goals as goal
 
 pub returns : goal.returns

@@ -1,9 +1,7 @@
 -- `bitmaps::share_no_bit` meets its contract: what is shared is 0 exactly where no block passed has both bits. Assumes nothing.
-use Prim.Native.Nat.{ℕ, ◌-◌, ◌*◌, ◌≤◌}
+use Prim.Native.Nat.{ℕ, ◌-◌, ◌*◌}
 use mathlib.Core.Path.{◌≡◌, refl, ap, ◌∙◌}
 use native.Mathlib.Omega.{arith}
-use borrow.Author.Rules.{rules}
-use lib.Dec.{eqb}
 use Rattle.bitmaps.specs.Bitmap.{never_both}
 use Rattle.bitmaps.proofs.ByteLaws.{share_on}
 use Rattle.bitmaps.proofs.share_no_bit.Goals as goal

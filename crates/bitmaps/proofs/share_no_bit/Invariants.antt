@@ -1,11 +1,8 @@
 -- `bitmaps::share_no_bit` meets its contract: what is shared is 0 exactly where no block passed has both bits. Assumes nothing.
-use Prim.Native.Nat.{ℕ, ◌-◌, ◌*◌, ◌≤◌}
-use mathlib.Core.Path.{◌≡◌, refl, ap, ◌∙◌}
-use native.Mathlib.Omega.{arith}
-use borrow.Author.Rules.{rules}
+use Prim.Native.Nat.{◌-◌, ◌*◌, ◌≤◌}
+use mathlib.Core.Path.{◌≡◌}
 use lib.Dec.{eqb}
 use Rattle.bitmaps.specs.Bitmap.{never_both}
-use Rattle.bitmaps.proofs.ByteLaws.{share_on}
 use Rattle.bitmaps.proofs.share_no_bit.Given as goal
 
 abbrev pub invariant-loop-at : goal.invariant-loop-at

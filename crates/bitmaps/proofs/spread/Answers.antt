@@ -1,8 +1,7 @@
 -- `bitmaps::spread` meets its contract: the bits passed are written. Assumes nothing.
-use Prim.Native.Nat.{ℕ, ◌-◌, ◌≤◌}
+use Prim.Native.Nat.{ℕ, ◌-◌}
 use mathlib.Core.Path.{◌≡◌, refl, ap, ◌∙◌}
 use native.Mathlib.Omega.{arith}
-use borrow.Author.Rules.{rules}
 use Rattle.bitmaps.specs.Bitmap.{spread_bits}
 use Rattle.bitmaps.proofs.ByteLaws.{spread_on}
 use Rattle.bitmaps.proofs.spread.Goals as goal

@@ -1,10 +1,7 @@
 -- `bitmaps::spread` meets its contract: the bits passed are written. Assumes nothing.
-use Prim.Native.Nat.{ℕ, ◌-◌, ◌≤◌}
-use mathlib.Core.Path.{◌≡◌, refl, ap, ◌∙◌}
-use native.Mathlib.Omega.{arith}
-use borrow.Author.Rules.{rules}
+use Prim.Native.Nat.{◌-◌, ◌≤◌}
+use mathlib.Core.Path.{◌≡◌}
 use Rattle.bitmaps.specs.Bitmap.{spread_bits}
-use Rattle.bitmaps.proofs.ByteLaws.{spread_on}
 use Rattle.bitmaps.proofs.spread.Given as goal
 
 abbrev pub invariant-loop-place : goal.invariant-loop-place

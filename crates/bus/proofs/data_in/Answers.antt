@@ -4,7 +4,6 @@ use Rattle.bus.specs.Line.{line}
 use Rattle.chip.specs.Chip.{exec}
 use mathlib.Core.List.{[]}
 use mathlib.Core.Path.{refl, sym, ◌∙◌}
-use borrow.Author.Rules.{rules}
 use Rattle.bus.proofs.data_in.Goals as goal
 
 pub overflow_sub-bus : goal.overflow_sub-bus

@@ -6,7 +6,6 @@ use Rattle.chip_array.specs.Device.{device}
 use Rattle.chip.specs.Chip.{exec}
 use Rattle.bus.specs.Line.{line}
 use Rattle.bus.proofs.LineLaws.{left_of_admits, line_sent, line_kept}
-use borrow.Author.Rules.{rules}
 use Rattle.bus.proofs.parameter_address.Goals as goal
 
 pub spend-requires : goal.spend-requires

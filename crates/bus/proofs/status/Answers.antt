@@ -4,7 +4,6 @@ use mathlib.Core.List.{[]}
 use Rattle.chip.specs.Chip.{exec}
 use Rattle.bus.specs.Line.{line, status_out}
 use Rattle.bus.proofs.LineLaws.{left_of_admits, line_sent, line_kept}
-use borrow.Author.Rules.{rules}
 use Rattle.bus.proofs.status.Goals as goal
 
 pub spend-requires : goal.spend-requires

@@ -1,6 +1,5 @@
 -- `bus_polling::answer` meets its contract. Assumes nothing.
 use mathlib.Core.Path.{sym, ◌∙◌}
-use borrow.Author.Rules.{rules}
 use Rattle.bus_polling.proofs.answer.Goals as goal
 
 pub returns-then-is_writable : goal.returns-then-is_writable

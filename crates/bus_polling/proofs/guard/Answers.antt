@@ -1,6 +1,5 @@
 -- `bus_polling::guard` meets its contract: by the number of the variant. Assumes nothing.
 use mathlib.Core.Path.{sym, ap, ◌∙◌}
-use borrow.Author.Rules.{rules}
 use Rattle.bus_polling.proofs.OutcomeLaws.{guarded_by_tag, guarded_by_tag_lem}
 use Rattle.bus_polling.proofs.guard.Goals as goal
 

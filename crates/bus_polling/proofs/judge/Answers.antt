@@ -1,7 +1,7 @@
 -- `bus_polling::judge` meets its contract: bit 0 is the remainder by 2. Assumes nothing.
-use mathlib.Core.Path.{◌≡◌, sym, ◌∙◌}
+use mathlib.Core.Path.{sym, ◌∙◌}
 use borrow.Author.Tests.{eq-eqb, ne_eqb}
-use lib.Bits.{bit_and, and_mask}
+use lib.Bits.{and_mask}
 use Rattle.bus_polling.specs.Polling.{judged}
 use Rattle.bus_polling.proofs.judge.Goals as goal
 

@@ -1,5 +1,4 @@
 -- `bus_sequences::confirm` meets its contract: two command cycles, one after the other. Assumes nothing.
-use borrow.Author.Rules.{rules}
 use Rattle.bus_sequences.proofs.DataLaws.{lone, onward}
 use Rattle.bus_sequences.proofs.confirm.Goals as goal
 

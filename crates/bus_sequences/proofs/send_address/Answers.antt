@@ -1,5 +1,4 @@
 -- `bus_sequences::send_address` meets its contract: two address cycles, and the three of the row. Assumes nothing.
-use borrow.Author.Rules.{rules}
 use Rattle.bus_sequences.proofs.DataLaws.{onward}
 use Rattle.bus_sequences.proofs.send_address.Goals as goal
 

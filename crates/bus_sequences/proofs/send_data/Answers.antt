@@ -1,14 +1,8 @@
 -- `bus_sequences::send_data` meets its contract: what is left of the data, sent from the present line, leaves what all of it leaves from the first. Assumes nothing.
-use Prim.Native.Nat.{ℕ, ◌-◌, ◌≤◌}
-use mathlib.Core.List.{List, map}
-use mathlib.Core.Path.{◌≡◌, refl, sym, ◌∙◌}
+use Prim.Native.Nat.{◌-◌}
+use mathlib.Core.Path.{refl, sym, ◌∙◌}
 use native.Mathlib.Omega.{arith}
 use borrow.Author.Rules.{rules}
-use borrow.Author.Tests.{not-true}
-use lib.ListN.{length, drop}
-use Rattle.chip_array.specs.Device.{Setting}
-use Rattle.chip.specs.Chip.{Cycle}
-use Rattle.bus.specs.Line.{line, send_all}
 use Rattle.bus_sequences.proofs.DataLaws.{data_goes, data_stops, data_done}
 use Rattle.bus_sequences.proofs.send_data.Goals as goal
 
@@ -17,7 +11,7 @@ loop-i-init c = (omega arith, refl, λ s a h. refl)
 
 pub returns-then-not-goes_on : goal.returns-then-not-goes_on
 returns-then-not-goes_on c = λ s a h.
-    data_stops s _ _ c.loop-i.i (omega arith) (c.data_in-b.ensures s a h) (sym (c.goes_on.ensures _ _ _) ∙ not-true _ c.if-not-goes_on.true-raw)
+    data_stops s _ _ c.loop-i.i (omega arith) (c.data_in-b.ensures s a h) (sym (c.goes_on.ensures _ _ _) ∙ c.if-not-goes_on.true)
     ∙ c.loop-i.invariant.2 s a h
 
 pub loop-i-preserved : goal.loop-i-preserved

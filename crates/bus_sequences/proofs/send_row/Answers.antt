@@ -1,7 +1,6 @@
 -- `bus_sequences::send_row` meets its contract: three address cycles, one after the other, with the row's bytes. Assumes nothing.
 use Prim.Native.Nat.{◌/◌, ◌%◌}
 use mathlib.Core.Path.{◌≡◌}
-use borrow.Author.Rules.{rules}
 use Rattle.bus_sequences.proofs.DataLaws.{lone, onward}
 use Rattle.bus_sequences.proofs.send_row.Goals as goal
 

@@ -2,7 +2,6 @@
 use Rattle.c_bench.specs.Start.{part, begun}
 use Rattle.bus_sequences.specs.Cycles.{program_cycles}
 use Rattle.chip_array.specs.Device.{setting}
-use borrow.Author.Rules.{rules}
 use Rattle.c_bench.proofs.MeasureLaws.{left_most, measured_is}
 use Rattle.c_bench.proofs.chip_bench_program.Goals as goal
 

@@ -3,7 +3,6 @@ use Rattle.c_bench.specs.Start.{part, begun}
 use Rattle.bus_sequences.specs.Cycles.{read_cycles}
 use Rattle.chip_array.specs.Device.{setting}
 use lib.ListN.{length}
-use borrow.Author.Rules.{rules}
 use Rattle.c_bench.proofs.MeasureLaws.{left_most, measured_is}
 use Rattle.c_bench.proofs.chip_bench_read.Goals as goal
 

@@ -4,7 +4,6 @@ use mathlib.Core.List.{List}
 use mathlib.Core.Path.{ap, ◌∙◌}
 use Rattle.open_write.specs.Open.{open_state, open_fits}
 use Rattle.c_open.proofs.ByteLaws.{page-lent}
-use borrow.Author.Rules.{rules}
 use Rattle.c_open.proofs.is_inside.Goals as goal
 
 pub returns : goal.returns

@@ -6,7 +6,6 @@ use native.Mathlib.Omega.{arith}
 use lib.ListN.{take, drop, length-take}
 use Rattle.cells.proofs.PartLaws.{put-lent}
 use Rattle.c_state.proofs.PieceLaws.{over-whole}
-use borrow.Author.Rules.{rules}
 use Rattle.c_open.proofs.put_kinds.Goals as goal
 
 pub returns : goal.returns

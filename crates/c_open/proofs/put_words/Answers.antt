@@ -2,7 +2,6 @@
 use mathlib.Core.Path.{◌∙◌}
 use native.Mathlib.Omega.{arith}
 use Rattle.c_open.proofs.ByteLaws.{written}
-use borrow.Author.Rules.{rules}
 use Rattle.c_open.proofs.put_words.Goals as goal
 
 pub write_number-requires-10 : goal.write_number-requires-10

@@ -1,7 +1,6 @@
 -- `c_open::write_of` meets its contract. Assumes nothing.
 use native.Mathlib.Omega.{arith}
 use Rattle.c_open.specs.OpenBytes.{bytes_write}
-use borrow.Author.Rules.{rules}
 use Rattle.c_open.proofs.write_of.Goals as goal
 
 pub number_at-requires-5 : goal.number_at-requires-5

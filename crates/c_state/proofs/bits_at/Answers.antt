@@ -3,7 +3,6 @@ use Prim.Native.Nat.{◌+◌, ◌-◌}
 use mathlib.Core.Path.{refl}
 use native.Mathlib.Omega.{arith}
 use Rattle.c_state.proofs.PieceLaws.{bits_read}
-use borrow.Author.Rules.{rules}
 use Rattle.c_state.proofs.bits_at.Goals as goal
 
 pub returns : goal.returns

@@ -2,7 +2,6 @@
 use mathlib.Core.Path.{◌∙◌}
 use native.Mathlib.Omega.{arith}
 use Rattle.c_state.proofs.PieceLaws.{over-whole}
-use borrow.Author.Rules.{rules}
 use Rattle.c_state.proofs.kinds_of.Goals as goal
 
 pub returns : goal.returns

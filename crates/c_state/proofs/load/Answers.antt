@@ -1,6 +1,5 @@
 -- `c_state::load` meets its contract. Assumes nothing.
 use Rattle.c_state.proofs.PieceLaws.{loaded}
-use borrow.Author.Rules.{rules}
 use Rattle.c_state.proofs.load.Goals as goal
 
 pub returns : goal.returns

@@ -2,7 +2,7 @@
 use Prim.Native.Nat.{◌+◌, ◌-◌, ◌*◌, ◌<◌}
 use native.Mathlib.Omega.{arith}
 use Rattle.pages.proofs.ByteLaws.{pair_lt}
-use Rattle.c_state.proofs.PieceLaws.{Loaded, loaded_none, loaded_more, loaded_all}
+use Rattle.c_state.proofs.PieceLaws.{loaded_none, loaded_more, loaded_all}
 use Rattle.c_state.proofs.read_map.Goals as goal
 
 pub loop-l-init : goal.loop-l-init

@@ -1,8 +1,6 @@
 -- `c_state::read_map` meets its contract. Assumes nothing.
-use Prim.Native.Nat.{◌+◌, ◌-◌, ◌*◌, ◌<◌}
-use native.Mathlib.Omega.{arith}
-use Rattle.pages.proofs.ByteLaws.{pair_lt}
-use Rattle.c_state.proofs.PieceLaws.{Loaded, loaded_none, loaded_more, loaded_all}
+use Prim.Native.Nat.{◌-◌}
+use Rattle.c_state.proofs.PieceLaws.{Loaded}
 use Rattle.c_state.proofs.read_map.Given as goal
 
 abbrev pub invariant-loop-l : goal.invariant-loop-l

@@ -9,20 +9,18 @@ use Rattle.c_state.proofs.store.Goals as goal
 pub slice_bounds-write_map-end : goal.slice_bounds-write_map-end
 slice_bounds-write_map-end c =
     let map_long : length c.args.state.map ≡ 4096 = search rules in
-    
     sym (map_long)
 
 pub write_map-requires : goal.write_map-requires
 write_map-requires c =
     let map_long : length c.args.state.map ≡ 4096 = search rules in
-     record { bytes_len = omega arith; map_len = map_long }
+    record { bytes_len = omega arith; map_len = map_long }
 
 pub returns : goal.returns
 returns c =
     let marked_long : length c.args.state.marked ≡ 512 = search rules in
     let invalid_long : length c.args.state.invalid ≡ 512 = search rules in
     let map_long : length c.args.state.map ≡ 4096 = search rules in
-    
     stored c.args.state c.args.bytes.now
     c.write_number.new.bytes c.write_number-2.new.bytes c.write_number-3.new.bytes c.write_number-4.new.bytes
     c.write_bitmaps.new.bytes c.write_map.new.bytes

@@ -1,7 +1,6 @@
 -- `c_state::write_bitmaps` meets its contract. Assumes nothing.
 use mathlib.Core.Path.{ap, ◌∙◌}
 use Rattle.cells.specs.Part.{put}
-use borrow.Author.Rules.{rules}
 use Rattle.c_state.proofs.write_bitmaps.Goals as goal
 
 pub returns : goal.returns

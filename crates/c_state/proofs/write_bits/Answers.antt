@@ -3,7 +3,6 @@ use Prim.Native.Nat.{◌+◌, ◌-◌}
 use native.Mathlib.Omega.{arith}
 use lib.ListN.{length-take, length-drop}
 use Rattle.c_state.proofs.PieceLaws.{bits_written}
-use borrow.Author.Rules.{rules}
 use Rattle.c_state.proofs.write_bits.Goals as goal
 
 pub returns : goal.returns

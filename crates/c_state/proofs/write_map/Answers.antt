@@ -1,8 +1,7 @@
 -- `c_state::write_map` meets its contract. Assumes nothing.
 use Prim.Native.Nat.{◌-◌}
-use borrow.Author.Rules.{rules}
 use native.Mathlib.Omega.{arith}
-use Rattle.c_state.proofs.PieceLaws.{Stored, stored-none, stored_more, stored-all}
+use Rattle.c_state.proofs.PieceLaws.{stored-none, stored_more, stored-all}
 use Rattle.c_state.proofs.write_map.Goals as goal
 
 pub loop-l-init : goal.loop-l-init

@@ -1,8 +1,6 @@
 -- `c_state::write_map` meets its contract. Assumes nothing.
 use Prim.Native.Nat.{◌-◌}
-use borrow.Author.Rules.{rules}
-use native.Mathlib.Omega.{arith}
-use Rattle.c_state.proofs.PieceLaws.{Stored, stored-none, stored_more, stored-all}
+use Rattle.c_state.proofs.PieceLaws.{Stored}
 use Rattle.c_state.proofs.write_map.Given as goal
 
 abbrev pub invariant-loop-l : goal.invariant-loop-l

@@ -1,14 +1,12 @@
 -- `capture::address_byte` meets its contract: the column bytes, then the row bytes. Assumes nothing.
-use Prim.Native.Nat.{◌%◌}
 use mathlib.Core.List.{map}
-use mathlib.Core.Path.{◌≡◌, sym, ◌∙◌}
+use mathlib.Core.Path.{sym, ◌∙◌}
 use native.Mathlib.Omega.{arith}
 use Rattle.geometry.specs.Sizes.{column_bytes}
 use Rattle.chip.specs.Chip.Cycle.{address}
 use Rattle.bus_sequences.specs.Cycles.{row_cycles}
 use Rattle.capture.specs.Capture.{cycle_at}
 use Rattle.capture.proofs.AtLaws.{at_back}
-use borrow.Author.Rules.{rules}
 use Rattle.capture.proofs.address_byte.Goals as goal
 
 pub returns-then-i-eq0 : goal.returns-then-i-eq0

@@ -3,7 +3,6 @@ use mathlib.Core.Path.{sym, ◌∙◌}
 use native.Mathlib.Omega.{arith}
 use Rattle.capture.specs.Capture.{cycle_at}
 use Rattle.capture.proofs.AtLaws.{erase_row, erase_polled}
-use borrow.Author.Rules.{rules}
 use Rattle.capture.proofs.erase_cycle.Goals as goal
 
 pub returns-then-i-eq0 : goal.returns-then-i-eq0

@@ -3,7 +3,6 @@ use mathlib.Core.Path.{sym}
 use native.Mathlib.Omega.{arith}
 use Rattle.capture.specs.Capture.{cycle_at}
 use Rattle.capture.proofs.AtLaws.{output_byte, output_past}
-use borrow.Author.Rules.{rules}
 use Rattle.capture.proofs.output_cycle.Goals as goal
 
 pub returns-then-i-eq0 : goal.returns-then-i-eq0

@@ -3,7 +3,6 @@ use mathlib.Core.Path.{sym, ◌∙◌}
 use native.Mathlib.Omega.{arith}
 use Rattle.capture.specs.Capture.{cycle_at}
 use Rattle.capture.proofs.AtLaws.{program_address, program_byte, program_polled}
-use borrow.Author.Rules.{rules}
 use Rattle.capture.proofs.program_cycle.Goals as goal
 
 pub returns-then-i-eq0 : goal.returns-then-i-eq0

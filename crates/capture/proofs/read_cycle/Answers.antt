@@ -2,7 +2,6 @@
 use mathlib.Core.Path.{sym, ◌∙◌}
 use native.Mathlib.Omega.{arith}
 use Rattle.capture.proofs.AtLaws.{read_fetch, read_status, read_output}
-use borrow.Author.Rules.{rules}
 use Rattle.capture.proofs.read_cycle.Goals as goal
 
 pub returns-then-i-lt8 : goal.returns-then-i-lt8

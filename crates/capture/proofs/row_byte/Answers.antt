@@ -4,7 +4,6 @@ use native.Mathlib.Omega.{arith}
 use Rattle.bus_sequences.specs.Cycles.{row_cycles}
 use Rattle.capture.specs.Capture.{cycle_at}
 use Rattle.capture.proofs.AtLaws.{at_past}
-use borrow.Author.Rules.{rules}
 use Rattle.capture.proofs.row_byte.Goals as goal
 
 pub returns-then-i-eq0 : goal.returns-then-i-eq0

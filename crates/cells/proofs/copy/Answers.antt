@@ -2,8 +2,7 @@
 use Prim.Native.Nat.{◌-◌}
 use native.Mathlib.Omega.{arith}
 use mathlib.Core.Path.{refl}
-use lib.ListN.{length}
-use Rattle.cells.proofs.RewriteLaws.{Rewritten, rewritten_none, rewritten_more, rewritten_all}
+use Rattle.cells.proofs.RewriteLaws.{rewritten_none, rewritten_more, rewritten_all}
 use Rattle.cells.proofs.copy.Goals as goal
 
 pub loop-i-init : goal.loop-i-init

@@ -1,9 +1,7 @@
 -- `cells::copy` meets its contract: `into` is rewritten by `from`.
 use Prim.Native.Nat.{◌-◌}
-use native.Mathlib.Omega.{arith}
-use mathlib.Core.Path.{refl}
 use lib.ListN.{length}
-use Rattle.cells.proofs.RewriteLaws.{Rewritten, rewritten_none, rewritten_more, rewritten_all}
+use Rattle.cells.proofs.RewriteLaws.{Rewritten}
 use Rattle.cells.proofs.copy.Given as goal
 
 abbrev pub invariant-loop-i : goal.invariant-loop-i

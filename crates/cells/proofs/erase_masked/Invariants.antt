@@ -1,11 +1,8 @@
 -- `cells::erase_masked` meets its contract: `block` is rewritten by what the erase makes of it.
 use Prim.Native.Nat.{◌-◌}
-use mathlib.Core.Path.{◌∙◌}
-use native.Mathlib.Omega.{arith}
 use lib.ListN.{length}
 use Rattle.cells.specs.Cells.{raised}
-use Rattle.cells.proofs.CellLaws.{length-raised, get_or-raised}
-use Rattle.cells.proofs.RewriteLaws.{Rewritten, rewritten_none, rewritten_next, rewritten_more, rewritten_whole}
+use Rattle.cells.proofs.RewriteLaws.{Rewritten}
 use Rattle.cells.proofs.erase_masked.Given as goal
 
 abbrev pub invariant-loop-i : goal.invariant-loop-i

@@ -1,8 +1,8 @@
 -- `cells::erase_whole` meets its contract: `block` is rewritten by as many 255.
 use Prim.Native.Nat.{◌-◌}
 use native.Mathlib.Omega.{arith}
-use lib.ListN.{length, replicate, length-replicate, get_or-replicate}
-use Rattle.cells.proofs.RewriteLaws.{Rewritten, rewritten_none, rewritten_more, rewritten_whole}
+use lib.ListN.{length, length-replicate, get_or-replicate}
+use Rattle.cells.proofs.RewriteLaws.{rewritten_none, rewritten_more, rewritten_whole}
 use Rattle.cells.proofs.erase_whole.Goals as goal
 
 pub loop-i-init : goal.loop-i-init

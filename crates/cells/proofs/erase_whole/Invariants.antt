@@ -1,8 +1,7 @@
 -- `cells::erase_whole` meets its contract: `block` is rewritten by as many 255.
 use Prim.Native.Nat.{◌-◌}
-use native.Mathlib.Omega.{arith}
-use lib.ListN.{length, replicate, length-replicate, get_or-replicate}
-use Rattle.cells.proofs.RewriteLaws.{Rewritten, rewritten_none, rewritten_more, rewritten_whole}
+use lib.ListN.{length, replicate}
+use Rattle.cells.proofs.RewriteLaws.{Rewritten}
 use Rattle.cells.proofs.erase_whole.Given as goal
 
 abbrev pub invariant-loop-i : goal.invariant-loop-i

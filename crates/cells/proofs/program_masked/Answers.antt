@@ -2,10 +2,8 @@
 use Prim.Native.Nat.{◌-◌}
 use mathlib.Core.Path.{◌∙◌}
 use native.Mathlib.Omega.{arith}
-use lib.ListN.{length}
-use Rattle.cells.specs.Cells.{programmed, weakened}
 use Rattle.cells.proofs.CellLaws.{length-programmed, get_or_any, get_or-programmed, get_or-weakened}
-use Rattle.cells.proofs.RewriteLaws.{Rewritten, rewritten_none, rewritten_next, rewritten_more, rewritten_whole}
+use Rattle.cells.proofs.RewriteLaws.{rewritten_none, rewritten_next, rewritten_more, rewritten_whole}
 use Rattle.cells.proofs.program_masked.Goals as goal
 
 pub loop-i-init : goal.loop-i-init

@@ -1,11 +1,8 @@
 -- `cells::program_whole` meets its contract: `page` is rewritten by what the program leaves of it.
 use Prim.Native.Nat.{◌-◌}
-use mathlib.Core.Path.{◌∙◌}
-use native.Mathlib.Omega.{arith}
 use lib.ListN.{length}
 use Rattle.cells.specs.Cells.{programmed}
-use Rattle.cells.proofs.CellLaws.{length-programmed, get_or_any, get_or-programmed}
-use Rattle.cells.proofs.RewriteLaws.{Rewritten, rewritten_none, rewritten_next, rewritten_more, rewritten_whole}
+use Rattle.cells.proofs.RewriteLaws.{Rewritten}
 use Rattle.cells.proofs.program_whole.Given as goal
 
 abbrev pub invariant-loop-i : goal.invariant-loop-i

@@ -1,7 +1,6 @@
 -- `chip::command` meets its contract: the test of a confirm cycle gives what the cycle requires.
 -- Assumes nothing.
 use mathlib.Core.Path.{sym, ◌∙◌}
-use borrow.Author.Rules.{rules}
 use Rattle.chip.specs.Chip.{commanded}
 use Rattle.chip.proofs.ConfirmableLaws.{confirms}
 use Rattle.chip.proofs.command.Goals as goal

@@ -1,6 +1,5 @@
 -- `chip::confirm` meets its contract: each code goes to its own confirm cycle. Assumes nothing.
 use mathlib.Core.Path.{◌∙◌}
-use borrow.Author.Rules.{rules}
 use borrow.Author.Tests.{eq-eqb, ne_eqb}
 use Rattle.chip.specs.Chip.{confirmed}
 use Rattle.chip.proofs.confirm.Goals as goal

@@ -1,7 +1,6 @@
 -- `chip::data_in` meets its contract. Assumes nothing.
 use Rattle.chip.specs.Chip.{data_taken}
 use borrow.Author.Tests.{eq-eqb, ne_eqb, lt-ltb, le-ltb}
-use borrow.Author.Rules.{rules}
 use Rattle.chip.proofs.data_in.Goals as goal
 
 pub returns-then-column-register : goal.returns-then-column-register

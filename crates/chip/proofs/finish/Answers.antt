@@ -1,7 +1,6 @@
 -- `chip::finish` meets its contract: the tests of the operation, the lengths and of the row give what the rest of the operation requires.
 -- Assumes nothing.
 use mathlib.Core.Path.{sym, ◌∙◌}
-use borrow.Author.Rules.{rules}
 use borrow.Author.Tests.{eq-eqb, ne_eqb, lt-ltb, le-ltb}
 use Rattle.chip.specs.Chip.{finished}
 use Rattle.chip_array.proofs.DeviceLaws.{fits}

@@ -1,6 +1,5 @@
 -- `chip::is_fitting` meets its contract: each test answers as the one of the definition. Assumes nothing.
 use mathlib.Core.Path.{sym, ◌∙◌}
-use borrow.Author.Rules.{rules}
 use borrow.Author.Tests.{eq-eqb, ne_eqb}
 use Rattle.geometry.proofs.LimitLaws.{limits}
 use Rattle.chip_array.specs.Device.{fitting}

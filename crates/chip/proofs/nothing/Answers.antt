@@ -1,5 +1,4 @@
 -- `chip::nothing` meets its contract. Assumes nothing.
-use borrow.Author.Rules.{rules}
 use Rattle.chip.proofs.nothing.Goals as goal
 
 pub returns : goal.returns

@@ -1,5 +1,4 @@
 -- `chip::parameter_out` meets its contract: a refusal, or the byte at the column. Assumes nothing.
-use borrow.Author.Rules.{rules}
 use borrow.Author.Tests.{eq-eqb, ne_eqb}
 use Rattle.chip.specs.Chip.{parameter_given, parameter_byte}
 use Rattle.chip.proofs.OutputLaws.{tested}

@@ -1,7 +1,6 @@
 -- `chip::put_out` meets its contract: past the source the definition has 0 too. Assumes nothing.
 use mathlib.Core.Path.{refl}
 use lib.ListN.{get_or-eq_default}
-use borrow.Author.Rules.{rules}
 use borrow.Author.Tests.{lt-ltb, le-ltb}
 use Rattle.chip.proofs.put_out.Goals as goal
 

@@ -1,6 +1,5 @@
 -- `chip::status` meets its contract: each phase answers as the definition says. Assumes nothing.
 use mathlib.Core.Path.{◌∙◌}
-use borrow.Author.Rules.{rules}
 use borrow.Author.Tests.{eq-eqb, ne_eqb}
 use Rattle.chip.specs.Chip.{status_read, status_shown}
 use Rattle.chip.proofs.status.Goals as goal

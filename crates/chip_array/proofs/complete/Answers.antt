@@ -1,5 +1,4 @@
 -- `chip_array::complete` meets its contract: the row and its block lie on the chip. Assumes nothing.
-use borrow.Author.Rules.{rules}
 use Rattle.chip_array.specs.Device.{device}
 use Rattle.chip_array.proofs.DeviceLaws.{block_below, read_completed, failure_completed, program_completed, erase_completed, none_completed}
 use Rattle.chip_array.proofs.complete.Goals as goal

@@ -1,5 +1,4 @@
 -- `chip_array::confirm_erase` meets its contract: the row's block lies on the chip. Assumes nothing.
-use borrow.Author.Rules.{rules}
 use borrow.Author.Tests.{eq-eqb, ne_eqb}
 use Rattle.chip_array.specs.Device.{device, setting, erase_started}
 use Rattle.chip_array.proofs.DeviceLaws.{block_below, erase_confirmed}

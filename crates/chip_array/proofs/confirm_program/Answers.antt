@@ -1,7 +1,6 @@
 -- `chip_array::confirm_program` meets its contract: the row and its block lie on the chip, and the page's number fits a byte of the history.
 -- Assumes nothing.
 use native.Mathlib.Omega.{arith}
-use borrow.Author.Rules.{rules}
 use borrow.Author.Tests.{eq-eqb, ne_eqb, lt-leb}
 use Rattle.geometry.proofs.SizeLaws.{row_page_below}
 use Rattle.chip_array.specs.Device.{device, setting, program_started}

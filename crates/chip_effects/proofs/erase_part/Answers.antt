@@ -1,7 +1,6 @@
 -- `chip_effects::erase_part` meets its contract: the block's bytes are lent, and come back raised as far as the mask goes.
 -- Assumes nothing.
 use native.Mathlib.Omega.{arith}
-use borrow.Author.Rules.{rules}
 use Rattle.geometry.proofs.SizeLaws.{block_within, chip_size_most}
 use Rattle.cells.specs.Cells.{raised}
 use Rattle.cells.proofs.CellLaws.{length-raised}

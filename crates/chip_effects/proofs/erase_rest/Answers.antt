@@ -2,7 +2,6 @@
 use mathlib.Core.Path.{◌∙◌}
 use native.Mathlib.Omega.{arith}
 use lib.ListN.{length, replicate, length-replicate}
-use borrow.Author.Rules.{rules}
 use Rattle.geometry.proofs.SizeLaws.{block_within, chip_size_most}
 use Rattle.cells.proofs.PartLaws.{length_part}
 use Rattle.chip_effects.proofs.LentLaws.{lent}

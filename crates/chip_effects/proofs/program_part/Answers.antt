@@ -3,7 +3,6 @@
 use Prim.Native.Nat.{◌+◌, ◌-◌, ◌≤◌}
 use native.Mathlib.Omega.{arith}
 use lib.ListN.{length}
-use borrow.Author.Rules.{rules}
 use Rattle.geometry.proofs.SizeLaws.{row_within, chip_size_most}
 use Rattle.cells.specs.Cells.{programmed, weakened}
 use Rattle.cells.specs.Part.{part}

@@ -1,6 +1,5 @@
 -- `chip_effects::program_rest` meets its contract: the row's bytes are lent, and come back programmed. Assumes nothing.
 use native.Mathlib.Omega.{arith}
-use borrow.Author.Rules.{rules}
 use Rattle.geometry.proofs.SizeLaws.{row_within, chip_size_most}
 use Rattle.cells.specs.Cells.{programmed}
 use Rattle.cells.proofs.CellLaws.{length-programmed}

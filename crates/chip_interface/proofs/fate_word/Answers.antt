@@ -1,7 +1,6 @@
 -- `chip_interface::fate_word` meets its contract. Assumes nothing.
 use Rattle.chip_interface.specs.Interface.{fate_word}
 use borrow.Author.Tests.{eq-eqb, ne_eqb, le-leb, lt-leb, lt-ltb, le-ltb}
-use borrow.Author.Rules.{rules}
 use Rattle.chip_interface.proofs.fate_word.Goals as goal
 
 pub returns-then-at-fates : goal.returns-then-at-fates

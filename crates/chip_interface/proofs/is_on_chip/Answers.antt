@@ -3,7 +3,6 @@ use mathlib.Core.Path.{sym, ◌∙◌}
 use Rattle.geometry.proofs.LimitLaws.{limits}
 use Rattle.chip_interface.specs.Interface.{address_fits}
 use borrow.Author.Tests.{eq-eqb, ne_eqb, le-leb, lt-leb, lt-ltb, le-ltb}
-use borrow.Author.Rules.{rules}
 use Rattle.chip_interface.proofs.is_on_chip.Goals as goal
 
 pub page_size-size-requires : goal.page_size-size-requires

@@ -1,7 +1,6 @@
 -- `chip_interface::next_fate` meets its contract. Assumes nothing.
 use Rattle.chip_interface.specs.Interface.{next_fate}
 use borrow.Author.Tests.{eq-eqb, ne_eqb, le-leb, lt-leb, lt-ltb, le-ltb}
-use borrow.Author.Rules.{rules}
 use Rattle.chip_interface.proofs.next_fate.Goals as goal
 
 pub returns-then-at-fates : goal.returns-then-at-fates

@@ -1,7 +1,6 @@
 -- `chip_interface::status_byte` meets its contract. Assumes nothing.
 use Rattle.chip_interface.specs.Interface.{status_byte}
 use borrow.Author.Tests.{eq-eqb, ne_eqb, le-leb, lt-leb, lt-ltb, le-ltb}
-use borrow.Author.Rules.{rules}
 use Rattle.chip_interface.proofs.status_byte.Goals as goal
 
 pub returns-then-protected-ne0 : goal.returns-then-protected-ne0

@@ -1,6 +1,5 @@
 -- `dearest::cycle_count` meets its contract. Assumes nothing.
 use native.Mathlib.Omega.{arith}
-use borrow.Author.Rules.{rules}
 use borrow.Author.Tests.{eq-eqb, ne_eqb}
 use Rattle.dearest.specs.Dearest.{dearest_cycles}
 use Rattle.dearest.proofs.CycleLaws.{reads_most, programs-most, copies_most}

@@ -1,12 +1,7 @@
 -- `dearest::fail_last` meets its contract: so far the last words of the first n fills say fail. Assumes nothing.
-use Prim.Native.Nat.{ℕ, ◌-◌, ◌≤◌}
-use mathlib.Core.Path.{◌≡◌, refl, ap, ◌∙◌}
-use native.Mathlib.Numerals.{add-one}
-use native.Mathlib.Omega.{arith}
-use borrow.Author.Rules.{rules}
-use lib.ListN.{length}
+use Prim.Native.Nat.{◌-◌, ◌≤◌}
+use mathlib.Core.Path.{◌≡◌}
 use Rattle.dearest.specs.Dearest.{failing_to}
-use Rattle.dearest.proofs.WordLaws.{length_failing, last_place}
 use Rattle.dearest.proofs.fail_last.Given as goal
 
 abbrev pub invariant-loop-n : goal.invariant-loop-n

@@ -1,9 +1,8 @@
 -- `dearest::slow_all` meets its contract: the words are rewritten by as many slow ones. Assumes nothing.
 use Prim.Native.Nat.{◌-◌}
 use native.Mathlib.Omega.{arith}
-use borrow.Author.Rules.{rules}
-use lib.ListN.{length, replicate, length-replicate, get_or-replicate}
-use Rattle.cells.proofs.RewriteLaws.{Rewritten, rewritten_none, rewritten_more, rewritten_whole}
+use lib.ListN.{length, length-replicate, get_or-replicate}
+use Rattle.cells.proofs.RewriteLaws.{rewritten_none, rewritten_more, rewritten_whole}
 use Rattle.dearest.specs.Dearest.{slow_word}
 use Rattle.dearest.proofs.slow_all.Goals as goal
 

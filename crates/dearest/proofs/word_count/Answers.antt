@@ -1,6 +1,5 @@
 -- `dearest::word_count` meets its contract. Assumes nothing.
 use native.Mathlib.Omega.{arith}
-use borrow.Author.Rules.{rules}
 use borrow.Author.Tests.{eq-eqb, ne_eqb}
 use Rattle.dearest.specs.Dearest.{dearest_length}
 use Rattle.dearest.proofs.CycleLaws.{words_most}

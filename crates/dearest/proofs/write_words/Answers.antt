@@ -5,7 +5,6 @@ use native.Mathlib.Omega.{arith}
 use lib.ListN.{length, replicate, length-replicate}
 use Rattle.dearest.specs.Dearest.{slow_word, copy_operations, failing_to, dearest_fates}
 use Rattle.dearest.proofs.WordLaws.{words-room}
-use borrow.Author.Rules.{rules}
 use Rattle.dearest.proofs.write_words.Goals as goal
 
 pub fail_last-requires : goal.fail_last-requires

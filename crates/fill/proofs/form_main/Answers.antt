@@ -2,7 +2,6 @@
 use mathlib.Core.Path.{sym, ◌∙◌}
 use Rattle.copies.specs.Blocks.{formed}
 use Rattle.copies.proofs.FormLaws.{formed-plain}
-use borrow.Author.Rules.{rules}
 use Rattle.fill.proofs.form_main.Goals as goal
 
 pub returns-then-is_white : goal.returns-then-is_white

@@ -6,7 +6,6 @@ use Rattle.chip_array.specs.Device.{setting}
 use Rattle.bus.specs.Line.{line, send_all}
 use Rattle.bus_sequences.specs.Cycles.{program_cycles}
 use Rattle.fill.proofs.PageLaws.{as_page}
-use borrow.Author.Rules.{rules}
 use Rattle.fill.proofs.program_page.Goals as goal
 
 pub returns : goal.returns

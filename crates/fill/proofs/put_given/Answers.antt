@@ -7,7 +7,6 @@ use lib.ListN.{length, take, drop}
 use Rattle.cells.proofs.PartLaws.{length_part}
 use Rattle.copies.specs.Blocks.{formed}
 use Rattle.fill.proofs.MainLaws.{given-from, given-room, put_given}
-use borrow.Author.Rules.{rules}
 use Rattle.fill.proofs.put_given.Goals as goal
 
 pub overflow_sub-at : goal.overflow_sub-at
@@ -18,21 +17,18 @@ pub overflow_mul-at : goal.overflow_mul-at
 overflow_mul-at c =
     let at : ℕ = (c.args.place - c.args.content.first) * c.args.g.main in
     let room : (at + c.args.g.main ≤ c.args.content.count * c.args.g.main) × (at ≤ 262144) = given-room c.args.content.first c.args.content.count c.args.place c.args.g.main c.args.g.pages c.requires.valid.main_most c.requires.valid.pages_most c.requires.place_lt_pages c.requires.place_value in
-    
     omega (arith, room)
 
 pub overflow_add-end : goal.overflow_add-end
 overflow_add-end c =
     let at : ℕ = (c.args.place - c.args.content.first) * c.args.g.main in
     let room : (at + c.args.g.main ≤ c.args.content.count * c.args.g.main) × (at ≤ 262144) = given-room c.args.content.first c.args.content.count c.args.place c.args.g.main c.args.g.pages c.requires.valid.main_most c.requires.valid.pages_most c.requires.place_lt_pages c.requires.place_value in
-    
     omega (arith, room, c.requires.valid.main_most)
 
 pub slice_bounds-copy-end : goal.slice_bounds-copy-end
 slice_bounds-copy-end c =
     let at : ℕ = (c.args.place - c.args.content.first) * c.args.g.main in
     let room : (at + c.args.g.main ≤ c.args.content.count * c.args.g.main) × (at ≤ 262144) = given-room c.args.content.first c.args.content.count c.args.place c.args.g.main c.args.g.pages c.requires.valid.main_most c.requires.valid.pages_most c.requires.place_lt_pages c.requires.place_value in
-    
     omega (arith, room, c.requires.bytes_len)
 
 pub returns : goal.returns

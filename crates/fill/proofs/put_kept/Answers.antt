@@ -8,7 +8,6 @@ use Rattle.chip_array.specs.Device.{setting}
 use Rattle.bus.specs.Line.{line}
 use Rattle.copies.specs.Blocks.{formed}
 use Rattle.fill.proofs.MainLaws.{lent-long, put_read, put_long, kept_comes, kept_main}
-use borrow.Author.Rules.{rules}
 use Rattle.fill.proofs.put_kept.Goals as goal
 
 pub reform_main-requires : goal.reform_main-requires

@@ -8,7 +8,6 @@ use Rattle.bus.specs.Line.{line}
 use Rattle.copies.specs.Blocks.{formed}
 use Rattle.fill.specs.Fill.{Source, main_of, given_main, data_source}
 use Rattle.fill.proofs.MainLaws.{source_given, source_kept, source_none, reaches_as, given_comes, given_main_fact}
-use borrow.Author.Rules.{rules}
 use Rattle.fill.proofs.put_main.Goals as goal
 
 pub put_given-requires : goal.put_given-requires

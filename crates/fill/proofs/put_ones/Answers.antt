@@ -5,7 +5,6 @@ use mathlib.Core.Path.{ap, ◌∙◌}
 use native.Mathlib.Omega.{arith}
 use Rattle.copies.specs.Blocks.{formed}
 use Rattle.fill.proofs.MainLaws.{put_ones}
-use borrow.Author.Rules.{rules}
 use Rattle.fill.proofs.put_ones.Goals as goal
 
 pub returns : goal.returns

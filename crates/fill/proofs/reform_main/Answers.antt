@@ -4,7 +4,6 @@ use Prim.Native.Nat.{ℕ}
 use mathlib.Core.Path.{sym, ap, ◌∙◌}
 use Rattle.copies.specs.Blocks.{formed}
 use Rattle.fill.proofs.MainLaws.{white_stays}
-use borrow.Author.Rules.{rules}
 use Rattle.fill.proofs.reform_main.Goals as goal
 
 pub returns-then-stay_white : goal.returns-then-stay_white

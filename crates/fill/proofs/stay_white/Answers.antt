@@ -1,6 +1,5 @@
 -- `fill::stay_white` meets its contract. Assumes nothing.
 use mathlib.Core.Path.{refl, sym, ◌∙◌}
-use borrow.Author.Rules.{rules}
 use Rattle.fill.proofs.stay_white.Goals as goal
 
 pub returns-then-is_white : goal.returns-then-is_white

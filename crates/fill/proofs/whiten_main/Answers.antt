@@ -1,7 +1,6 @@
 -- `fill::whiten_main` meets its contract. Assumes nothing.
 use native.Mathlib.Omega.{arith}
 use Rattle.fill.proofs.MainLaws.{put_white}
-use borrow.Author.Rules.{rules}
 use Rattle.fill.proofs.whiten_main.Goals as goal
 
 pub returns : goal.returns

@@ -7,8 +7,7 @@ use Rattle.state_choose.specs.Choose.{chosen}
 use Rattle.state.specs.State.{next_number, number_end, taken}
 use Rattle.state.specs.declared.State.{State}
 use Rattle.fill_cursor.specs.Cursor.{running, filling}
-use Rattle.fill_cursor.proofs.NextLaws.{worn_by_tag, prepared_spent, prepared_worn, prepared_block}
-use borrow.Author.Rules.{rules}
+use Rattle.fill_cursor.proofs.NextLaws.{prepared_spent, prepared_worn, prepared_block}
 use Rattle.fill_cursor.proofs.prepare.Goals as goal
 
 pub returns-then-is_spent : goal.returns-then-is_spent

@@ -1,6 +1,5 @@
 -- `fill_cursor::stop` meets its contract. Assumes nothing.
 use Rattle.fill_cursor.specs.Cursor.{running}
-use borrow.Author.Rules.{rules}
 use Rattle.fill_cursor.proofs.stop.Goals as goal
 
 pub returns : goal.returns

@@ -2,7 +2,6 @@
 use mathlib.Core.Path.{◌∙◌}
 use Rattle.bus_polling.proofs.OutcomeLaws.{failed_by_is, unfailed_by_not}
 use Rattle.fill_cursor.proofs.NextLaws.{withdrawn_failed, withdrawn_stopped}
-use borrow.Author.Rules.{rules}
 use Rattle.fill_cursor.proofs.withdraw.Goals as goal
 
 pub returns-in_default : goal.returns-in_default

@@ -4,7 +4,6 @@ use Rattle.chip_array.specs.Device.{setting}
 use Rattle.bus_polling.proofs.OutcomeLaws.{passed_by_is, other_by_not}
 use Rattle.fill.specs.Fill.{copy, data_source}
 use Rattle.fill_driver.proofs.PageLaws.{page_stops, page_programmed}
-use borrow.Author.Rules.{rules}
 use Rattle.fill_driver.proofs.fill_page.Goals as goal
 
 pub put_main-put-requires : goal.put_main-put-requires

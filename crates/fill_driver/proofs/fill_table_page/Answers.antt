@@ -11,7 +11,6 @@ use Rattle.progress.proofs.ComesLaws.{comes_as}
 use Rattle.fill.proofs.MainLaws.{lent-long, put_fits, put-lent, table_source_lem}
 use Rattle.fill.proofs.PageLaws.{first-room}
 use Rattle.fill_driver.proofs.DueLaws.{table_fillable}
-use borrow.Author.Rules.{rules}
 use Rattle.fill_driver.proofs.fill_table_page.Goals as goal
 
 pub slice_bounds-fill_page-end : goal.slice_bounds-fill_page-end

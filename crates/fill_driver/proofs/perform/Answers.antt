@@ -7,7 +7,6 @@ use Rattle.bus.specs.Line.{line, send_all}
 use Rattle.bus_sequences.specs.Cycles.{erase_cycles}
 use Rattle.progress.proofs.ComesLaws.{comes_as, erase_comes}
 use Rattle.fill_driver.proofs.DueLaws.{erase_due, table_due, copy_comes, content_fillable, content_count, copy_fillable}
-use borrow.Author.Rules.{rules}
 use Rattle.fill_driver.proofs.perform.Goals as goal
 
 pub row_of-row-requires : goal.row_of-row-requires

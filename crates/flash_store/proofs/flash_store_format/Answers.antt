@@ -1,7 +1,6 @@
 -- `flash_store::flash_store_format` meets its contract. Assumes nothing.
 use Prim.Native.Nat.{ℕ}
 use mathlib.Core.Path.{sym, ap, ◌∙◌}
-use borrow.Author.Tests.{not-true, not-false}
 use Rattle.chip_array.specs.Device.{Device, device, setting}
 use Rattle.open_write.specs.Open.{OpenState, open_state}
 use Rattle.open_write.specs.Requests.{open_result, format_gives, open_refusal, formatting_open}
@@ -12,50 +11,49 @@ use lib.Dec.{eqb}
 use Rattle.c_open.specs.OpenBytes.{bytes_page}
 use Rattle.c_buffers.specs.Buffers.{geometry_of, lent}
 use Rattle.c_buffers.proofs.BufferLaws.{right-long}
-use borrow.Author.Rules.{rules}
 use Rattle.flash_store.proofs.flash_store_format.Goals as goal
 
 pub returns-then-not-is_lent_rightly : goal.returns-then-not-is_lent_rightly
 unfolding formatting_lent
 returns-then-not-is_lent_rightly c =
     let l = (lent c.args.state.now c.args.interface.now c.args.array.now c.args.register.now c.args.history.now c.args.sent.now) in
-    let set = (setting (geometry_of c.args.main c.args.spare c.args.pages c.args.blocks c.args.logical) c.args.mask.now c.args.fates.now) in let v = lent_wrongly l _ (sym c.is_lent_rightly.ensures ∙ not-true _ c.if-not-is_lent_rightly.true-raw) in record { sent_after = v.0; passed_on = v.1 }
+    let set = (setting (geometry_of c.args.main c.args.spare c.args.pages c.args.blocks c.args.logical) c.args.mask.now c.args.fates.now) in let v = lent_wrongly l _ (sym c.is_lent_rightly.ensures ∙ c.if-not-is_lent_rightly.true) in record { sent_after = v.0; passed_on = v.1 }
 
 pub state_of-before-requires : goal.state_of-before-requires
-state_of-before-requires c = (right-long _ _ _ (sym c.is_lent_rightly.ensures ∙ not-false _ c.if-not-is_lent_rightly.false-raw)).state_long
+state_of-before-requires c = (right-long _ _ _ (sym c.is_lent_rightly.ensures ∙ c.if-not-is_lent_rightly.false)).state_long
 
 pub write_of-write-requires : goal.write_of-write-requires
-write_of-write-requires c = (right-long _ _ _ (sym c.is_lent_rightly.ensures ∙ not-false _ c.if-not-is_lent_rightly.false-raw)).state_long
+write_of-write-requires c = (right-long _ _ _ (sym c.is_lent_rightly.ensures ∙ c.if-not-is_lent_rightly.false)).state_long
 
 pub interface_of-start-requires : goal.interface_of-start-requires
-interface_of-start-requires c = (right-long _ _ _ (sym c.is_lent_rightly.ensures ∙ not-false _ c.if-not-is_lent_rightly.false-raw)).interface_long
+interface_of-start-requires c = (right-long _ _ _ (sym c.is_lent_rightly.ensures ∙ c.if-not-is_lent_rightly.false)).interface_long
 
 pub held-held-requires : goal.held-held-requires
-held-held-requires c = (right-long _ _ _ (sym c.is_lent_rightly.ensures ∙ not-false _ c.if-not-is_lent_rightly.false-raw)).state_long
+held-held-requires c = (right-long _ _ _ (sym c.is_lent_rightly.ensures ∙ c.if-not-is_lent_rightly.false)).state_long
 
 pub refuse-requires : goal.refuse-requires
-refuse-requires c =    let long = right-long _ _ _ (sym c.is_lent_rightly.ensures ∙ not-false _ c.if-not-is_lent_rightly.false-raw) in record { state_len = long.state_long; interface_len = long.interface_long; sent_len = long.sent_long }
+refuse-requires c = let long = right-long _ _ _ (sym c.is_lent_rightly.ensures ∙ c.if-not-is_lent_rightly.false) in record { state_len = long.state_long; interface_len = long.interface_long; sent_len = long.sent_long }
 
 pub returns-then-held-eq-BARRED : goal.returns-then-held-eq-BARRED
 unfolding formatting_lent
 returns-then-held-eq-BARRED c =
     let l = (lent c.args.state.now c.args.interface.now c.args.array.now c.args.register.now c.args.history.now c.args.sent.now) in
     let set = (setting (geometry_of c.args.main c.args.spare c.args.pages c.args.blocks c.args.logical) c.args.mask.now c.args.fates.now) in
-    let right = sym c.is_lent_rightly.ensures ∙ not-false _ c.if-not-is_lent_rightly.false-raw in
+    let right = sym c.is_lent_rightly.ensures ∙ c.if-not-is_lent_rightly.false in
     let x = open_state c.state_of-before.result c.write_of-write.result (bytes_page c.args.state.now) in
     let d = device c.interface_of-start.result c.args.array.now c.args.register.now c.args.history.now in
     let told = c.held-held.ensures ∙ ap (open_refusal (geometry_of c.args.main c.args.spare c.args.pages c.args.blocks c.args.logical) _ x) (turned (eqb c.write_of-write.result.opened 0)) in let v = request_handed l right c.state_of-before.result c.write_of-write.result c.interface_of-start.result c.state_of-before.ensures c.write_of-write.ensures c.interface_of-start.ensures (λ (c : Device) (y : OpenState). formatting_open set c c.args.allowed y) _ _ _
     (ap (λ (k : ℕ). open_result k x d 0) c.if-held-eq-BARRED.true ∙ format_held set d c.args.allowed x (sym told ∙ c.if-held-eq-BARRED.true)) (c.refuse.ensures.by_index _ _ _) c.refuse.ensures.state_after in record { sent_after = v.0; passed_on = v.1 }
 
 pub hand_back-requires : goal.hand_back-requires
-hand_back-requires c =    let long = right-long _ _ _ (sym c.is_lent_rightly.ensures ∙ not-false _ c.if-not-is_lent_rightly.false-raw) in record { state_len = long.state_long; interface_len = long.interface_long; sent_len = long.sent_long }
+hand_back-requires c = let long = right-long _ _ _ (sym c.is_lent_rightly.ensures ∙ c.if-not-is_lent_rightly.false) in record { state_len = long.state_long; interface_len = long.interface_long; sent_len = long.sent_long }
 
 pub returns : goal.returns
 unfolding formatting_lent
 returns c =
     let l = (lent c.args.state.now c.args.interface.now c.args.array.now c.args.register.now c.args.history.now c.args.sent.now) in
     let set = (setting (geometry_of c.args.main c.args.spare c.args.pages c.args.blocks c.args.logical) c.args.mask.now c.args.fates.now) in
-    let right = sym c.is_lent_rightly.ensures ∙ not-false _ c.if-not-is_lent_rightly.false-raw in
+    let right = sym c.is_lent_rightly.ensures ∙ c.if-not-is_lent_rightly.false in
     let x = open_state c.state_of-before.result c.write_of-write.result (bytes_page c.args.state.now) in
     let d = device c.interface_of-start.result c.args.array.now c.args.register.now c.args.history.now in
     let told = c.held-held.ensures ∙ ap (open_refusal (geometry_of c.args.main c.args.spare c.args.pages c.args.blocks c.args.logical) _ x) (turned (eqb c.write_of-write.result.opened 0)) in let v = request_handed l right c.state_of-before.result c.write_of-write.result c.interface_of-start.result c.state_of-before.ensures c.write_of-write.ensures c.interface_of-start.ensures (λ (c : Device) (y : OpenState). formatting_open set c c.args.allowed y) _ _ _

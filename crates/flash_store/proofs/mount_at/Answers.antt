@@ -1,6 +1,5 @@
 -- `flash_store::mount_at` meets its contract. Assumes nothing.
 use mathlib.Core.Path.{sym, ◌∙◌}
-use borrow.Author.Tests.{not-true, not-false}
 use Rattle.chip_array.specs.Device.{Device, device, setting}
 use Rattle.open_write.specs.Open.{OpenState, open_state}
 use Rattle.open_write.specs.Requests.{mount_gives, open_mount_request, mounting_open}
@@ -11,33 +10,32 @@ use lib.Dec.{eqb}
 use Rattle.c_open.specs.OpenBytes.{bytes_page}
 use Rattle.c_buffers.specs.Buffers.{geometry_of, lent}
 use Rattle.c_buffers.proofs.BufferLaws.{right-long}
-use borrow.Author.Rules.{rules}
 use Rattle.flash_store.proofs.mount_at.Goals as goal
 
 pub returns-then-not-is_lent_rightly : goal.returns-then-not-is_lent_rightly
 unfolding mounting_lent
 returns-then-not-is_lent_rightly c =
     let l = (lent c.args.state.now c.args.interface.now c.args.array.now c.args.register.now c.args.history.now c.args.sent.now) in
-    let set = (setting (geometry_of c.args.main c.args.spare c.args.pages c.args.blocks c.args.logical) c.args.mask.now c.args.fates.now) in let v = lent_wrongly l _ (sym c.is_lent_rightly.ensures ∙ not-true _ c.if-not-is_lent_rightly.true-raw) in record { sent_after = v.0; passed_on = v.1 }
+    let set = (setting (geometry_of c.args.main c.args.spare c.args.pages c.args.blocks c.args.logical) c.args.mask.now c.args.fates.now) in let v = lent_wrongly l _ (sym c.is_lent_rightly.ensures ∙ c.if-not-is_lent_rightly.true) in record { sent_after = v.0; passed_on = v.1 }
 
 pub state_of-before-requires : goal.state_of-before-requires
-state_of-before-requires c = (right-long _ _ _ (sym c.is_lent_rightly.ensures ∙ not-false _ c.if-not-is_lent_rightly.false-raw)).state_long
+state_of-before-requires c = (right-long _ _ _ (sym c.is_lent_rightly.ensures ∙ c.if-not-is_lent_rightly.false)).state_long
 
 pub write_of-write-requires : goal.write_of-write-requires
-write_of-write-requires c = (right-long _ _ _ (sym c.is_lent_rightly.ensures ∙ not-false _ c.if-not-is_lent_rightly.false-raw)).state_long
+write_of-write-requires c = (right-long _ _ _ (sym c.is_lent_rightly.ensures ∙ c.if-not-is_lent_rightly.false)).state_long
 
 pub interface_of-start-requires : goal.interface_of-start-requires
-interface_of-start-requires c = (right-long _ _ _ (sym c.is_lent_rightly.ensures ∙ not-false _ c.if-not-is_lent_rightly.false-raw)).interface_long
+interface_of-start-requires c = (right-long _ _ _ (sym c.is_lent_rightly.ensures ∙ c.if-not-is_lent_rightly.false)).interface_long
 
 pub hand_back-requires : goal.hand_back-requires
-hand_back-requires c =    let long = right-long _ _ _ (sym c.is_lent_rightly.ensures ∙ not-false _ c.if-not-is_lent_rightly.false-raw) in record { state_len = long.state_long; interface_len = long.interface_long; sent_len = long.sent_long }
+hand_back-requires c = let long = right-long _ _ _ (sym c.is_lent_rightly.ensures ∙ c.if-not-is_lent_rightly.false) in record { state_len = long.state_long; interface_len = long.interface_long; sent_len = long.sent_long }
 
 pub returns : goal.returns
 unfolding mounting_lent open_mount_request result_of
 returns c =
     let l = (lent c.args.state.now c.args.interface.now c.args.array.now c.args.register.now c.args.history.now c.args.sent.now) in
     let set = (setting (geometry_of c.args.main c.args.spare c.args.pages c.args.blocks c.args.logical) c.args.mask.now c.args.fates.now) in
-    let right = sym c.is_lent_rightly.ensures ∙ not-false _ c.if-not-is_lent_rightly.false-raw in
+    let right = sym c.is_lent_rightly.ensures ∙ c.if-not-is_lent_rightly.false in
     let x = open_state c.state_of-before.result c.write_of-write.result (bytes_page c.args.state.now) in
     let d = device c.interface_of-start.result c.args.array.now c.args.register.now c.args.history.now in let v = request_handed l right c.state_of-before.result c.write_of-write.result c.interface_of-start.result c.state_of-before.ensures c.write_of-write.ensures c.interface_of-start.ensures (λ (c : Device) (y : OpenState). mounting_open c.args.depth set c c.args.allowed y) _ _ _
     (left_by mount_gives x _ _ _ c.mount-returned.ensures (turned (eqb c.mount-returned.result.answer 1))) (c.hand_back.ensures.by_index _ _ _) c.hand_back.ensures.state_after in record { sent_after = v.0; passed_on = v.1 }

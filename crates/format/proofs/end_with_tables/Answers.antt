@@ -4,7 +4,6 @@ use native.Mathlib.Omega.{arith}
 use Rattle.chip_array.specs.Device.{setting}
 use Rattle.bus.specs.Line.{line}
 use Rattle.format.proofs.EndLaws.{tables_left, tables_end}
-use borrow.Author.Rules.{rules}
 use Rattle.format.proofs.end_with_tables.Goals as goal
 
 pub fill_tables-ran-requires : goal.fill_tables-ran-requires

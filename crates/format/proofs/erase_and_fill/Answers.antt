@@ -27,7 +27,7 @@ returns-in_default c =
 pub add_bits-requires : goal.add_bits-requires
 add_bits-requires c =
     let carried_long : length c.args.survey.carried ≡ 512 = search rules in
-     record { blocks_bound = omega (arith, c.requires.called.is_valid.blocks_most); bits_len = carried_long }
+    record { blocks_bound = omega (arith, c.requires.called.is_valid.blocks_most); bits_len = carried_long }
 
 pub fill_first-requires : goal.fill_first-requires
 fill_first-requires c =

@@ -7,7 +7,6 @@ use Rattle.bus.specs.Line.{line}
 use Rattle.bus_polling.proofs.OutcomeLaws.{passed_by_is, failed_by_is, failed_answered, failed_unpassed}
 use Rattle.state.specs.declared.State.{State}
 use Rattle.format.proofs.EndLaws.{late_comes, late_left, late_passed, late_failed, late_stopped, stops_by_not}
-use borrow.Author.Rules.{rules}
 use Rattle.format.proofs.erase_old.Goals as goal
 
 pub end-requires : goal.end-requires

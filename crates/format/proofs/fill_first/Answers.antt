@@ -6,7 +6,6 @@ use Rattle.chip_array.specs.Device.{setting}
 use Rattle.bus.specs.Line.{line}
 use Rattle.state.specs.declared.State.{State}
 use Rattle.format.proofs.EndLaws.{last_small, tables_left, few_end, unpassed_end, alone_end, late_end}
-use borrow.Author.Rules.{rules}
 use Rattle.format.proofs.fill_first.Goals as goal
 
 pub returns-then-count_permitted-g : goal.returns-then-count_permitted-g

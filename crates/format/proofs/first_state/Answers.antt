@@ -1,6 +1,5 @@
 -- `format::first_state` meets its contract. Assumes nothing.
 use Rattle.format.specs.Format.{first_state}
-use borrow.Author.Rules.{rules}
 use Rattle.format.proofs.first_state.Goals as goal
 
 pub returns : goal.returns

@@ -1,6 +1,5 @@
 -- `format::format` meets its contract. Assumes nothing.
 use mathlib.Core.Path.{◌∙◌}
-use borrow.Author.Rules.{rules}
 use Rattle.chip_array.specs.Device.{device, setting}
 use Rattle.request.proofs.StartLaws.{start_called, start_left, refused_is, stopped_is, goes_on}
 use Rattle.fill_tables.specs.Tables.{end_of_run}

@@ -5,7 +5,6 @@ use Rattle.chip_array.specs.Device.{setting}
 use Rattle.bus.specs.Line.{line}
 use Rattle.bus_polling.proofs.OutcomeLaws.{passed_by_is, other_by_not}
 use Rattle.format.proofs.WholeLaws.{reads-left, reads_stop, reads_goes}
-use borrow.Author.Rules.{rules}
 use Rattle.format.proofs.read_and_erase.Goals as goal
 
 pub end-requires : goal.end-requires

@@ -2,7 +2,6 @@
 use Rattle.chip_array.specs.Device.{setting}
 use Rattle.bus_polling.proofs.OutcomeLaws.{failed_by_is, unfailed_by_not, failed_answered}
 use Rattle.format_erase.proofs.RoundLaws.{after-unfailed, after_same}
-use borrow.Author.Rules.{rules}
 use Rattle.format_erase.proofs.after_erase.Goals as goal
 
 pub read_failed-requires : goal.read_failed-requires

@@ -1,13 +1,12 @@
 -- `format_erase::erase_all` meets its contract: after each block the round is on its way as RoundLaws tells. Assumes nothing.
-use Prim.Native.Nat.{◌-◌, ◌≤◌}
-use mathlib.Core.Path.{◌≡◌, refl, ◌∙◌}
+use Prim.Native.Nat.{◌-◌}
+use mathlib.Core.Path.{refl, ◌∙◌}
 use native.Mathlib.Omega.{arith}
 use borrow.Author.Rules.{rules}
-use lib.ListN.{length}
 use Rattle.chip_array.specs.Device.{setting}
 use Rattle.bus.specs.Line.{line}
 use Rattle.bus_polling.proofs.OutcomeLaws.{passed_by_is, other_by_not}
-use Rattle.format_erase.proofs.RoundLaws.{Rounding, round_begins, round_stops, round_goes, round-ends}
+use Rattle.format_erase.proofs.RoundLaws.{round_begins, round_stops, round_goes, round-ends}
 use Rattle.format_erase.proofs.erase_all.Goals as goal
 
 pub loop-block-init : goal.loop-block-init
@@ -51,13 +50,13 @@ loop-block-smaller c =
 
 pub loop-block-preserved : goal.loop-block-preserved
 loop-block-preserved c = (
-      omega (arith, c.loop-block-test.true),
-      c.array-1.given ∙ c.loop-block.invariant.1,
-      c.register-1.given ∙ c.loop-block.invariant.2,
-      c.history-1.given ∙ c.loop-block.invariant.3,
-      c.page-1.given ∙ c.loop-block.invariant.4,
-      round_goes (setting c.args.g c.args.mask.now c.args.fates.now) c.args.marked.now (line c.args.from c.args.array.now c.args.register.now c.args.history.now) (line c.loop-block.b c.loop-block.array c.loop-block.register c.loop-block.history) c.loop-block.block c.loop-block.invalid c.loop-block.numbers c.loop-block-test.true c.loop-block.invariant.5 _ c.erase_block-done.result.outcome _ _ c.erase_block-done.ensures (passed_by_is _ c.in-Passed.is) c.note_failed.ensures c.join-numbers.ensures,
-    )
+  omega (arith, c.loop-block-test.true),
+  c.array-1.given ∙ c.loop-block.invariant.1,
+  c.register-1.given ∙ c.loop-block.invariant.2,
+  c.history-1.given ∙ c.loop-block.invariant.3,
+  c.page-1.given ∙ c.loop-block.invariant.4,
+  round_goes (setting c.args.g c.args.mask.now c.args.fates.now) c.args.marked.now (line c.args.from c.args.array.now c.args.register.now c.args.history.now) (line c.loop-block.b c.loop-block.array c.loop-block.register c.loop-block.history) c.loop-block.block c.loop-block.invalid c.loop-block.numbers c.loop-block-test.true c.loop-block.invariant.5 _ c.erase_block-done.result.outcome _ _ c.erase_block-done.ensures (passed_by_is _ c.in-Passed.is) c.note_failed.ensures c.join-numbers.ensures,
+)
 
 pub shape_of-array : goal.shape_of-array
 shape_of-array c = c.loop-block.invariant.1

@@ -4,7 +4,6 @@ use Rattle.chip_array.specs.Device.{setting}
 use Rattle.bus.specs.Line.{line}
 use Rattle.bus_polling.proofs.OutcomeLaws.{passed_by_is, passed_unfailed}
 use Rattle.format_erase.proofs.RoundLaws.{block_marked, answered_called, block_done, after-unfailed}
-use borrow.Author.Rules.{rules}
 use Rattle.format_erase.proofs.erase_block.Goals as goal
 
 pub returns-then-is_set : goal.returns-then-is_set

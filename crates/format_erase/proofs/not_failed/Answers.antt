@@ -1,5 +1,4 @@
 -- `format_erase::not_failed` meets its contract. Assumes nothing.
-use borrow.Author.Rules.{rules}
 use Rattle.format_erase.proofs.not_failed.Goals as goal
 
 pub returns : goal.returns

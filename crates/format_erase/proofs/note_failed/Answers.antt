@@ -1,7 +1,6 @@
 -- `format_erase::note_failed` meets its contract. Assumes nothing.
 use mathlib.Core.Path.{◌∙◌}
 use borrow.Author.Tests.{eq-eqb, ne_eqb}
-use borrow.Author.Rules.{rules}
 use Rattle.format_erase.proofs.note_failed.Goals as goal
 
 pub returns-then-failed-ne0 : goal.returns-then-failed-ne0

@@ -3,7 +3,6 @@ use native.Mathlib.Omega.{arith}
 use Rattle.chip_array.specs.Device.{setting}
 use Rattle.bus.specs.Line.{line}
 use Rattle.format_erase.proofs.RoundLaws.{after_failed}
-use borrow.Author.Rules.{rules}
 use Rattle.format_erase.proofs.read_failed.Goals as goal
 
 pub scan_block-scanned-requires : goal.scan_block-scanned-requires

@@ -1,12 +1,8 @@
 -- `format_scan::add_bits` meets its contract: the bits of the blocks passed are added. Assumes nothing.
-use Prim.Native.Nat.{ℕ, ◌≤◌, ◌-◌}
-use mathlib.Core.Logic.{⊎_elim}
-use mathlib.Core.Path.{◌≡◌, refl, sym, ap, ◌∙◌}
-use native.Mathlib.Omega.{arith}
-use borrow.Author.Rules.{rules}
+use Prim.Native.Nat.{◌≤◌, ◌-◌}
+use mathlib.Core.Path.{◌≡◌}
 use lib.ListN.{length}
 use Rattle.format_scan.specs.Survey.{union_to}
-use Rattle.format_scan.proofs.UnionLaws.{union_long, union_added, union_kept}
 use Rattle.format_scan.proofs.add_bits.Given as goal
 
 abbrev pub invariant-loop-block : goal.invariant-loop-block

@@ -1,7 +1,6 @@
 -- `format_scan::does_carry` meets its contract. Assumes nothing.
 use mathlib.Core.Path.{◌≡◌, sym, ◌∙◌}
 use native.Mathlib.Omega.{arith}
-use borrow.Author.Tests.{not-true, not-false}
 use lib.ListN.{length}
 use Rattle.format_scan.proofs.SurveyLaws.{no_table, wrong_pages, marked_listed, own_listed, all_right}
 use borrow.Author.Rules.{rules}
@@ -20,7 +19,7 @@ is_never_both-requires c =
 
 pub returns-then-not-is_never_both : goal.returns-then-not-is_never_both
 returns-then-not-is_never_both c =
-    marked_listed c.args.g c.args.found c.if-tables-eq0.false c.if-right-eq0.false (sym c.is_never_both.ensures ∙ not-true _ c.if-not-is_never_both.true-raw)
+    marked_listed c.args.g c.args.found c.if-tables-eq0.false c.if-right-eq0.false (sym c.is_never_both.ensures ∙ c.if-not-is_never_both.true)
 
 pub is_set-requires : goal.is_set-requires
 is_set-requires c =
@@ -29,8 +28,8 @@ is_set-requires c =
 
 pub returns-then-is_set : goal.returns-then-is_set
 returns-then-is_set c =
-    own_listed c.args.g c.args.found c.if-tables-eq0.false c.if-right-eq0.false (sym c.is_never_both.ensures ∙ not-false _ c.if-not-is_never_both.false-raw) (sym c.is_set.ensures ∙ c.if-is_set.true)
+    own_listed c.args.g c.args.found c.if-tables-eq0.false c.if-right-eq0.false (sym c.is_never_both.ensures ∙ c.if-not-is_never_both.false) (sym c.is_set.ensures ∙ c.if-is_set.true)
 
 pub returns : goal.returns
 returns c =
-    all_right c.args.g c.args.found c.if-tables-eq0.false c.if-right-eq0.false (sym c.is_never_both.ensures ∙ not-false _ c.if-not-is_never_both.false-raw) (sym c.is_set.ensures ∙ c.if-is_set.false)
+    all_right c.args.g c.args.found c.if-tables-eq0.false c.if-right-eq0.false (sym c.is_never_both.ensures ∙ c.if-not-is_never_both.false) (sym c.is_set.ensures ∙ c.if-is_set.false)

@@ -1,10 +1,9 @@
 -- `format_scan::find` meets its contract: after each block the scan has come through as that of a mount does. Assumes nothing.
-use Prim.Native.Nat.{ℕ, ◌-◌, ◌≤◌}
+use Prim.Native.Nat.{ℕ, ◌-◌}
 use mathlib.Core.List.{[]}
 use mathlib.Core.Path.{◌≡◌, refl, subst, ◌∙◌}
 use native.Mathlib.Omega.{arith}
 use borrow.Author.Rules.{rules}
-use lib.ListN.{length}
 use Rattle.chip_array.specs.Device.{setting}
 use Rattle.bus.specs.Line.{line}
 use Rattle.bools.proofs.BoolLaws.{clash}
@@ -52,7 +51,7 @@ returns-in_default c =
     }
 
 pub note-found-requires : goal.note-found-requires
-note-found-requires c =    omega (arith, c.loop-block-test.true, c.loop-block.invariant.5.called.is_valid.blocks_most)
+note-found-requires c = omega (arith, c.loop-block-test.true, c.loop-block.invariant.5.called.is_valid.blocks_most)
 
 pub overflow_add-block : goal.overflow_add-block
 overflow_add-block c = search (rules, c.loop-block-test.true, c.loop-block.invariant.5.called.is_valid.blocks_most)

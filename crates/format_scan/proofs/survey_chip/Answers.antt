@@ -11,7 +11,6 @@ use Rattle.scan_found.proofs.FoundLaws.{table_small}
 use Rattle.request.proofs.CallLaws.{lent-page}
 use Rattle.format_scan.specs.Survey.{survey_of}
 use Rattle.format_scan.proofs.SurveyLaws.{survey_found}
-use borrow.Author.Rules.{rules}
 use Rattle.format_scan.proofs.survey_chip.Goals as goal
 
 pub find-scanned-requires : goal.find-scanned-requires

@@ -1,7 +1,6 @@
 -- `format_scan::take_over` meets its contract. Assumes nothing.
 use mathlib.Core.Path.{sym, ◌∙◌}
 use Rattle.format_scan.specs.Survey.{survey_of}
-use borrow.Author.Rules.{rules}
 use Rattle.format_scan.proofs.take_over.Goals as goal
 
 pub returns-then-does_carry : goal.returns-then-does_carry

@@ -1,7 +1,6 @@
 -- `geometry::block_of_row` meets its contract: a shift by the logarithm of the page count. Assumes nothing.
 use Prim.Native.Nat.{◌/◌, ◌^◌}
 use mathlib.Core.Path.{ap, ◌∙◌}
-use borrow.Author.Rules.{rules}
 use Rattle.geometry.proofs.ShiftLaws.{shift_quotient}
 use Rattle.geometry.proofs.block_of_row.Goals as goal
 

@@ -1,7 +1,6 @@
 -- `geometry::block_size` meets its contract. Assumes nothing.
 use native.Mathlib.Omega.{arith}
 use Rattle.geometry.proofs.SizeLaws.{block_size_most}
-use borrow.Author.Rules.{rules}
 use Rattle.geometry.proofs.block_size.Goals as goal
 
 pub overflow_mul-result : goal.overflow_mul-result

@@ -1,7 +1,6 @@
 -- `geometry::chip_size` meets its contract. Assumes nothing.
 use native.Mathlib.Omega.{arith}
 use Rattle.geometry.proofs.SizeLaws.{chip_size_most}
-use borrow.Author.Rules.{rules}
 use Rattle.geometry.proofs.chip_size.Goals as goal
 
 pub overflow_mul-result : goal.overflow_mul-result

@@ -1,6 +1,5 @@
 -- `geometry::is_block_shape` meets its contract. Assumes nothing.
 use borrow.Author.Tests.{le-leb, lt-leb}
-use borrow.Author.Rules.{rules}
 use Rattle.geometry.proofs.is_block_shape.Goals as goal
 
 pub returns-then-spare-lt16 : goal.returns-then-spare-lt16

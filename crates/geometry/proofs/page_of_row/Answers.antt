@@ -1,5 +1,4 @@
 -- `geometry::page_of_row` meets its contract: the mask one below the page count. Assumes nothing.
-use borrow.Author.Rules.{rules}
 use Rattle.geometry.proofs.ShiftLaws.{mask_remainder}
 use Rattle.geometry.proofs.page_of_row.Goals as goal
 

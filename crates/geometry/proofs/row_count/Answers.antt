@@ -1,7 +1,6 @@
 -- `geometry::row_count` meets its contract. Assumes nothing.
 use native.Mathlib.Omega.{arith}
 use Rattle.geometry.proofs.SizeLaws.{row_count_most}
-use borrow.Author.Rules.{rules}
 use Rattle.geometry.proofs.row_count.Goals as goal
 
 pub overflow_mul-result : goal.overflow_mul-result

@@ -1,7 +1,6 @@
 -- `geometry::row_start` meets its contract. Assumes nothing.
 use Rattle.geometry.proofs.SizeLaws.{row_within, chip_size_most}
 use native.Mathlib.Omega.{arith}
-use borrow.Author.Rules.{rules}
 use Rattle.geometry.proofs.row_start.Goals as goal
 
 pub overflow_mul-result : goal.overflow_mul-result

@@ -2,7 +2,6 @@
 use Prim.Native.Nat.{ℕ}
 use mathlib.Core.List.{List}
 use mathlib.Core.Path.{ap, ap₂, ◌∙◌}
-use borrow.Author.Rules.{rules}
 use borrow.Author.Tests.{ne_eqb}
 use lib.ListN.{length}
 use Rattle.chip_array.specs.Device.{device}
@@ -15,7 +14,7 @@ use Rattle.identify.proofs.identify.Goals as goal
 
 pub returns-then-parameters-ne-PARAMETERS : goal.returns-then-parameters-ne-PARAMETERS
 unfolding result_of identify_request
-returns-then-parameters-ne-PARAMETERS c =    ap₂ identified (c.unchanged.ensures _ _ _) c.no_sizes.ensures ∙ rw (ne_eqb (length c.args.parameters.now) 768 c.if-parameters-ne-PARAMETERS.true)
+returns-then-parameters-ne-PARAMETERS c = ap₂ identified (c.unchanged.ensures _ _ _) c.no_sizes.ensures ∙ rw (ne_eqb (length c.args.parameters.now) 768 c.if-parameters-ne-PARAMETERS.true)
 
 pub returns-in_default : goal.returns-in_default
 returns-in_default c =

@@ -11,7 +11,6 @@ use Rattle.bus.specs.Line.{line}
 use Rattle.bus_polling.proofs.OutcomeLaws.{passed_by_is, other_by_not, is_passed_lem}
 use Rattle.journal.proofs.EndLaws.{room_most, room_within}
 use Rattle.journal_read.proofs.SumLaws.{added_none, added_stopped, added_one}
-use borrow.Author.Rules.{rules}
 use Rattle.journal_read.proofs.add_record.Goals as goal
 
 pub overflow_add-k : goal.overflow_add-k

@@ -1,18 +1,16 @@
 -- `journal_read::find_end` meets its contract: after each record the pass is in the middle that PassLaws tells. Assumes nothing.
-use Prim.Native.Nat.{ℕ, ◌-◌, ◌≤◌, ◌<◌}
-use mathlib.Core.Path.{◌≡◌, refl, sym, ap, ◌∙◌}
+use Prim.Native.Nat.{ℕ, ◌-◌, ◌<◌}
+use mathlib.Core.Path.{refl, sym, ap, ◌∙◌}
 use native.Mathlib.Omega.{arith}
-use borrow.Author.Rules.{rules}
 use lib.ListN.{length, length-replicate}
 use Rattle.chip_array.specs.Device.{setting}
 use Rattle.bus.specs.Line.{line}
 use Rattle.bus_polling.proofs.OutcomeLaws.{passed_by_is, other_by_not, is_passed_lem}
-use borrow.Author.Tests.{not-true, not-false}
 use Rattle.journal.specs.Records.{room}
 use Rattle.journal.proofs.EndLaws.{room_most, room_within}
 use Rattle.journal_read.specs.Reads.{pages_by}
 use Rattle.journal_read.proofs.RanLaws.{ran-lent}
-use Rattle.journal_read.proofs.PassLaws.{Middle, pass_begins, pass_full, pass_stops, pass_ends, pass_goes}
+use Rattle.journal_read.proofs.PassLaws.{pass_begins, pass_full, pass_stops, pass_ends, pass_goes}
 use Rattle.journal_read.proofs.find_end.Goals as goal
 
 pub room_for-most-requires : goal.room_for-most-requires
@@ -79,7 +77,7 @@ pub returns-then-not-is_next : goal.returns-then-not-is_next
 returns-then-not-is_next c =
     let below : c.loop-n.n < room c.args.g = omega (arith, c.loop-n-test.true, c.room_for-most.ensures) in
     let long = c.loop-n.invariant.4 ∙ c.requires.page_len in
-    pass_ends (setting c.args.g c.args.mask.now c.args.fates.now) c.args.map.now c.args.kinds.now (line c.args.from c.args.array.now c.args.register.now c.args.history.now) (line c.loop-n.b c.loop-n.array c.loop-n.register c.loop-n.history) c.loop-n.n c.loop-n.replaced c.loop-n.invariant.6 below _ long _ c.read_part-read.result.outcome _ c.read_part-read.ensures (is_passed_lem _ (passed_by_is _ c.in-Passed.is)) (sym c.is_next.ensures ∙ not-true _ c.if-not-is_next.true-raw)
+    pass_ends (setting c.args.g c.args.mask.now c.args.fates.now) c.args.map.now c.args.kinds.now (line c.args.from c.args.array.now c.args.register.now c.args.history.now) (line c.loop-n.b c.loop-n.array c.loop-n.register c.loop-n.history) c.loop-n.n c.loop-n.replaced c.loop-n.invariant.6 below _ long _ c.read_part-read.result.outcome _ c.read_part-read.ensures (is_passed_lem _ (passed_by_is _ c.in-Passed.is)) (sym c.is_next.ensures ∙ c.if-not-is_next.true)
 
 pub replaces_of-requires : goal.replaces_of-requires
 replaces_of-requires c =
@@ -106,7 +104,7 @@ loop-n-preserved c =
       c.history-1.given ∙ c.loop-n.invariant.3,
       c.page-1.given ∙ c.loop-n.invariant.4,
       c.replaced-1.given ∙ c.loop-n.invariant.5,
-      pass_goes (setting c.args.g c.args.mask.now c.args.fates.now) c.args.map.now c.args.kinds.now (line c.args.from c.args.array.now c.args.register.now c.args.history.now) (line c.loop-n.b c.loop-n.array c.loop-n.register c.loop-n.history) c.loop-n.n c.loop-n.replaced c.loop-n.invariant.6 below _ long _ c.read_part-read.result.outcome _ c.read_part-read.ensures (is_passed_lem _ (passed_by_is _ c.in-Passed.is)) (sym c.is_next.ensures ∙ not-false _ c.if-not-is_next.false-raw) _ c.replaces_of.ensures.0 c.replaces_of.ensures.1 (c.loop-n.invariant.5 ∙ ap length c.requires.replaced_value ∙ length-replicate {A = ℕ} 8192 0) _ c.set_bit.ensures,
+      pass_goes (setting c.args.g c.args.mask.now c.args.fates.now) c.args.map.now c.args.kinds.now (line c.args.from c.args.array.now c.args.register.now c.args.history.now) (line c.loop-n.b c.loop-n.array c.loop-n.register c.loop-n.history) c.loop-n.n c.loop-n.replaced c.loop-n.invariant.6 below _ long _ c.read_part-read.result.outcome _ c.read_part-read.ensures (is_passed_lem _ (passed_by_is _ c.in-Passed.is)) (sym c.is_next.ensures ∙ c.if-not-is_next.false) _ c.replaces_of.ensures.0 c.replaces_of.ensures.1 (c.loop-n.invariant.5 ∙ ap length c.requires.replaced_value ∙ length-replicate {A = ℕ} 8192 0) _ c.set_bit.ensures,
     )
 
 pub shape_of-array : goal.shape_of-array

@@ -13,7 +13,6 @@ use Rattle.geometry.specs.Sizes.{row_of}
 use Rattle.geometry.proofs.SizeLaws.{row_page_below}
 use Rattle.journal_read.specs.Reads.{block_of}
 use Rattle.journal_read.proofs.PartLaws.{logical_below, block_below, none_there, undone_so, one_there}
-use borrow.Author.Rules.{rules}
 use Rattle.journal_read.proofs.read_part.Goals as goal
 
 pub offset_bounds-map-logical : goal.offset_bounds-map-logical

@@ -13,20 +13,18 @@ use Rattle.journal_requests.proofs.add_up.Goals as goal
 pub slice_bounds-total-end : goal.slice_bounds-total-end
 slice_bounds-total-end c =
     let map_long : length c.args.state.map ≡ 4096 = search (rules, c.well_formed.0.1.1.1.1.1.1.1.1.0.1.0) in
-    
     sym (map_long)
 
 pub slice_bounds-total-end-2 : goal.slice_bounds-total-end-2
 slice_bounds-total-end-2 c =
     let kinds_long : length c.args.state.kinds ≡ 4096 = search (rules, c.well_formed.0.1.1.1.1.1.1.1.1.1.0.1.0) in
-    
     sym (kinds_long)
 
 pub total-sum-requires : goal.total-sum-requires
 total-sum-requires c =
     let map_long : length c.args.state.map ≡ 4096 = search (rules, c.well_formed.0.1.1.1.1.1.1.1.1.0.1.0) in
     let kinds_long : length c.args.state.kinds ≡ 4096 = search (rules, c.well_formed.0.1.1.1.1.1.1.1.1.1.0.1.0) in
-     record { lent = c.requires.lent; mapped = mapped c.args.g c.args.state c.requires.lent.is_valid (map_long) (kinds_long) c.requires.logical_value; replaced_len = c.requires.replaced_len.0; records_bound = c.requires.replaced_len.1; told = c.requires.told }
+    record { lent = c.requires.lent; mapped = mapped c.args.g c.args.state c.requires.lent.is_valid (map_long) (kinds_long) c.requires.logical_value; replaced_len = c.requires.replaced_len.0; records_bound = c.requires.replaced_len.1; told = c.requires.told }
 
 pub stop-requires : goal.stop-requires
 stop-requires c =

@@ -7,7 +7,6 @@ use Rattle.request.proofs.CallLaws.{sizes}
 use Rattle.journal.specs.Records.{room}
 use Rattle.journal_requests.specs.Requests.{journal_pages, append_refusal}
 use Rattle.journal_requests.proofs.EndLaws.{accepted, last_below, has_room, append_refused, append_stops, append_late, append_ends}
-use borrow.Author.Rules.{rules}
 use Rattle.journal_requests.proofs.append.Goals as goal
 
 pub returns-then-refused-ne0 : goal.returns-then-refused-ne0

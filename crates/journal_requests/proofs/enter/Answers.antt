@@ -1,7 +1,5 @@
 -- `journal_requests::enter` meets its contract. Assumes nothing.
-use borrow.Author.Rules.{rules}
 use Rattle.journal_requests.proofs.EndLaws.{lent_main}
-use borrow.Author.Rules.{rules}
 use Rattle.journal_requests.proofs.enter.Goals as goal
 
 pub write_sale-requires : goal.write_sale-requires

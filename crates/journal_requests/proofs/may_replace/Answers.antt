@@ -2,7 +2,6 @@
 use mathlib.Core.Bool.{Bool, not}
 use mathlib.Core.Path.{ap, ◌∙◌}
 use Rattle.journal_requests.proofs.EndLaws.{may_none, may_absent, may_one}
-use borrow.Author.Rules.{rules}
 use Rattle.journal_requests.proofs.may_replace.Goals as goal
 
 pub returns-then-target-eq0 : goal.returns-then-target-eq0

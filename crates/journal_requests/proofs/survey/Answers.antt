@@ -16,13 +16,11 @@ use Rattle.journal_requests.proofs.survey.Goals as goal
 pub slice_bounds-find_end-end : goal.slice_bounds-find_end-end
 slice_bounds-find_end-end c =
     let map_long : length c.args.state.map ≡ 4096 = search rules in
-    
     sym (map_long)
 
 pub slice_bounds-find_end-end-2 : goal.slice_bounds-find_end-end-2
 slice_bounds-find_end-end-2 c =
     let kinds_long : length c.args.state.kinds ≡ 4096 = search rules in
-    
     sym (kinds_long)
 
 pub slice_bounds-page-end : goal.slice_bounds-page-end

@@ -5,7 +5,6 @@ use Rattle.bus_polling.proofs.OutcomeLaws.{passed_by_is, other_by_not}
 use Rattle.journal.specs.Records.{room}
 use Rattle.journal_requests.specs.Requests.{journal_pages}
 use Rattle.journal_requests.proofs.EndLaws.{accepted, records-most, told_here, summed_here, takings_refused, takings_stops, takings_ends}
-use borrow.Author.Rules.{rules}
 use Rattle.journal_requests.proofs.takings.Goals as goal
 
 pub returns-then-refused-ne0 : goal.returns-then-refused-ne0

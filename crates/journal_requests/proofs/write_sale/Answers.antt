@@ -12,7 +12,6 @@ use Rattle.write.specs.Update.{change_from}
 use Rattle.journal.proofs.EndLaws.{room_most}
 use Rattle.journal_requests.specs.Requests.{sale_update}
 use Rattle.journal_requests.proofs.EndLaws.{logical_below, update_is, sale-ended, sale_done}
-use borrow.Author.Rules.{rules}
 use Rattle.journal_requests.proofs.write_sale.Goals as goal
 
 pub overflow_add-number : goal.overflow_add-number

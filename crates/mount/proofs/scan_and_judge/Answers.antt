@@ -14,7 +14,6 @@ use Rattle.scan.specs.Scan.{blocks_read}
 use Rattle.scan_found.proofs.FoundLaws.{table_small}
 use Rattle.mount.proofs.EndLaws.{scan_left, stopped_end, refused_end, mounted_end, answer_found, state_found, room}
 use Rattle.request.proofs.CallLaws.{lent-page}
-use borrow.Author.Rules.{rules}
 use Rattle.mount.proofs.scan_and_judge.Goals as goal
 
 pub scan_chip-scanned-requires : goal.scan_chip-scanned-requires

@@ -1,7 +1,6 @@
 -- `mount_judge::judge` meets its contract. Assumes nothing.
 use mathlib.Core.Path.{◌≡◌, sym, ◌∙◌}
 use native.Mathlib.Omega.{arith}
-use borrow.Author.Tests.{not-true, not-false}
 use lib.ListN.{length}
 use Rattle.scan_found.specs.Contents.{contents}
 use Rattle.mount_judge.proofs.JudgeLaws.{no_table, wrong_pages, marked_listed, own_listed, clash_found, all_right}
@@ -17,25 +16,25 @@ returns-then-right-ne1 c =
     wrong_pages c.args.g c.args.found (contents c.args.kinds.now c.args.logicals.now c.args.numbers.now) c.if-tables-eq0.false c.if-right-ne1.true
 
 pub is_never_both-requires : goal.is_never_both-requires
-is_never_both-requires c =    let h : length c.args.found.marked ≡ 512 = search rules in
+is_never_both-requires c = let h : length c.args.found.marked ≡ 512 = search rules in
     let k : length c.args.found.bits ≡ 512 = search rules in record { blocks_bound = omega (arith, h, c.requires.valid.blocks_most); blocks_bound_2 = omega (arith, k, c.requires.valid.blocks_most) }
 
 pub returns-then-not-is_never_both : goal.returns-then-not-is_never_both
 returns-then-not-is_never_both c =
-    marked_listed c.args.g c.args.found (contents c.args.kinds.now c.args.logicals.now c.args.numbers.now) c.if-tables-eq0.false c.if-right-ne1.false (sym c.is_never_both.ensures ∙ not-true _ c.if-not-is_never_both.true-raw)
+    marked_listed c.args.g c.args.found (contents c.args.kinds.now c.args.logicals.now c.args.numbers.now) c.if-tables-eq0.false c.if-right-ne1.false (sym c.is_never_both.ensures ∙ c.if-not-is_never_both.true)
 
 pub is_set-requires : goal.is_set-requires
-is_set-requires c =    let k : length c.args.found.bits ≡ 512 = search rules in
+is_set-requires c = let k : length c.args.found.bits ≡ 512 = search rules in
     omega (arith, k, c.requires.table_bound)
 
 pub returns-then-is_set : goal.returns-then-is_set
 returns-then-is_set c =
-    own_listed c.args.g c.args.found (contents c.args.kinds.now c.args.logicals.now c.args.numbers.now) c.if-tables-eq0.false c.if-right-ne1.false (sym c.is_never_both.ensures ∙ not-false _ c.if-not-is_never_both.false-raw) (sym c.is_set.ensures ∙ c.if-is_set.true)
+    own_listed c.args.g c.args.found (contents c.args.kinds.now c.args.logicals.now c.args.numbers.now) c.if-tables-eq0.false c.if-right-ne1.false (sym c.is_never_both.ensures ∙ c.if-not-is_never_both.false) (sym c.is_set.ensures ∙ c.if-is_set.true)
 
 pub returns-then-is_clash : goal.returns-then-is_clash
 returns-then-is_clash c =
-    clash_found c.args.g c.args.found (contents c.args.kinds.now c.args.logicals.now c.args.numbers.now) c.if-tables-eq0.false c.if-right-ne1.false (sym c.is_never_both.ensures ∙ not-false _ c.if-not-is_never_both.false-raw) (sym c.is_set.ensures ∙ c.if-is_set.false) (sym c.is_clash.ensures ∙ c.if-is_clash.true)
+    clash_found c.args.g c.args.found (contents c.args.kinds.now c.args.logicals.now c.args.numbers.now) c.if-tables-eq0.false c.if-right-ne1.false (sym c.is_never_both.ensures ∙ c.if-not-is_never_both.false) (sym c.is_set.ensures ∙ c.if-is_set.false) (sym c.is_clash.ensures ∙ c.if-is_clash.true)
 
 pub returns : goal.returns
 returns c =
-    all_right c.args.g c.args.found (contents c.args.kinds.now c.args.logicals.now c.args.numbers.now) c.if-tables-eq0.false c.if-right-ne1.false (sym c.is_never_both.ensures ∙ not-false _ c.if-not-is_never_both.false-raw) (sym c.is_set.ensures ∙ c.if-is_set.false) (sym c.is_clash.ensures ∙ c.if-is_clash.false)
+    all_right c.args.g c.args.found (contents c.args.kinds.now c.args.logicals.now c.args.numbers.now) c.if-tables-eq0.false c.if-right-ne1.false (sym c.is_never_both.ensures ∙ c.if-not-is_never_both.false) (sym c.is_set.ensures ∙ c.if-is_set.false) (sym c.is_clash.ensures ∙ c.if-is_clash.false)

@@ -1,6 +1,5 @@
 -- `mount_judge::mounted_state` meets its contract. Assumes nothing.
 use mathlib.Core.Path.{◌∙◌}
-use borrow.Author.Rules.{rules}
 use Rattle.mount_judge.proofs.mounted_state.Goals as goal
 
 pub returns : goal.returns

@@ -14,7 +14,6 @@ use Rattle.fill_laws.proofs.KeepLaws.{run-left}
 use Rattle.write.proofs.EndLaws.{call_lent}
 use Rattle.open_write.specs.Open.{open_state}
 use Rattle.open_requests.proofs.EndLaws.{ran_as, page_kept, words_inside, advance-refused, advance_admitted, advance_ends}
-use borrow.Author.Rules.{rules}
 use Rattle.open_requests.proofs.advance.Goals as goal
 
 pub returns-then-refused-ne0 : goal.returns-then-refused-ne0

@@ -9,7 +9,6 @@ use Rattle.fill.proofs.MainLaws.{lent-long}
 use Rattle.request.proofs.CallLaws.{lent-page}
 use Rattle.fill_cursor.specs.Cursor.{Fits}
 use Rattle.open_requests.proofs.EndLaws.{ran_as}
-use borrow.Author.Rules.{rules}
 use Rattle.open_requests.proofs.go_on.Goals as goal
 
 pub run-requires : goal.run-requires

@@ -2,7 +2,6 @@
 use Rattle.bus.specs.Line.{line}
 use Rattle.open_write.specs.Open.{open_state}
 use Rattle.open_requests.proofs.EndLaws.{leave_open, leave_closed}
-use borrow.Author.Rules.{rules}
 use Rattle.open_requests.proofs.leave.Goals as goal
 
 pub returns-then-phase-lt2 : goal.returns-then-phase-lt2

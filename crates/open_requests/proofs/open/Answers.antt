@@ -9,7 +9,6 @@ use Rattle.request.specs.Call.{call_line}
 use Rattle.write.proofs.EndLaws.{call_lent, status_left}
 use Rattle.open_write.specs.Open.{open_state}
 use Rattle.open_requests.proofs.EndLaws.{page_kept, open_refused, open_accepted, open_inside, open_ends}
-use borrow.Author.Rules.{rules}
 use Rattle.open_requests.proofs.open.Goals as goal
 
 pub returns-then-refused-ne0 : goal.returns-then-refused-ne0

@@ -4,7 +4,6 @@ use lib.Dec.{eqb}
 use Rattle.open_write.specs.Open.{open_state}
 use Rattle.open_write.specs.Requests.{open_refusal}
 use Rattle.open_requests.proofs.EndLaws.{turned, opening_held, opening_goes}
-use borrow.Author.Rules.{rules}
 use Rattle.open_requests.proofs.opening_refusal.Goals as goal
 
 pub returns-then-held-ne0 : goal.returns-then-held-ne0

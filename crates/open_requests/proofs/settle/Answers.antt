@@ -6,7 +6,6 @@ use Rattle.bus_polling.proofs.OutcomeLaws.{passed_by_is, other_by_not}
 use Rattle.fill_cursor.specs.Cursor.{first_cursor}
 use Rattle.open_write.specs.Open.{open_state}
 use Rattle.open_requests.proofs.EndLaws.{open_kept}
-use borrow.Author.Rules.{rules}
 use Rattle.open_requests.proofs.settle.Goals as goal
 
 pub stop-requires : goal.stop-requires

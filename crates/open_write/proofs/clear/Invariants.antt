@@ -1,8 +1,7 @@
 -- `open_write::clear` meets its contract. Assumes nothing.
 use Prim.Native.Nat.{◌-◌}
-use native.Mathlib.Omega.{arith}
-use lib.ListN.{length, replicate, length-replicate, get_or-replicate}
-use Rattle.cells.proofs.RewriteLaws.{Rewritten, rewritten_none, rewritten_more, rewritten_whole}
+use lib.ListN.{length, replicate}
+use Rattle.cells.proofs.RewriteLaws.{Rewritten}
 use Rattle.open_write.proofs.clear.Given as goal
 
 abbrev pub invariant-loop-i : goal.invariant-loop-i

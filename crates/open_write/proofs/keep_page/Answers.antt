@@ -4,7 +4,6 @@ use mathlib.Core.List.{List, ◌++◌}
 use mathlib.Core.Path.{ap, ◌∙◌}
 use lib.ListN.{length}
 use Rattle.cells.specs.Cells.{over}
-use borrow.Author.Rules.{rules}
 use Rattle.open_write.proofs.WordLaws.{cleared_rest}
 use Rattle.open_write.proofs.keep_page.Goals as goal
 

@@ -1,6 +1,5 @@
 -- `operations::erase` meets its contract: 60h and the row, the confirm cycle and 70h, the status reads, and bit 7 of the last. Assumes nothing.
 use mathlib.Core.Path.{◌∙◌}
-use borrow.Author.Rules.{rules}
 use Rattle.bus_polling.proofs.PollLaws.{answer_is}
 use Rattle.bus_sequences.specs.Cycles.{erase_address}
 use Rattle.bus_sequences.proofs.DataLaws.{onward, confirmed_all}

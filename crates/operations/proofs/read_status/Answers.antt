@@ -1,7 +1,6 @@
 -- `operations::read_status` meets its contract: 70h, a status read, and bit 7 of its byte. Assumes nothing.
 use mathlib.Core.List.{[]}
 use mathlib.Core.Path.{◌∙◌}
-use borrow.Author.Rules.{rules}
 use Rattle.bus_sequences.proofs.DataLaws.{lone, joined}
 use Rattle.operations.proofs.StatusLaws.{status_is}
 use Rattle.operations.proofs.read_status.Goals as goal

@@ -1,6 +1,5 @@
 -- `operations::reset` meets its contract: the two command cycles and a status read. Assumes nothing.
 use mathlib.Core.Path.{ap, ◌∙◌}
-use borrow.Author.Rules.{rules}
 use Rattle.bus_sequences.proofs.DataLaws.{lone, joined}
 use Rattle.bus.specs.Line.{status_out}
 use Rattle.operations.specs.Ends.{reset_status}

@@ -1,8 +1,7 @@
 -- `pages::add_zeros` meets its contract: at every turn the bytes passed are added, each at its place. Assumes nothing.
-use Prim.Native.Nat.{◌-◌, ◌≤◌}
+use Prim.Native.Nat.{◌-◌}
 use native.Mathlib.Omega.{arith}
-use borrow.Author.Rules.{rules}
-use Rattle.pages.proofs.CountLaws.{Added, added_none, added_more, added_all}
+use Rattle.pages.proofs.CountLaws.{added_none, added_more, added_all}
 use Rattle.pages.proofs.add_zeros.Goals as goal
 
 pub loop-i-init : goal.loop-i-init

@@ -1,8 +1,6 @@
 -- `pages::add_zeros` meets its contract: at every turn the bytes passed are added, each at its place. Assumes nothing.
 use Prim.Native.Nat.{◌-◌, ◌≤◌}
-use native.Mathlib.Omega.{arith}
-use borrow.Author.Rules.{rules}
-use Rattle.pages.proofs.CountLaws.{Added, added_none, added_more, added_all}
+use Rattle.pages.proofs.CountLaws.{Added}
 use Rattle.pages.proofs.add_zeros.Given as goal
 
 abbrev pub invariant-loop-i : goal.invariant-loop-i

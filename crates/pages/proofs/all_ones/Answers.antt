@@ -1,8 +1,7 @@
 -- `pages::all_ones` meets its contract: at every turn the bytes passed are FFh. Assumes nothing.
 use Prim.Native.Nat.{◌-◌}
 use native.Mathlib.Omega.{arith}
-use lib.ListN.{length}
-use Rattle.pages.proofs.ByteLaws.{Passed, passed_none, passed_more, passed_not, passed_all}
+use Rattle.pages.proofs.ByteLaws.{passed_none, passed_more, passed_not, passed_all}
 use Rattle.pages.proofs.all_ones.Goals as goal
 
 pub loop-i-init : goal.loop-i-init

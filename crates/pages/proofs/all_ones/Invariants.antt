@@ -1,8 +1,7 @@
 -- `pages::all_ones` meets its contract: at every turn the bytes passed are FFh. Assumes nothing.
 use Prim.Native.Nat.{◌-◌}
-use native.Mathlib.Omega.{arith}
 use lib.ListN.{length}
-use Rattle.pages.proofs.ByteLaws.{Passed, passed_none, passed_more, passed_not, passed_all}
+use Rattle.pages.proofs.ByteLaws.{Passed}
 use Rattle.pages.proofs.all_ones.Given as goal
 
 abbrev pub invariant-loop-i : goal.invariant-loop-i

@@ -1,8 +1,7 @@
 -- `pages::fill_ones` meets its contract: at every turn the places passed hold FFh. Assumes nothing.
 use Prim.Native.Nat.{◌-◌}
 use native.Mathlib.Omega.{arith}
-use lib.ListN.{length}
-use Rattle.pages.proofs.ByteLaws.{Filled, filled_none, filled_more, filled-all}
+use Rattle.pages.proofs.ByteLaws.{filled_none, filled_more, filled-all}
 use Rattle.pages.proofs.fill_ones.Goals as goal
 
 pub loop-i-init : goal.loop-i-init

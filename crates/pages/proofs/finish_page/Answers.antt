@@ -4,7 +4,6 @@ use mathlib.Core.List.{List}
 use mathlib.Core.Path.{◌≡◌, ◌∙◌}
 use native.Mathlib.Nat.{sub-zero}
 use native.Mathlib.Omega.{arith}
-use borrow.Author.Rules.{rules}
 use lib.ListN.{length, take, length-set}
 use Rattle.pages.specs.Check.{zero_bits}
 use Rattle.pages.proofs.ByteLaws.{finished}
@@ -20,14 +19,12 @@ pub bounds-page-p : goal.bounds-page-p
 bounds-page-p c =
     let lent₁ : List ℕ = c.args.page.now in
     let first : length c.write_pair.new.bytes ≡ length (lent₁) = c.write_pair.auto.bytes ∙ simp length-set in
-    
     omega (arith, first)
 
 pub write_number-requires : goal.write_number-requires
 write_number-requires c =
     let lent₁ : List ℕ = c.args.page.now in
     let first : length c.write_pair.new.bytes ≡ length (lent₁) = c.write_pair.auto.bytes ∙ simp length-set in
-    
     simp length-set (omega (arith, first))
 
 pub slice_bounds-zero_bits-end : goal.slice_bounds-zero_bits-end
@@ -36,7 +33,6 @@ slice_bounds-zero_bits-end c =
     let first : length c.write_pair.new.bytes ≡ length (lent₁) = c.write_pair.auto.bytes ∙ simp length-set in
     let lent₂ : List ℕ = lent₁ in
     let second : length c.write_number.new.bytes ≡ length (lent₂) = c.write_number.auto.bytes ∙ simp length-set (first) in
-    
     omega (arith, second)
 
 pub write_pair-requires-2 : goal.write_pair-requires-2
@@ -45,7 +41,6 @@ write_pair-requires-2 c =
     let first : length c.write_pair.new.bytes ≡ length (lent₁) = c.write_pair.auto.bytes ∙ simp length-set in
     let lent₂ : List ℕ = lent₁ in
     let second : length c.write_number.new.bytes ≡ length (lent₂) = c.write_number.auto.bytes ∙ simp length-set (first) in
-    
     omega (arith, second)
 
 pub fill_ones-requires : goal.fill_ones-requires
@@ -56,7 +51,6 @@ fill_ones-requires c =
     let second : length c.write_number.new.bytes ≡ length (lent₂) = c.write_number.auto.bytes ∙ simp length-set (first) in
     let lent₃ : List ℕ = lent₂ in
     let third : length c.write_pair-2.new.bytes ≡ length (lent₃) = c.write_pair-2.auto.bytes ∙ second in
-    
     omega (arith, third)
 
 pub shape_of-page : goal.shape_of-page
@@ -69,7 +63,6 @@ shape_of-page c =
     let third : length c.write_pair-2.new.bytes ≡ length (lent₃) = c.write_pair-2.auto.bytes ∙ second in
     let lent₄ : List ℕ = lent₃ in
     let fourth : length c.fill_ones.new.bytes ≡ length (lent₄) = c.fill_ones.auto.bytes ∙ third in
-    
     fourth
 
 pub returns : goal.returns

@@ -1,6 +1,5 @@
 -- `pages::is_table` meets its contract. Assumes nothing.
 use mathlib.Core.Path.{sym}
-use borrow.Author.Rules.{rules}
 use borrow.Author.Tests.{ne_eqb}
 use Rattle.bools.proofs.BoolLaws.{or_none}
 use Rattle.pages.specs.Layout.{is_table_kind}

@@ -1,7 +1,6 @@
 -- `pages::kind_of` meets its contract. Assumes nothing.
 use lib.Seq.{get_or-drop}
 use Rattle.pages.specs.Layout.{kind_of}
-use borrow.Author.Rules.{rules}
 use Rattle.pages.proofs.kind_of.Goals as goal
 
 pub returns : goal.returns

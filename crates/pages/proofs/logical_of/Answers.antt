@@ -1,7 +1,6 @@
 -- `pages::logical_of` meets its contract. Assumes nothing.
 use lib.Seq.{drop-drop}
 use Rattle.pages.specs.Layout.{label_of}
-use borrow.Author.Rules.{rules}
 use Rattle.pages.proofs.logical_of.Goals as goal
 
 pub returns : goal.returns

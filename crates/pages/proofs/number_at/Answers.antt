@@ -1,7 +1,6 @@
 -- `pages::number_at` meets its contract: a number of eight bytes is one of two numbers of four bytes. Assumes nothing.
 use mathlib.Core.Path.{sym}
 use native.Mathlib.Omega.{arith}
-use borrow.Author.Rules.{rules}
 use Rattle.pages.proofs.ByteLaws.{eight_is}
 use Rattle.pages.proofs.number_at.Goals as goal
 

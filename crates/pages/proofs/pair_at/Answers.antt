@@ -3,7 +3,6 @@ use Prim.Native.Nat.{◌+◌}
 use mathlib.Core.Path.{sym}
 use native.Mathlib.Omega.{arith}
 use Rattle.pages.proofs.ByteLaws.{pair_is}
-use borrow.Author.Rules.{rules}
 use Rattle.pages.proofs.pair_at.Goals as goal
 
 pub overflow_mul-result : goal.overflow_mul-result

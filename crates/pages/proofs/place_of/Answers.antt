@@ -1,7 +1,6 @@
 -- `pages::place_of` meets its contract. Assumes nothing.
 use lib.Seq.{get_or-drop}
 use Rattle.pages.specs.Layout.{label_of}
-use borrow.Author.Rules.{rules}
 use Rattle.pages.proofs.place_of.Goals as goal
 
 pub returns : goal.returns

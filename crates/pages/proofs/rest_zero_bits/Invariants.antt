@@ -1,8 +1,7 @@
 -- `pages::rest_zero_bits` meets its contract: at every turn the sum is the count of the bytes passed. Assumes nothing.
 use Prim.Native.Nat.{◌-◌}
-use native.Mathlib.Omega.{arith}
 use lib.ListN.{length}
-use Rattle.pages.proofs.ByteLaws.{Counted, counted_none, counted_more, counted-all}
+use Rattle.pages.proofs.ByteLaws.{Counted}
 use Rattle.pages.proofs.rest_zero_bits.Given as goal
 
 abbrev pub invariant-loop-i : goal.invariant-loop-i

@@ -1,8 +1,7 @@
 -- `pages::total` meets its contract: at every turn the sum is that of the counts passed. Assumes nothing.
 use Prim.Native.Nat.{◌-◌}
 use native.Mathlib.Omega.{arith}
-use borrow.Author.Rules.{rules}
-use Rattle.pages.proofs.CountLaws.{Summed, summed-none, summed_more, summed-all}
+use Rattle.pages.proofs.CountLaws.{summed-none, summed_more, summed-all}
 use Rattle.pages.proofs.total.Goals as goal
 
 pub loop-i-init : goal.loop-i-init

@@ -1,7 +1,6 @@
 -- `pages::write_number` meets its contract. Assumes nothing.
 use Rattle.pages.proofs.ByteLaws.{number_written}
 use native.Mathlib.Omega.{arith}
-use borrow.Author.Rules.{rules}
 use Rattle.pages.proofs.write_number.Goals as goal
 
 pub returns : goal.returns

@@ -4,7 +4,6 @@ use Rattle.chip_array.specs.Device.{setting}
 use Rattle.bus.specs.Line.{line}
 use Rattle.bus_polling.proofs.OutcomeLaws.{passed_by_is, other_by_not}
 use Rattle.read_page.proofs.FetchLaws.{fetch_line, fetch_outcome, fetch_stopped, fetch_passed}
-use borrow.Author.Rules.{rules}
 use Rattle.read_page.proofs.fetch.Goals as goal
 
 pub returns-in_default : goal.returns-in_default

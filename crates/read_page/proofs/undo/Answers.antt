@@ -1,7 +1,6 @@
 -- `read_page::undo` meets its contract. Assumes nothing.
 use mathlib.Core.Path.{refl, sym, ◌∙◌}
 use Rattle.copies.specs.Blocks.{formed}
-use borrow.Author.Rules.{rules}
 use Rattle.read_page.proofs.undo.Goals as goal
 
 pub returns-then-is_white : goal.returns-then-is_white

@@ -1,7 +1,6 @@
 -- `request::answer_for` meets its contract. Assumes nothing.
 use mathlib.Core.Path.{◌∙◌}
 use Rattle.bus_polling.proofs.OutcomeLaws.{passed_by_is, other_by_not}
-use borrow.Author.Rules.{rules}
 use Rattle.request.proofs.answer_for.Goals as goal
 
 pub returns-in_default : goal.returns-in_default

@@ -2,7 +2,6 @@
 use mathlib.Core.Path.{sym, ◌∙◌}
 use Rattle.chip_array.proofs.DeviceLaws.{fits}
 use Rattle.request.specs.Call.{sized}
-use borrow.Author.Rules.{rules}
 use Rattle.request.proofs.is_sized.Goals as goal
 
 pub block_size-requires : goal.block_size-requires

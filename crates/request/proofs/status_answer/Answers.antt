@@ -2,7 +2,6 @@
 use mathlib.Core.Path.{◌∙◌}
 use Rattle.bus_polling.proofs.OutcomeLaws.{protected_by_is, unprotected_by_not}
 use Rattle.request.specs.Call.{status_answer}
-use borrow.Author.Rules.{rules}
 use Rattle.request.proofs.status_answer.Goals as goal
 
 pub returns-in_default : goal.returns-in_default

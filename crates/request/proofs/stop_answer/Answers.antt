@@ -1,7 +1,6 @@
 -- `request::stop_answer` meets its contract. Assumes nothing.
 use mathlib.Core.Path.{sym, ap, ◌∙◌}
 use Rattle.request.proofs.CallLaws.{answer_by_tag, by_tag}
-use borrow.Author.Rules.{rules}
 use Rattle.request.proofs.stop_answer.Goals as goal
 
 pub returns-in-Passed : goal.returns-in-Passed

@@ -1,11 +1,10 @@
 -- `scan::scan_chip` meets its contract: after each block the scan has come through as ChipLaws tells. Assumes nothing.
-use Prim.Native.Nat.{ℕ, ◌-◌, ◌≤◌, ◌<◌}
+use Prim.Native.Nat.{ℕ, ◌-◌, ◌<◌}
 use mathlib.Core.Bool.{true, false≢true}
 use mathlib.Core.List.{List}
 use mathlib.Core.Path.{◌≡◌, refl, sym, ap, subst, ◌∙◌}
 use native.Mathlib.Omega.{arith}
 use borrow.Author.Rules.{rules}
-use lib.ListN.{length}
 use Rattle.chip_array.specs.Device.{setting}
 use Rattle.bus.specs.Line.{line}
 use Rattle.bus_polling.proofs.OutcomeLaws.{passed_by_is, other_by_not, is_passed_lem}
@@ -64,8 +63,13 @@ note-found-requires c =
 pub note_copy-requires : goal.note_copy-requires
 note_copy-requires c =
     let p = passed_by_is _ c.in-Passed.is in
-    let summary_is = c.scan_at-done.ensures.summary_is p ∙ ap (λ (x : List ℕ). summary_at c.args.depth c.args.g x c.loop-block.block) c.loop-block.invariant.8.same_array in record { kind_bound = subst (λ (x : Summary). says_complete x ≡ true → (x.kind < 256) × (x.logical < 65536)) (sym summary_is)
-          (copy_fits c.args.depth c.args.g (omega (arith, c.loop-block.invariant.8.called.is_valid.pages_least)) c.args.array.now (λ i. omega (arith, c.slice_known-1.given i)) c.loop-block.block); block_in_bounds = omega (arith, c.loop-block-test.true, c.loop-block.invariant.5, c.requires.blocks_in_bounds); block_in_bounds_2 = omega (arith, c.loop-block-test.true, c.loop-block.invariant.6, c.requires.blocks_in_bounds_2); block_in_bounds_3 = omega (arith, c.loop-block-test.true, c.loop-block.invariant.7, c.requires.blocks_in_bounds_3) }
+    let summary_is = c.scan_at-done.ensures.summary_is p ∙ ap (λ (x : List ℕ). summary_at c.args.depth c.args.g x c.loop-block.block) c.loop-block.invariant.8.same_array in record {
+      kind_bound = subst (λ (x : Summary). says_complete x ≡ true → (x.kind < 256) × (x.logical < 65536)) (sym summary_is)
+          (copy_fits c.args.depth c.args.g (omega (arith, c.loop-block.invariant.8.called.is_valid.pages_least)) c.args.array.now (λ i. omega (arith, c.slice_known-1.given i)) c.loop-block.block);
+      block_in_bounds = omega (arith, c.loop-block-test.true, c.loop-block.invariant.5, c.requires.blocks_in_bounds);
+      block_in_bounds_2 = omega (arith, c.loop-block-test.true, c.loop-block.invariant.6, c.requires.blocks_in_bounds_2);
+      block_in_bounds_3 = omega (arith, c.loop-block-test.true, c.loop-block.invariant.7, c.requires.blocks_in_bounds_3);
+    }
 
 pub overflow_add-block : goal.overflow_add-block
 overflow_add-block c =

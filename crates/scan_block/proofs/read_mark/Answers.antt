@@ -4,7 +4,6 @@ use lib.ListN.{replicate}
 use Rattle.chip_array.specs.Device.{setting}
 use Rattle.bus.specs.Line.{line}
 use Rattle.scan_block.proofs.MarkLaws.{mark_read_fact}
-use borrow.Author.Rules.{rules}
 use Rattle.scan_block.proofs.read_mark.Goals as goal
 
 pub returns : goal.returns

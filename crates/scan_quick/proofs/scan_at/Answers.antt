@@ -1,5 +1,4 @@
 -- `scan_quick::scan_at` meets its contract. Assumes nothing.
-use borrow.Author.Rules.{rules}
 use Rattle.chip_array.specs.Device.{setting}
 use Rattle.bus.specs.Line.{line}
 use Rattle.scan_summary.proofs.DepthLaws.{full_by_tag, quick_by_tag}

@@ -2,8 +2,6 @@
 use Prim.Native.Nat.{◌≤◌}
 use mathlib.Core.Path.{sym, ◌∙◌}
 use native.Mathlib.Omega.{arith}
-use borrow.Author.Rules.{rules}
-use borrow.Author.Tests.{not-true, not-false}
 use Rattle.chip_array.specs.Device.{setting}
 use Rattle.bus.specs.Line.{line}
 use Rattle.scan_quick.proofs.QuickScanLaws.{quick_first, quick_last_lem, quick_long}
@@ -51,7 +49,7 @@ shape_of-bits-then-not-begins_whole c =
 pub returns-then-not-begins_whole : goal.returns-then-not-begins_whole
 returns-then-not-begins_whole c =
     let three : 3 ≤ c.args.g.pages = omega (arith, c.requires.called.is_valid.pages_least) in
-    quick_first (setting c.args.g c.args.mask.now c.args.fates.now) c.args.block three (line c.args.from c.args.array.now c.args.register.now c.args.history.now) _ _ _ _ _ _ c.args.bits.now _ _ _ _ _ _ _ _ _ _ c.args.page.now _ c.blank.ensures c.scan_pages-first.ensures c.scan_pages-both.ensures c.scan_mark-marked.ensures (sym c.is_whole-begins_whole.ensures ∙ not-true _ c.if-not-begins_whole.true-raw)
+    quick_first (setting c.args.g c.args.mask.now c.args.fates.now) c.args.block three (line c.args.from c.args.array.now c.args.register.now c.args.history.now) _ _ _ _ _ _ c.args.bits.now _ _ _ _ _ _ _ _ _ _ c.args.page.now _ c.blank.ensures c.scan_pages-first.ensures c.scan_pages-both.ensures c.scan_mark-marked.ensures (sym c.is_whole-begins_whole.ensures ∙ c.if-not-begins_whole.true)
 
 pub shape_of-array-then-not-ends_whole : goal.shape_of-array-then-not-ends_whole
 shape_of-array-then-not-ends_whole c =
@@ -76,7 +74,7 @@ shape_of-bits-then-not-ends_whole c =
 pub returns-then-not-ends_whole : goal.returns-then-not-ends_whole
 returns-then-not-ends_whole c =
     let three : 3 ≤ c.args.g.pages = omega (arith, c.requires.called.is_valid.pages_least) in
-    quick_last_lem (setting c.args.g c.args.mask.now c.args.fates.now) c.args.block three (line c.args.from c.args.array.now c.args.register.now c.args.history.now) _ _ _ _ _ _ c.args.bits.now _ _ _ _ _ _ _ _ _ _ c.args.page.now _ c.blank.ensures c.scan_pages-first.ensures c.scan_pages-both.ensures c.scan_mark-marked.ensures (sym c.is_whole-ends_whole.ensures ∙ not-true _ c.if-not-ends_whole.true-raw)
+    quick_last_lem (setting c.args.g c.args.mask.now c.args.fates.now) c.args.block three (line c.args.from c.args.array.now c.args.register.now c.args.history.now) _ _ _ _ _ _ c.args.bits.now _ _ _ _ _ _ _ _ _ _ c.args.page.now _ c.blank.ensures c.scan_pages-first.ensures c.scan_pages-both.ensures c.scan_mark-marked.ensures (sym c.is_whole-ends_whole.ensures ∙ c.if-not-ends_whole.true)
 
 pub scan_pages-requires : goal.scan_pages-requires
 scan_pages-requires c = record { called = c.scan_mark-marked.ensures.ran.next; block_lt_blocks = c.requires.block_lt_blocks; count_bound = omega (arith, c.requires.called.is_valid.pages_least); page_len = c.page-2-1.given ∙ c.page-1.given ∙ c.requires.page_len; blocks_in_bounds = omega (arith, c.bits-2-1.given, c.bits-1.given, c.requires.blocks_in_bounds) }
@@ -104,4 +102,4 @@ shape_of-bits c =
 pub returns : goal.returns
 returns c =
     let three : 3 ≤ c.args.g.pages = omega (arith, c.requires.called.is_valid.pages_least) in
-    quick_long (setting c.args.g c.args.mask.now c.args.fates.now) c.args.block three (line c.args.from c.args.array.now c.args.register.now c.args.history.now) _ _ _ _ _ _ c.args.bits.now _ _ _ _ _ _ _ _ _ _ c.args.page.now _ c.blank.ensures c.scan_pages-first.ensures c.scan_pages-both.ensures c.scan_mark-marked.ensures (sym c.is_whole-begins_whole.ensures ∙ not-false _ c.if-not-begins_whole.false-raw) (sym c.is_whole-ends_whole.ensures ∙ not-false _ c.if-not-ends_whole.false-raw) _ _ _ _ _ _ c.scan_pages.ensures
+    quick_long (setting c.args.g c.args.mask.now c.args.fates.now) c.args.block three (line c.args.from c.args.array.now c.args.register.now c.args.history.now) _ _ _ _ _ _ c.args.bits.now _ _ _ _ _ _ _ _ _ _ c.args.page.now _ c.blank.ensures c.scan_pages-first.ensures c.scan_pages-both.ensures c.scan_mark-marked.ensures (sym c.is_whole-begins_whole.ensures ∙ c.if-not-begins_whole.false) (sym c.is_whole-ends_whole.ensures ∙ c.if-not-ends_whole.false) _ _ _ _ _ _ c.scan_pages.ensures

@@ -1,7 +1,6 @@
 -- `scan_summary::marked_by` meets its contract. Assumes nothing.
 use Rattle.scan_summary.specs.Summary.{marked_by}
 use borrow.Author.Tests.{eq-eqb, ne_eqb, lt-ltb, le-ltb}
-use borrow.Author.Rules.{rules}
 use Rattle.scan_summary.proofs.marked_by.Goals as goal
 
 pub returns-then-page-main : goal.returns-then-page-main

@@ -1,11 +1,8 @@
 -- `state::is_empty_from` meets its contract: what is other than empty and the entries left decide as all do. Assumes nothing.
-use Prim.Native.Nat.{◌≤◌, ◌-◌}
-use mathlib.Core.Bool.{cond, false}
-use mathlib.Core.Path.{◌≡◌, refl, ◌∙◌}
+use Prim.Native.Nat.{◌-◌}
+use mathlib.Core.Bool.{false}
+use mathlib.Core.Path.{refl, ◌∙◌}
 use native.Mathlib.Omega.{arith}
-use borrow.Author.Rules.{rules}
-use lib.Dec.{eqb}
-use Rattle.state.specs.State.{empty_from}
 use Rattle.state.proofs.StateLaws.{empty_on, empty-over}
 use Rattle.state.proofs.is_empty_from.Goals as goal
 

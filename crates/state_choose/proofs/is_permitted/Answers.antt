@@ -1,7 +1,6 @@
 -- `state_choose::is_permitted` meets its contract. Assumes nothing.
 use Rattle.state_choose.specs.Choose.{permitted}
 use mathlib.Core.Path.{sym, ◌∙◌}
-use borrow.Author.Rules.{rules}
 use Rattle.state_choose.proofs.is_permitted.Goals as goal
 
 pub returns-then-is_set : goal.returns-then-is_set

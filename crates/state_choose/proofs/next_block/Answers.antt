@@ -1,6 +1,5 @@
 -- `state_choose::next_block` meets its contract. Assumes nothing.
 use borrow.Author.Tests.{eq-eqb, ne_eqb}
-use borrow.Author.Rules.{rules}
 use Rattle.state_choose.proofs.next_block.Goals as goal
 
 pub returns-then-block-blocks : goal.returns-then-block-blocks

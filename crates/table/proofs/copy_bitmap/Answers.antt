@@ -2,7 +2,6 @@
 use Prim.Native.Nat.{◌-◌}
 use native.Mathlib.Omega.{arith}
 use Rattle.table.proofs.TableLaws.{no_bitmap, bitmap_copied}
-use borrow.Author.Rules.{rules}
 use Rattle.table.proofs.copy_bitmap.Goals as goal
 
 pub returns-then-place-ne0 : goal.returns-then-place-ne0

@@ -5,7 +5,6 @@ use Rattle.bitmaps.specs.Bitmap.{count_bits, clear_from}
 use mathlib.Core.Path.{sym, ap, ap₂, ◌∙◌}
 use mathlib.Core.List.{List}
 use Prim.Native.Nat.{ℕ, ◌*◌, ◌-◌}
-use borrow.Author.Rules.{rules}
 use Rattle.table.proofs.is_right_first.Goals as goal
 
 pub returns-then-pair_at-blocks : goal.returns-then-pair_at-blocks

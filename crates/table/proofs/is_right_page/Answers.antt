@@ -3,7 +3,6 @@ use mathlib.Core.Path.{sym, ap, ◌∙◌}
 use Rattle.pages.specs.Layout.{all_ones}
 use Rattle.copies.specs.Table.{right_first, with_logical}
 use Rattle.table.proofs.TableLaws.{from_start, later-page, wrong_label, first_page_fact}
-use borrow.Author.Rules.{rules}
 use Rattle.table.proofs.is_right_page.Goals as goal
 
 pub returns-then-place-ne0 : goal.returns-then-place-ne0

@@ -6,7 +6,6 @@ use mathlib.Core.Path.{sym, ap, ◌∙◌}
 use borrow.Author.Tests.{eq-eqb, ne_eqb}
 use Rattle.copies.specs.Table.{field_of, right_with}
 use Rattle.table.proofs.TableLaws.{from_start, layout_named}
-use borrow.Author.Rules.{rules}
 use Rattle.table.proofs.right_with.Goals as goal
 
 pub returns-then-right-eq0 : goal.returns-then-right-eq0

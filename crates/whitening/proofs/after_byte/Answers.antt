@@ -2,7 +2,6 @@
 use Prim.Native.Nat.{◌/◌, ◌%◌}
 use mathlib.Core.Path.{sym}
 use native.Mathlib.Omega.{arith}
-use borrow.Author.Rules.{rules}
 use lib.Bits.{xor_lt}
 use Rattle.whitening.proofs.StreamLaws.{byte_stepped, stepped-small}
 use Rattle.whitening.proofs.after_byte.Goals as goal

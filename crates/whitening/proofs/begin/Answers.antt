@@ -1,10 +1,10 @@
 -- `whitening::begin` meets its contract: so far the list begins as the stream does, and the register is the one that gives the next byte. Assumes nothing.
-use Prim.Native.Nat.{ℕ, ◌+◌, ◌-◌, ◌*◌, ◌/◌, ◌<◌}
+use Prim.Native.Nat.{ℕ, ◌+◌, ◌-◌, ◌*◌, ◌/◌}
 use mathlib.Core.Path.{◌≡◌, refl, sym, ap, ◌∙◌}
 use native.Mathlib.Omega.{arith}
 use borrow.Author.Rules.{rules}
-use lib.ListN.{length, length-set}
-use Rattle.whitening.specs.Stream.{stepped, bits_given, Begins}
+use lib.ListN.{length-set}
+use Rattle.whitening.specs.Stream.{stepped, bits_given}
 use Rattle.whitening.proofs.StreamLaws.{stepped_add, byte_out_lem}
 use Rattle.whitening.proofs.BeginLaws.{begins_none, begins_fewer, begins_more}
 use Rattle.whitening.proofs.begin.Goals as goal

@@ -1,12 +1,8 @@
 -- `whitening::begin` meets its contract: so far the list begins as the stream does, and the register is the one that gives the next byte. Assumes nothing.
-use Prim.Native.Nat.{ℕ, ◌+◌, ◌-◌, ◌*◌, ◌/◌, ◌<◌}
-use mathlib.Core.Path.{◌≡◌, refl, sym, ap, ◌∙◌}
-use native.Mathlib.Omega.{arith}
-use borrow.Author.Rules.{rules}
-use lib.ListN.{length, length-set}
-use Rattle.whitening.specs.Stream.{stepped, bits_given, Begins}
-use Rattle.whitening.proofs.StreamLaws.{stepped_add, byte_out_lem}
-use Rattle.whitening.proofs.BeginLaws.{begins_none, begins_fewer, begins_more}
+use Prim.Native.Nat.{◌+◌, ◌-◌, ◌*◌, ◌<◌}
+use mathlib.Core.Path.{◌≡◌}
+use lib.ListN.{length}
+use Rattle.whitening.specs.Stream.{stepped, Begins}
 use Rattle.whitening.proofs.begin.Given as goal
 
 abbrev pub invariant-loop-at : goal.invariant-loop-at

@@ -1,10 +1,9 @@
 -- `whitening::extend` meets its contract: a list that began as the stream does goes on as it does. Assumes nothing.
-use Prim.Native.Nat.{ℕ, ◌-◌, ◌*◌, ◌≤◌}
-use mathlib.Core.Path.{◌≡◌, ◌∙◌}
+use Prim.Native.Nat.{◌-◌}
+use mathlib.Core.Path.{◌∙◌}
 use native.Mathlib.Omega.{arith}
 use borrow.Author.Rules.{rules}
-use lib.ListN.{length, length-set}
-use Rattle.whitening.specs.Stream.{Begins}
+use lib.ListN.{length-set}
 use Rattle.whitening.proofs.BeginLaws.{begins_fewer, begins_again}
 use Rattle.whitening.proofs.extend.Goals as goal
 
@@ -13,10 +12,10 @@ loop-at-init c = (omega arith, search rules, λ r b. b)
 
 pub loop-at-preserved : goal.loop-at-preserved
 loop-at-preserved c = (
-      omega arith,
-      length-set c.loop-at.stream c.loop-at.at _ ∙ c.loop-at.invariant.1,
-      λ r b. begins_again c.loop-at.at c.args.apart r c.loop-at.stream (search rules) c.loop-at.invariant.0 (search rules) (omega arith) (c.loop-at.invariant.2 r b),
-    )
+  omega arith,
+  length-set c.loop-at.stream c.loop-at.at _ ∙ c.loop-at.invariant.1,
+  λ r b. begins_again c.loop-at.at c.args.apart r c.loop-at.stream (search rules) c.loop-at.invariant.0 (search rules) (omega arith) (c.loop-at.invariant.2 r b),
+)
 
 pub returns : goal.returns
 returns c = record { stream_len_2 = c.loop-at.invariant.1; by_index = λ r b. begins_fewer c.loop-at.at c.args.end r c.loop-at.stream (omega arith) (c.loop-at.invariant.2 r b) }

@@ -1,11 +1,8 @@
 -- `whitening::extend` meets its contract: a list that began as the stream does goes on as it does. Assumes nothing.
 use Prim.Native.Nat.{ℕ, ◌-◌, ◌*◌, ◌≤◌}
-use mathlib.Core.Path.{◌≡◌, ◌∙◌}
-use native.Mathlib.Omega.{arith}
-use borrow.Author.Rules.{rules}
-use lib.ListN.{length, length-set}
+use mathlib.Core.Path.{◌≡◌}
+use lib.ListN.{length}
 use Rattle.whitening.specs.Stream.{Begins}
-use Rattle.whitening.proofs.BeginLaws.{begins_fewer, begins_again}
 use Rattle.whitening.proofs.extend.Given as goal
 
 abbrev pub invariant-loop-at : goal.invariant-loop-at

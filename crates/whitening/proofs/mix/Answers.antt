@@ -2,9 +2,7 @@
 use Prim.Native.Nat.{◌-◌}
 use mathlib.Core.Path.{◌∙◌}
 use native.Mathlib.Omega.{arith}
-use lib.ListN.{length}
-use Rattle.cells.proofs.RewriteLaws.{Rewritten, rewritten_none, rewritten_next, rewritten_more, rewritten_whole}
-use Rattle.whitening.specs.Whitened.{xored}
+use Rattle.cells.proofs.RewriteLaws.{rewritten_none, rewritten_next, rewritten_more, rewritten_whole}
 use Rattle.whitening.proofs.WhitenedLaws.{length-xored, get_or-xored}
 use Rattle.whitening.proofs.mix.Goals as goal
 

@@ -1,11 +1,8 @@
 -- `whitening::mix` meets its contract: the bytes are rewritten by what the XOR makes of them. Assumes nothing.
 use Prim.Native.Nat.{◌-◌}
-use mathlib.Core.Path.{◌∙◌}
-use native.Mathlib.Omega.{arith}
 use lib.ListN.{length}
-use Rattle.cells.proofs.RewriteLaws.{Rewritten, rewritten_none, rewritten_next, rewritten_more, rewritten_whole}
+use Rattle.cells.proofs.RewriteLaws.{Rewritten}
 use Rattle.whitening.specs.Whitened.{xored}
-use Rattle.whitening.proofs.WhitenedLaws.{length-xored, get_or-xored}
 use Rattle.whitening.proofs.mix.Given as goal
 
 abbrev pub invariant-loop-i : goal.invariant-loop-i

@@ -2,7 +2,6 @@
 use Prim.Native.Nat.{◌+◌}
 use mathlib.Core.Path.{◌∙◌}
 use native.Mathlib.Omega.{arith}
-use borrow.Author.Rules.{rules}
 use Rattle.whitening.proofs.StreamLaws.{repeats_1, repeats_4, repeats_16}
 use Rattle.whitening.proofs.WhitenedLaws.{begins_whitens}
 use Rattle.whitening.proofs.whiten.Goals as goal

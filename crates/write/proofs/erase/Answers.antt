@@ -11,7 +11,6 @@ use Rattle.request.specs.Call.{call_line}
 use Rattle.fill_tables.proofs.StatusLaws.{status_stops, status_goes}
 use Rattle.write_changes.specs.Changes.{change_run, erase_update}
 use Rattle.write.proofs.EndLaws.{call_lent, not_refused, last_below, erase_refused, erase_ends, status_left, status_lent}
-use borrow.Author.Rules.{rules}
 use Rattle.write.proofs.erase.Goals as goal
 
 pub returns-then-refused-ne0 : goal.returns-then-refused-ne0

@@ -4,7 +4,6 @@ use mathlib.Core.Path.{◌∙◌}
 use Prim.Native.Nat.{ℕ}
 use Rattle.bus.specs.Line.{line}
 use Rattle.request.specs.Call.{end_at}
-use borrow.Author.Rules.{rules}
 use Rattle.write.proofs.stop.Goals as goal
 
 pub returns : goal.returns

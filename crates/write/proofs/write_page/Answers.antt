@@ -13,7 +13,6 @@ use Rattle.fill_tables.proofs.StatusLaws.{status_stops, status_goes}
 use Rattle.write_changes.specs.Changes.{change_run}
 use Rattle.write.specs.Update.{update, change_from}
 use Rattle.write.proofs.EndLaws.{status_left, status_lent}
-use borrow.Author.Rules.{rules}
 use Rattle.write.proofs.write_page.Goals as goal
 
 pub stop-requires : goal.stop-requires

@@ -1,6 +1,5 @@
 -- `bus::Bus::spend` meets its contract. Assumes nothing.
 use mathlib.Core.Path.{refl}
-use borrow.Author.Rules.{rules}
 use Rattle.bus.proofs.Bus.spend.Goals as goal
 
 pub returns : goal.returns

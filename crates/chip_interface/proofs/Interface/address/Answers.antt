@@ -2,7 +2,6 @@
 use native.Mathlib.Omega.{arith}
 use Rattle.chip_interface.specs.Interface.{addressed, begun}
 use borrow.Author.Tests.{eq-eqb, ne_eqb, le-leb, lt-leb, lt-ltb, le-ltb}
-use borrow.Author.Rules.{rules}
 use Rattle.chip_interface.proofs.Interface.address.Goals as goal
 
 pub returns-then-now-eq-READ_ADDRESS : goal.returns-then-now-eq-READ_ADDRESS

@@ -1,7 +1,6 @@
 -- `chip_interface::Interface::begin` meets its contract. Assumes nothing.
 use Rattle.chip_interface.specs.Interface.{begun}
 use borrow.Author.Tests.{eq-eqb, ne_eqb, le-leb, lt-leb, lt-ltb, le-ltb}
-use borrow.Author.Rules.{rules}
 use Rattle.chip_interface.proofs.Interface.begin.Goals as goal
 
 pub returns-then-present-gt-DATA_OUT : goal.returns-then-present-gt-DATA_OUT

@@ -2,7 +2,6 @@
 use native.Mathlib.Omega.{arith}
 use Rattle.chip_interface.specs.Interface.{read_mode, begun}
 use borrow.Author.Tests.{eq-eqb, ne_eqb, le-leb, lt-leb, lt-ltb, le-ltb}
-use borrow.Author.Rules.{rules}
 use Rattle.chip_interface.proofs.Interface.begin_read.Goals as goal
 
 pub returns-then-now-gt-DATA_OUT : goal.returns-then-now-gt-DATA_OUT

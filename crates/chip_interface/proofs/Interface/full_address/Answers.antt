@@ -1,6 +1,5 @@
 -- `chip_interface::Interface::full_address` meets its contract. Assumes nothing.
 use borrow.Author.Tests.{eq-eqb, ne_eqb, le-leb, lt-leb, lt-ltb, le-ltb}
-use borrow.Author.Rules.{rules}
 use Rattle.chip_interface.proofs.Interface.full_address.Goals as goal
 
 pub returns-then-phase-eq-PROGRAM_ADDRESS : goal.returns-then-phase-eq-PROGRAM_ADDRESS

@@ -2,7 +2,6 @@
 use mathlib.Core.Path.{sym, ◌∙◌}
 use Rattle.chip_interface.specs.Interface.{latched}
 use borrow.Author.Tests.{eq-eqb, ne_eqb, le-leb, lt-leb, lt-ltb, le-ltb}
-use borrow.Author.Rules.{rules}
 use Rattle.chip_interface.proofs.Interface.latch.Goals as goal
 
 pub returns-then-count-ge5 : goal.returns-then-count-ge5

@@ -1,7 +1,6 @@
 -- `chip_interface::Interface::parameter_address` meets its contract. Assumes nothing.
 use Rattle.chip_interface.specs.Interface.{parameter_addressed}
 use borrow.Author.Tests.{eq-eqb, ne_eqb}
-use borrow.Author.Rules.{rules}
 use Rattle.chip_interface.proofs.Interface.parameter_address.Goals as goal
 
 pub returns-then-now-ne-PARAMETER_ADDRESS : goal.returns-then-now-ne-PARAMETER_ADDRESS

@@ -1,8 +1,6 @@
 -- `chip_interface::Interface::plain_command` meets its contract: the tests stand in the definition's order. Assumes nothing.
-use mathlib.Core.Path.{◌≡◌}
-use Rattle.chip_interface.specs.Interface.{begun, plain_command}
+use Rattle.chip_interface.specs.Interface.{plain_command}
 use borrow.Author.Tests.{eq-eqb, ne_eqb}
-use borrow.Author.Rules.{rules}
 use Rattle.chip_interface.proofs.Interface.plain_command.Goals as goal
 
 pub returns-then-code-eq255 : goal.returns-then-code-eq255

@@ -1,7 +1,6 @@
 -- `chip_interface::Interface::show_status` meets its contract. Assumes nothing.
 use Rattle.chip_interface.specs.Interface.{status_mode}
 use borrow.Author.Tests.{eq-eqb, ne_eqb, le-leb, lt-leb, lt-ltb, le-ltb}
-use borrow.Author.Rules.{rules}
 use Rattle.chip_interface.proofs.Interface.show_status.Goals as goal
 
 pub returns-then-now-le-DATA_OUT : goal.returns-then-now-le-DATA_OUT

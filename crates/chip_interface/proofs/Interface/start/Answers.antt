@@ -1,7 +1,6 @@
 -- `chip_interface::Interface::start` meets its contract. Assumes nothing.
 use Rattle.chip_interface.specs.Interface.{started}
 use borrow.Author.Tests.{eq-eqb, ne_eqb, le-leb, lt-leb, lt-ltb, le-ltb}
-use borrow.Author.Rules.{rules}
 use Rattle.chip_interface.proofs.Interface.start.Goals as goal
 
 pub returns-then-operation-eq-READ : goal.returns-then-operation-eq-READ

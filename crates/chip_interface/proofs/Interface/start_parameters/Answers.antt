@@ -1,5 +1,4 @@
 -- `chip_interface::Interface::start_parameters` meets its contract. Assumes nothing.
-use borrow.Author.Rules.{rules}
 use Rattle.chip_interface.proofs.Interface.start_parameters.Goals as goal
 
 pub returns : goal.returns

@@ -4,7 +4,6 @@ use mathlib.Core.Path.{ap, subst, ◌∙◌}
 use Rattle.bus_polling.proofs.OutcomeLaws.{passed_by_is, other_by_not}
 use Rattle.fill_cursor.specs.Cursor.{on_page}
 use Rattle.fill_cursor.proofs.NextLaws.{after_unfilled, after_page, after_whole}
-use borrow.Author.Rules.{rules}
 use Rattle.fill_cursor.proofs.Cursor.after.Goals as goal
 
 pub returns-in_default : goal.returns-in_default

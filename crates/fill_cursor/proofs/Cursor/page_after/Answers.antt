@@ -1,7 +1,6 @@
 -- `fill_cursor::Cursor::page_after` meets its contract. Assumes nothing.
 use borrow.Author.Tests.{eq-eqb, ne_eqb}
 use Rattle.fill_cursor.specs.Cursor.{page_after}
-use borrow.Author.Rules.{rules}
 use Rattle.fill_cursor.proofs.Cursor.page_after.Goals as goal
 
 pub returns-then-step-eq1 : goal.returns-then-step-eq1

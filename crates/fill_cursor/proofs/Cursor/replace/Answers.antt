@@ -1,9 +1,8 @@
 -- `fill_cursor::Cursor::replace` meets its contract. Assumes nothing.
-use mathlib.Core.Path.{◌≡◌, ap, ◌∙◌}
+use mathlib.Core.Path.{ap, ◌∙◌}
 use Rattle.bus_polling.proofs.OutcomeLaws.{failed_by_is, unfailed_by_not}
-use Rattle.fill_cursor.specs.Cursor.{ended, replaced}
+use Rattle.fill_cursor.specs.Cursor.{ended}
 use Rattle.fill_cursor.proofs.NextLaws.{replaced_failed, stopped_unfilled}
-use borrow.Author.Rules.{rules}
 use Rattle.fill_cursor.proofs.Cursor.replace.Goals as goal
 
 pub returns-in_default : goal.returns-in_default

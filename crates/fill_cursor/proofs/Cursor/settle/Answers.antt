@@ -1,9 +1,7 @@
 -- `fill_cursor::Cursor::settle` meets its contract. Assumes nothing.
-use mathlib.Core.Path.{◌≡◌, ◌∙◌}
+use mathlib.Core.Path.{◌∙◌}
 use Rattle.bus_polling.proofs.OutcomeLaws.{passed_by_is, other_by_not}
-use Rattle.fill_cursor.specs.Cursor.{withdrawn}
 use Rattle.fill_cursor.proofs.NextLaws.{settled_unfilled, settled_table, settled_copy}
-use borrow.Author.Rules.{rules}
 use Rattle.fill_cursor.proofs.Cursor.settle.Goals as goal
 
 pub returns-in_default : goal.returns-in_default

@@ -1,7 +1,6 @@
 -- `flash_store::costs::flash_store_dearest_write` meets its contract. Assumes nothing.
 use Rattle.c_buffers.specs.Buffers.{geometry_of}
 use Rattle.flash_store.proofs.DearestLaws.{cycles_wrongly, dearest_handed_fact}
-use borrow.Author.Rules.{rules}
 use Rattle.flash_store.proofs.costs.flash_store_dearest_write.Goals as goal
 
 pub returns-then-cycles-ne1 : goal.returns-then-cycles-ne1

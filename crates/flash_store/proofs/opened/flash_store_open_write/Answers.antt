@@ -3,7 +3,6 @@ use Prim.Native.Nat.{ℕ}
 use mathlib.Core.List.{List}
 use native.Mathlib.Omega.{arith}
 use mathlib.Core.Path.{sym, ap, ◌∙◌}
-use borrow.Author.Tests.{not-true, not-false}
 use Rattle.chip_array.specs.Device.{Device, device, setting}
 use Rattle.open_write.specs.Open.{OpenState, open_state}
 use Rattle.open_write.specs.Requests.{opening_write}
@@ -13,33 +12,32 @@ use Rattle.flash_store.proofs.LibraryLaws.{lent_wrongly, request_handed}
 use Rattle.flash_store.proofs.OpenedLaws.{lent-long, opened-page}
 use Rattle.c_buffers.specs.Buffers.{geometry_of, lent}
 use Rattle.c_buffers.proofs.BufferLaws.{right-long}
-use borrow.Author.Rules.{rules}
 use Rattle.flash_store.proofs.opened.flash_store_open_write.Goals as goal
 
 pub returns-then-not-is_lent_rightly : goal.returns-then-not-is_lent_rightly
 unfolding opening_lent
 returns-then-not-is_lent_rightly c =
     let l = (lent c.args.state.now c.args.interface.now c.args.array.now c.args.register.now c.args.history.now c.args.sent.now) in
-    let set = (setting (geometry_of c.args.main c.args.spare c.args.pages c.args.blocks c.args.logical) c.args.mask.now c.args.fates.now) in let v = lent_wrongly l _ (sym c.is_lent_rightly.ensures ∙ not-true _ c.if-not-is_lent_rightly.true-raw) in record { sent_after = v.0; passed_on = v.1 }
+    let set = (setting (geometry_of c.args.main c.args.spare c.args.pages c.args.blocks c.args.logical) c.args.mask.now c.args.fates.now) in let v = lent_wrongly l _ (sym c.is_lent_rightly.ensures ∙ c.if-not-is_lent_rightly.true) in record { sent_after = v.0; passed_on = v.1 }
 
 pub state_of-before-requires : goal.state_of-before-requires
-state_of-before-requires c = (right-long _ _ _ (sym c.is_lent_rightly.ensures ∙ not-false _ c.if-not-is_lent_rightly.false-raw)).state_long
+state_of-before-requires c = (right-long _ _ _ (sym c.is_lent_rightly.ensures ∙ c.if-not-is_lent_rightly.false)).state_long
 
 pub write_of-write-requires : goal.write_of-write-requires
-write_of-write-requires c = (right-long _ _ _ (sym c.is_lent_rightly.ensures ∙ not-false _ c.if-not-is_lent_rightly.false-raw)).state_long
+write_of-write-requires c = (right-long _ _ _ (sym c.is_lent_rightly.ensures ∙ c.if-not-is_lent_rightly.false)).state_long
 
 pub interface_of-start-requires : goal.interface_of-start-requires
-interface_of-start-requires c = (right-long _ _ _ (sym c.is_lent_rightly.ensures ∙ not-false _ c.if-not-is_lent_rightly.false-raw)).interface_long
+interface_of-start-requires c = (right-long _ _ _ (sym c.is_lent_rightly.ensures ∙ c.if-not-is_lent_rightly.false)).interface_long
 
 pub slice_bounds-open-end : goal.slice_bounds-open-end
-slice_bounds-open-end c = omega (arith, (right-long _ _ _ (sym c.is_lent_rightly.ensures ∙ not-false _ c.if-not-is_lent_rightly.false-raw)).state_long)
+slice_bounds-open-end c = omega (arith, (right-long _ _ _ (sym c.is_lent_rightly.ensures ∙ c.if-not-is_lent_rightly.false)).state_long)
 
 pub hand_back-requires : goal.hand_back-requires
-hand_back-requires c =    let long = right-long _ _ _ (sym c.is_lent_rightly.ensures ∙ not-false _ c.if-not-is_lent_rightly.false-raw) in
+hand_back-requires c = let long = right-long _ _ _ (sym c.is_lent_rightly.ensures ∙ c.if-not-is_lent_rightly.false) in
     let o = c.open-ended in record { state_len = lent-long c.args.state.now o.new.1.1.0 long.state_long o.auto.1.1.0; interface_len = long.interface_long; sent_len = long.sent_long }
 
 pub shape_of-state : goal.shape_of-state
-shape_of-state c =    let long = right-long _ _ _ (sym c.is_lent_rightly.ensures ∙ not-false _ c.if-not-is_lent_rightly.false-raw) in
+shape_of-state c = let long = right-long _ _ _ (sym c.is_lent_rightly.ensures ∙ c.if-not-is_lent_rightly.false) in
     let o = c.open-ended in
     c.state-2-1.given ∙ lent-long c.args.state.now o.new.1.1.0 long.state_long o.auto.1.1.0 ∙ sym long.state_long
 
@@ -48,7 +46,7 @@ unfolding opening_lent
 returns c =
     let l = (lent c.args.state.now c.args.interface.now c.args.array.now c.args.register.now c.args.history.now c.args.sent.now) in
     let set = (setting (geometry_of c.args.main c.args.spare c.args.pages c.args.blocks c.args.logical) c.args.mask.now c.args.fates.now) in
-    let right = sym c.is_lent_rightly.ensures ∙ not-false _ c.if-not-is_lent_rightly.false-raw in
+    let right = sym c.is_lent_rightly.ensures ∙ c.if-not-is_lent_rightly.false in
     let d = device c.interface_of-start.result c.args.array.now c.args.register.now c.args.history.now in
     let long = (right-long _ _ _ right).state_long in
     let o = c.open-ended in let v = request_handed l right c.state_of-before.result c.write_of-write.result c.interface_of-start.result c.state_of-before.ensures c.write_of-write.ensures c.interface_of-start.ensures (λ (c : Device) (y : OpenState). opening_write set c c.args.allowed y c.args.block c.args.page c.args.bytes.now) _ _ _

@@ -1,5 +1,4 @@
 -- `open_write::OpenWrite::cursor` meets its contract. Assumes nothing.
-use borrow.Author.Rules.{rules}
 use Rattle.open_write.proofs.OpenWrite.cursor.Goals as goal
 
 pub returns : goal.returns

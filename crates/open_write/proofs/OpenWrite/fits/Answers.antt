@@ -1,6 +1,5 @@
 -- `open_write::OpenWrite::fits` meets its contract. Assumes nothing.
 use borrow.Author.Tests.{eq-eqb, ne_eqb}
-use borrow.Author.Rules.{rules}
 use Rattle.open_write.specs.Open.{open_fits}
 use Rattle.open_write.proofs.OpenWrite.fits.Goals as goal
 

@@ -1,7 +1,6 @@
 -- `scan_found::Found::note` meets its contract. Assumes nothing.
 use mathlib.Core.Path.{ap, ◌∙◌}
 use Rattle.scan_found.specs.Found.{noted, table_noted, greatest_noted}
-use borrow.Author.Rules.{rules}
 use Rattle.scan_found.proofs.Found.note.Goals as goal
 
 pub returns : goal.returns

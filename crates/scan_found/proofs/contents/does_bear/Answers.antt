@@ -2,7 +2,6 @@
 use mathlib.Core.Path.{sym, ◌∙◌}
 use Rattle.scan_found.specs.Contents.{contents}
 use Rattle.scan_found.proofs.ContentsLaws.{bears_counted, bears_not}
-use borrow.Author.Rules.{rules}
 use Rattle.scan_found.proofs.contents.does_bear.Goals as goal
 
 pub returns-then-is_counted : goal.returns-then-is_counted

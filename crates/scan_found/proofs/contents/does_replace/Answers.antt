@@ -1,7 +1,6 @@
 -- `scan_found::contents::does_replace` meets its contract. Assumes nothing.
 use Rattle.scan_found.specs.Contents.{contents}
 use Rattle.scan_found.proofs.ContentsLaws.{replaces_older, replaces_none}
-use borrow.Author.Rules.{rules}
 use Rattle.scan_found.proofs.contents.does_replace.Goals as goal
 
 pub returns-then-old-blocks : goal.returns-then-old-blocks

@@ -5,7 +5,6 @@ use lib.Dec.{ltb}
 use Rattle.pages.specs.Layout.{is_data_kind}
 use Rattle.scan_found.specs.Contents.{contents}
 use Rattle.scan_found.proofs.ContentsLaws.{candidate_data, candidate_other, candidate_not}
-use borrow.Author.Rules.{rules}
 use Rattle.scan_found.proofs.contents.is_candidate.Goals as goal
 
 pub returns-then-is_data : goal.returns-then-is_data

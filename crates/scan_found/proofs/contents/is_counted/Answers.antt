@@ -2,7 +2,6 @@
 use mathlib.Core.Path.{sym, ◌∙◌}
 use Rattle.scan_found.specs.Contents.{contents}
 use Rattle.scan_found.proofs.ContentsLaws.{not_listed, not_complete, counted_is}
-use borrow.Author.Rules.{rules}
 use Rattle.scan_found.proofs.contents.is_counted.Goals as goal
 
 pub returns-then-is_set : goal.returns-then-is_set

@@ -1,6 +1,5 @@
 -- `scan_found::contents::is_shared` meets its contract. Assumes nothing.
-use native.Mathlib.Omega.{arith}
-use Rattle.copies.proofs.PickLaws.{Searched, search_begins, search_hit, search_miss, search_none}
+use Rattle.copies.proofs.PickLaws.{Searched}
 use Rattle.scan_found.specs.Contents.{contents, bears}
 use Rattle.scan_found.proofs.contents.is_shared.Given as goal
 

@@ -1,5 +1,4 @@
 -- `scan_found::contents::kind_for` meets its contract. Assumes nothing.
-use borrow.Author.Rules.{rules}
 use borrow.Author.Tests.{lt-ltb, le-ltb}
 use Rattle.scan_found.proofs.contents.kind_for.Goals as goal
 

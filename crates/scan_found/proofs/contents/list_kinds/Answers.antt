@@ -1,8 +1,7 @@
 -- `scan_found::contents::list_kinds` meets its contract. Assumes nothing.
-use Prim.Native.Nat.{◌-◌, ◌≤◌}
+use Prim.Native.Nat.{◌-◌}
 use mathlib.Core.Path.{◌≡◌, refl, ap, ◌∙◌}
 use native.Mathlib.Omega.{arith}
-use borrow.Author.Rules.{rules}
 use Rattle.scan_found.specs.Contents.{contents, kind_for, kinds_to}
 use Rattle.scan_found.proofs.ContentsLaws.{kinds_none, kinds_next}
 use Rattle.scan_found.proofs.contents.list_kinds.Goals as goal

@@ -5,7 +5,6 @@ use lib.Dec.{eqb}
 use mathlib.Core.Path.{sym, ap, ◌∙◌}
 use Prim.Native.Nat.{ℕ}
 use mathlib.Core.Path.{sym, ◌∙◌}
-use borrow.Author.Rules.{rules}
 use Rattle.scan_summary.proofs.Summary.agrees.Goals as goal
 
 pub returns-then-wide-kind : goal.returns-then-wide-kind

@@ -1,7 +1,6 @@
 -- `scan_summary::Summary::step` meets its contract. Assumes nothing.
 use Rattle.scan_summary.specs.Summary.{stepped}
 use mathlib.Core.Path.{sym, ◌∙◌}
-use borrow.Author.Rules.{rules}
 use Rattle.scan_summary.proofs.Summary.step.Goals as goal
 
 pub returns-then-is_whole : goal.returns-then-is_whole

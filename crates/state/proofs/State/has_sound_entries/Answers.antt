@@ -2,7 +2,6 @@
 -- Assumes nothing.
 use mathlib.Core.Path.{sym, ◌∙◌}
 use lib.ListN.{replicate}
-use borrow.Author.Rules.{rules}
 use Rattle.state.specs.State.{sound_entries}
 use Rattle.state.proofs.StateLaws.{sound_below}
 use Rattle.state.proofs.State.has_sound_entries.Goals as goal
@@ -16,12 +15,12 @@ has_sound_map-requires c = (
 
 pub returns-then-has_sound_table : goal.returns-then-has_sound_table
 unfolding sound_entries
-returns-then-has_sound_table c =    rw (sym c.is_empty_from.ensures ∙ c.if-is_empty_from.true, sym c.has_sound_table.ensures ∙ c.if-has_sound_table.true)
+returns-then-has_sound_table c = rw (sym c.is_empty_from.ensures ∙ c.if-is_empty_from.true, sym c.has_sound_table.ensures ∙ c.if-has_sound_table.true)
     c.has_sound_map.ensures
 
 pub returns-else-has_sound_table : goal.returns-else-has_sound_table
 unfolding sound_entries
-returns-else-has_sound_table c =    rw (sym c.is_empty_from.ensures ∙ c.if-is_empty_from.true, sym c.has_sound_table.ensures ∙ c.if-has_sound_table.false)
+returns-else-has_sound_table c = rw (sym c.is_empty_from.ensures ∙ c.if-is_empty_from.true, sym c.has_sound_table.ensures ∙ c.if-has_sound_table.false)
 
 pub returns-else-is_empty_from : goal.returns-else-is_empty_from
 unfolding sound_entries

@@ -1,12 +1,10 @@
 -- `state::State::has_sound_map` meets its contract: what is unsound so far and the entries left decide as all do. Assumes nothing.
-use Prim.Native.Nat.{◌≤◌, ◌-◌}
-use mathlib.Core.Bool.{cond, false}
-use mathlib.Core.Logic.{⊎_elim}
+use Prim.Native.Nat.{◌-◌}
+use mathlib.Core.Bool.{false}
 use mathlib.Core.Path.{◌≡◌, ap, ◌∙◌}
 use native.Mathlib.Nat.{sub-zero}
 use native.Mathlib.Omega.{arith}
 use borrow.Author.Rules.{rules}
-use lib.Dec.{eqb}
 use lib.ListN.{length, set, length-set}
 use Rattle.state.proofs.TakenLaws.{takes_from, takes_block, takes_past, takes_none, takes-over, takes_all}
 use Rattle.state.proofs.State.has_sound_map.Goals as goal
@@ -26,12 +24,12 @@ loop-l-preserved c =
     let past = takes_past c.args.self.map c.args.blocks c.loop-l.taken c.if-block-blocks.taken c.args.logical c.loop-l.l c.loop-l.unsound c.if-block-blocks.unsound c.wide-block.result c.loop-l-test.true c.wide-block.ensures in
     let none = takes_none c.args.self.map c.args.blocks c.loop-l.taken c.if-block-blocks.taken c.args.logical c.loop-l.l c.loop-l.unsound c.if-block-blocks.unsound c.wide-block.result c.loop-l-test.true c.wide-block.ensures in
     elim c.if-block-blocks.branch [
-      then-block-blocks w ↦
-      (omega arith, on w.if-block-blocks.true w.taken-is w.unsound-is ∙ c.loop-l.invariant.1, ap length w.taken-is ∙ length-set c.loop-l.taken c.wide-block.result 1 ∙ c.loop-l.invariant.2)
+      | then-block-blocks w ↦
+          (omega arith, on w.if-block-blocks.true w.taken-is w.unsound-is ∙ c.loop-l.invariant.1, ap length w.taken-is ∙ length-set c.loop-l.taken c.wide-block.result 1 ∙ c.loop-l.invariant.2)
       | else-block-blocks+then-block-ne65535 w ↦
-      (omega arith, past w.if-block-blocks.false w.if-block-ne65535.true w.unsound-is ∙ c.loop-l.invariant.1, ap length w.taken-is ∙ c.loop-l.invariant.2)
+          (omega arith, past w.if-block-blocks.false w.if-block-ne65535.true w.unsound-is ∙ c.loop-l.invariant.1, ap length w.taken-is ∙ c.loop-l.invariant.2)
       | else-block-blocks+else-block-ne65535 w ↦
-      (omega arith, none w.if-block-blocks.false w.if-block-ne65535.false w.taken-is w.unsound-is ∙ c.loop-l.invariant.1, ap length w.taken-is ∙ c.loop-l.invariant.2)
+          (omega arith, none w.if-block-blocks.false w.if-block-ne65535.false w.taken-is w.unsound-is ∙ c.loop-l.invariant.1, ap length w.taken-is ∙ c.loop-l.invariant.2)
     ]
 
 pub returns : goal.returns

@@ -1,10 +1,8 @@
 -- `state::State::held` meets its contract: the bits are those of the table and of the entries passed. Assumes nothing.
-use Prim.Native.Nat.{ℕ, ◌≤◌, ◌-◌}
+use Prim.Native.Nat.{ℕ, ◌-◌}
 use mathlib.Core.List.{List}
-use mathlib.Core.Logic.{⊎_elim}
-use mathlib.Core.Path.{◌≡◌, refl, ap, ◌∙◌}
+use mathlib.Core.Path.{refl, ap, ◌∙◌}
 use native.Mathlib.Omega.{arith}
-use borrow.Author.Rules.{rules}
 use lib.ListN.{length, replicate}
 use Rattle.state.specs.State.{add_block, copy_bits}
 use Rattle.state.proofs.StateLaws.{with_length, add_block_lem, add_none, copy_next}
@@ -16,20 +14,20 @@ unfolding copy_bits
 loop-l-init c =
     let start : List ℕ = replicate 512 0 in
     elim c.if-table-lt4096.branch [
-      then-table-lt4096 w ↦ (
+      | then-table-lt4096 w ↦ (
         omega arith,
         add_block_lem start c.if-table-lt4096.bits c.args.self.table w.if-table-lt4096.true (w.bits-is ∙ w.set_bit.ensures),
         with_length start c.if-table-lt4096.bits c.args.self.table 512 (w.bits-is ∙ w.set_bit.ensures) refl,
       )
       | else-table-lt4096 w ↦
-      (omega arith, add_none start c.if-table-lt4096.bits c.args.self.table w.if-table-lt4096.false w.bits-is, ap length w.bits-is)
+          (omega arith, add_none start c.if-table-lt4096.bits c.args.self.table w.if-table-lt4096.false w.bits-is, ap length w.bits-is)
     ]
 
 pub loop-l-preserved : goal.loop-l-preserved
 loop-l-preserved c =
     let start = add_block c.args.self.table (replicate 512 0) in
     elim c.if-block-lt4096.branch [
-      then-block-lt4096 w ↦ (
+      | then-block-lt4096 w ↦ (
         omega arith,
         copy_next c.args.self.map start c.loop-l.bits c.if-block-lt4096.bits c.loop-l.l c.wide-block.result c.wide-block.ensures c.loop-l.invariant.1 (add_block_lem c.loop-l.bits c.if-block-lt4096.bits c.wide-block.result w.if-block-lt4096.true (w.bits-is ∙ w.set_bit-then-block-lt4096.ensures)),
         with_length c.loop-l.bits c.if-block-lt4096.bits c.wide-block.result 512 (w.bits-is ∙ w.set_bit-then-block-lt4096.ensures) c.loop-l.invariant.2,
@@ -42,5 +40,5 @@ loop-l-preserved c =
     ]
 
 pub returns : goal.returns
-returns c =    c.loop-l.invariant.1
+returns c = c.loop-l.invariant.1
     ∙ ap (λ (n : ℕ). copy_bits c.args.self.map n (add_block c.args.self.table (replicate 512 0))) (omega arith)

@@ -13,7 +13,7 @@ returns-then-status-ne1 c = rw (ne_eqb c.args.self.status 1 c.if-status-ne1.true
 
 pub returns-then-blocks-last : goal.returns-then-blocks-last
 unfolding mounted
-returns-then-blocks-last c =    rw (eq-eqb c.args.self.status 1 c.if-status-ne1.false, le-ltb c.args.self.last c.args.blocks c.if-blocks-last.true)
+returns-then-blocks-last c = rw (eq-eqb c.args.self.status 1 c.if-status-ne1.false, le-ltb c.args.self.last c.args.blocks c.if-blocks-last.true)
 
 pub is_clear_from-requires : goal.is_clear_from-requires
 is_clear_from-requires c = let h : length c.args.self.marked ≡ 512 = search rules in record { from_le_end = omega arith; end_bound = omega (arith, h) }
@@ -43,4 +43,4 @@ returns-else-is_clear_from-2 c =
 
 pub returns-else-is_clear_from : goal.returns-else-is_clear_from
 unfolding mounted
-returns-else-is_clear_from c =    rw (eq-eqb c.args.self.status 1 c.if-status-ne1.false, lt-ltb c.args.self.last c.args.blocks c.if-blocks-last.false, sym c.is_clear_from.ensures ∙ c.if-is_clear_from.false)
+returns-else-is_clear_from c = rw (eq-eqb c.args.self.status 1 c.if-status-ne1.false, lt-ltb c.args.self.last c.args.blocks c.if-blocks-last.false, sym c.is_clear_from.ensures ∙ c.if-is_clear_from.false)

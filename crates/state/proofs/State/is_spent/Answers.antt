@@ -8,5 +8,4 @@ use Rattle.state.proofs.State.is_spent.Goals as goal
 pub returns : goal.returns
 returns c =
     let fits : c.args.self.number < number_end = search rules in
-    
     spent_last c.args.self (fits)
