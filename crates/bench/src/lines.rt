@@ -5,6 +5,7 @@ ghost use Rattle.line_input.specs.Fields.{field_at};
 
 use bench_requests::Request;
 use line_input::{Ending, Field};
+use std::io::Read;
 
 #[derive(Clone, Copy)]
 pub enum Line {
@@ -72,6 +73,7 @@ fn parse_write(line: &[u8]) -> Line
 
 // A request is its letter and its fields, each after one space, and nothing else. Block and page are decimal, the byte
 // is hexadecimal. Any other line is malformed, and ends the run.
+#[tactic(auto, unfolding(crate::specs::Lines::parsed, crate::specs::Lines::by_letter))]
 fn parse(line: &[u8]) -> Line
     ensures { result ≡ parsed line.now }
 {
@@ -106,10 +108,8 @@ fn line_of(ending: Ending, line: &[u8]) -> Line
     }
 }
 
-pub(crate) fn next_line() -> Line {
+pub(crate) fn next_line(reader: &mut impl Read) -> Line {
     let mut bytes = [0u8; 64];
-    let read = line_input::read_line(&mut bytes);
-    let ending = read.ending;
-    let length = read.length;
-    line_of(ending, &bytes[..length])
+    let read = line_input::read_line(reader, &mut bytes);
+    line_of(read.ending, &bytes[..read.length])
 }

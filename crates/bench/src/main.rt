@@ -8,41 +8,44 @@ ghost use Rattle.bench_requests.specs.Requests.{performed, figures_of};
 
 use bench_requests::{Figures, Request};
 use demo_store::Store;
-use libc::STDERR_FILENO;
 use lines::Line;
+use std::io;
+use std::io::Read;
 
 // Prints the figures of a request made on a store, and no others.
-fn show(before: Store, request: Request, figures: Figures)
+fn show(rt: &impl Print, before: Store, request: Request, figures: Figures) -> io::Result<()>
     requires { figures ≡ figures_of (performed before request) }
 {
-    bench_requests::print(figures);
+    bench_requests::print(rt, figures)?;
+    Ok(())
 }
 
 // The next request, if there is one, and a message if the run ends before the end of the input.
-fn next_request() -> Line {
-    let line = lines::next_line();
+fn next_request(rt: &impl Eprint, reader: &mut impl Read) -> io::Result<Line> {
+    let line = lines::next_line(reader);
     if let Line::Malformed = line {
-        io::write_all(STDERR_FILENO, b"bench: malformed line\n");
+        eprintln!(rt; "bench: malformed line")?;
     }
     if let Line::Unread = line {
-        io::write_all(STDERR_FILENO, b"bench: the input cannot be read\n");
+        eprintln!(rt; "bench: the input cannot be read")?;
     }
-    line
+    Ok(line)
 }
 
-// Performs requests to the end of the input. Nothing says that it ends, so turns are counted down from a number that no
-// run uses up.
-fn main() {
+// Performs requests to the end of the input. Nothing says that it ends, so turns are counted to a number that no run comes to.
+fn serve(rt: &(impl Print + Eprint), reader: &mut impl Read) -> io::Result<()> {
     let mut store = demo_store::new_store(2);
-    let mut turns = u64::MAX;
-    while turns > 0 {
-        let line = next_request();
-        let Line::Request(request) = line else {
-            return;
+    for _ in 0..u64::MAX {
+        let Line::Request(request) = next_request(rt, reader)? else {
+            return Ok(());
         };
         let ended = bench_requests::perform(store, request);
-        show(store, request, bench_requests::figures_of(ended));
+        show(rt, store, request, bench_requests::figures_of(ended))?;
         store = ended.store;
-        turns -= 1;
     }
+    Ok(())
+}
+
+fn main(rt: HostRuntime) -> io::Result<()> {
+    serve(&rt, &mut rt.reader())
 }

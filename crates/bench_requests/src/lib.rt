@@ -1,12 +1,12 @@
 // The bench's requests on the small chip, and the figures that it prints of each.
 #![tactic(auto)]
 
-ghost use Rattle.std.specs.Prelude.{◌≡◌};
+ghost use Rattle.std.specs.Prelude.{◌≡◌, IfOk};
 ghost use Rattle.bench_requests.specs.Requests.{performed, figures_of};
 ghost use Rattle.bench_requests.specs.declared.Request.TheVariants.{Read};
 
 use demo_store::{Ended, Store, UNCUT};
-use libc::STDOUT_FILENO;
+use std::io;
 
 #[derive(Clone, Copy)]
 pub enum Request {
@@ -64,14 +64,9 @@ pub fn figures_of(ended: Ended) -> Figures
 }
 
 // Prints figures as a line, and hands them back.
-pub fn print(figures: Figures) -> Figures
-    ensures { result ≡ figures }
+pub fn print(rt: &impl Print, figures: Figures) -> io::Result<Figures>
+    ensures { IfOk result (λ printed. printed ≡ figures) }
 {
-    io::print_decimal(STDOUT_FILENO, figures.answer as u64);
-    io::write_all(STDOUT_FILENO, b" ");
-    io::print_decimal(STDOUT_FILENO, figures.sent as u64);
-    io::write_all(STDOUT_FILENO, b" ");
-    io::print_decimal(STDOUT_FILENO, figures.free as u64);
-    io::write_all(STDOUT_FILENO, b"\n");
-    figures
+    println!(rt; "{} {} {}", figures.answer, figures.sent, figures.free)?;
+    Ok(figures)
 }

@@ -10,6 +10,7 @@ mod steps;
 use capture::Captured;
 use recover::Operation;
 use runs::Call;
+use std::io;
 
 // An operation of a request, and the cycles sent before it.
 #[derive(Clone, Copy)]
@@ -48,36 +49,35 @@ fn under_way(call: Call, last: Begun, sent: usize, total: usize) -> Begun {
 }
 
 // Prints the cycles of a request.
-fn show_cycles(call: Call, total: usize) {
+fn show_cycles(rt: &impl Print, call: Call, total: usize) -> io::Result<()> {
     let mut begun = Begun {
         operation: recover::unknown(),
         from: 0,
     };
     let mut before = runs::left_after(call, 0);
-    let mut sent = 0;
-    while sent < total {
+    for sent in 0..total {
         begun = under_way(call, begun, sent, total);
         let cycle = cycle_after(begun, sent);
-        sent += 1;
-        let after = runs::left_after(call, sent);
-        steps::show(sent, cycle, before, after.interface);
+        let after = runs::left_after(call, sent + 1);
+        steps::show(rt, sent + 1, cycle, before, after.interface)?;
         before = after;
     }
-    if !is_over(begun, total) {
-        print::misfit(total);
+    if is_over(begun, total) {
+        return Ok(());
     }
+    print::misfit(rt, total)
 }
 
 // Prints a request.
-fn show(name: &[u8], call: Call) {
+fn show(rt: &impl Print, name: &str, call: Call) -> io::Result<()> {
     let ended = runs::ended(call, demo_store::UNCUT);
-    print::heading(name);
-    show_cycles(call, ended.sent);
-    print::closing(ended.answer, ended.sent);
+    print::heading(rt, name)?;
+    show_cycles(rt, call, ended.sent)?;
+    print::closing(rt, ended.answer, ended.sent)
 }
 
-fn main() {
-    show(b"format", Call::Format);
-    show(b"write", Call::Write);
-    show(b"mount", Call::Mount);
+fn main(rt: HostRuntime) -> io::Result<()> {
+    show(&rt, "format", Call::Format)?;
+    show(&rt, "write", Call::Write)?;
+    show(&rt, "mount", Call::Mount)
 }

@@ -5,6 +5,7 @@ use crate::{print, runs};
 use capture::Captured;
 use chip::Shown;
 use chip_interface::Interface;
+use std::io;
 
 fn command(before: Chip, code: u8) -> Interface {
     let from = before.interface;
@@ -60,33 +61,50 @@ fn is_same(a: Interface, b: Interface) -> bool {
 }
 
 // Prints a cycle with its byte.
-fn show_step(number: usize, kind: &[u8], byte: u8, reached: Interface, after: Interface) {
-    print::cycle(number, kind, byte);
-    if !is_same(reached, after) {
-        print::misfit(number);
+fn show_step(
+    rt: &impl Print,
+    number: usize,
+    kind: &str,
+    byte: u8,
+    reached: Interface,
+    after: Interface,
+) -> io::Result<()> {
+    print::cycle(rt, number, kind, byte)?;
+    if is_same(reached, after) {
+        return Ok(());
     }
-}
-
-// A cycle that puts a byte out.
-fn show_output(number: usize, kind: &[u8], shown: Shown, after: Interface) {
-    let reached = shown.interface;
-    show_step(number, kind, shown.byte, reached, after);
+    print::misfit(rt, number)
 }
 
 // Prints a cycle, from the chip that it finds and the interface that the request leaves after it.
-pub(crate) fn show(number: usize, cycle: Captured, before: Chip, after: Interface) {
+pub(crate) fn show(
+    rt: &impl Print,
+    number: usize,
+    cycle: Captured,
+    before: Chip,
+    after: Interface,
+) -> io::Result<()> {
     match cycle {
         Captured::Command(code) => {
-            show_step(number, b"command ", code, command(before, code), after)
+            let reached = command(before, code);
+            show_step(rt, number, "command ", code, reached, after)
         }
         Captured::Address(byte) => {
-            show_step(number, b"address ", byte, address(before, byte), after)
+            let reached = address(before, byte);
+            show_step(rt, number, "address ", byte, reached, after)
         }
         Captured::DataIn(byte) => {
-            show_step(number, b"data in ", byte, data_in(before, byte), after)
+            let reached = data_in(before, byte);
+            show_step(rt, number, "data in ", byte, reached, after)
         }
-        Captured::DataOut => show_output(number, b"data out", data_out(before), after),
-        Captured::Status => show_output(number, b"status  ", status(before), after),
-        Captured::Past => print::misfit(number),
+        Captured::DataOut => {
+            let shown = data_out(before);
+            show_step(rt, number, "data out", shown.byte, shown.interface, after)
+        }
+        Captured::Status => {
+            let shown = status(before);
+            show_step(rt, number, "status  ", shown.byte, shown.interface, after)
+        }
+        Captured::Past => print::misfit(rt, number),
     }
 }

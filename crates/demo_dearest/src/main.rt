@@ -4,7 +4,7 @@
 
 use demo_store::UNCUT;
 use geometry::Geometry;
-use libc::STDOUT_FILENO;
+use std::io;
 
 // The small chip, with so many blocks.
 fn small(blocks: usize) -> Geometry {
@@ -17,40 +17,34 @@ fn small(blocks: usize) -> Geometry {
     }
 }
 
-fn print_number(x: usize) {
-    io::write_all(STDOUT_FILENO, b" ");
-    io::print_decimal(STDOUT_FILENO, x as u64);
-}
-
-fn print_word(word: u32) {
-    io::write_all(STDOUT_FILENO, b" ");
-    io::print_hex(STDOUT_FILENO, word as u64, 5);
-}
-
-fn print_words(words: &[u32]) {
-    io::write_all(STDOUT_FILENO, b"  words");
-    let mut i = 0;
-    while i < words.len() {
-        print_word(words[i]);
-        i += 1;
+fn print_words(rt: &impl Print, words: &[u32]) -> io::Result<()> {
+    print!(rt; "  words")?;
+    for word in words {
+        print!(rt; " {word:05x}")?;
     }
-    io::write_all(STDOUT_FILENO, b"\n");
+    println!(rt)
 }
 
 // Asks for the words and prints what the call tells.
-fn ask(label: &[u8], blocks: usize, failed: usize, words: &mut [u32]) {
+fn ask(
+    rt: &impl Print,
+    label: &str,
+    blocks: usize,
+    failed: usize,
+    words: &mut [u32],
+) -> io::Result<()> {
     let told = dearest::dearest_write(small(blocks), failed, words);
-    io::write_all(STDOUT_FILENO, label);
-    print_number(failed);
-    print_number(told.answer);
-    print_number(words.len());
-    print_number(told.cycles);
-    io::write_all(STDOUT_FILENO, b"\n");
-    print_words(words);
+    println!(rt;
+        "{label} {failed} {} {} {}",
+        told.answer,
+        words.len(),
+        told.cycles
+    )?;
+    print_words(rt, words)
 }
 
 // Formats the chip, writes a page of logical block 0, then another one, or the same, with these words.
-fn write_over(words: &[u32], page: usize) {
+fn write_over(rt: &impl Print, words: &[u32], page: usize) -> io::Result<()> {
     let mask = [0u8; 192];
     let none = [0u32; 0];
     let formatted = demo_store::format(demo_store::new_store(2), &mask, &none, UNCUT);
@@ -58,37 +52,36 @@ fn write_over(words: &[u32], page: usize) {
     let first = demo_store::write(empty, &mask, &none, UNCUT, 0, 0, 0xa5);
     let store = first.store;
     let dearest = demo_store::write(store, &mask, words, UNCUT, 0, page, 0x5a);
-    io::write_all(STDOUT_FILENO, b"  page");
-    print_number(page);
-    io::write_all(STDOUT_FILENO, b" ");
-    bench_requests::print(bench_requests::figures_of(dearest));
+    print!(rt; "  page {page} ")?;
+    bench_requests::print(rt, bench_requests::figures_of(dearest))?;
+    Ok(())
 }
 
-fn write_pages(words: &[u32]) {
-    write_over(words, 0);
-    write_over(words, 1);
-    write_over(words, 2);
-    write_over(words, 3);
+fn write_pages(rt: &impl Print, words: &[u32]) -> io::Result<()> {
+    write_over(rt, words, 0)?;
+    write_over(rt, words, 1)?;
+    write_over(rt, words, 2)?;
+    write_over(rt, words, 3)
 }
 
-fn show_none() {
+fn show_none(rt: &impl Print) -> io::Result<()> {
     let mut words = [0u32; 8];
-    ask(b"failed", 4, 0, &mut words);
-    write_pages(&words);
+    ask(rt, "failed", 4, 0, &mut words)?;
+    write_pages(rt, &words)
 }
 
-fn show_one() {
+fn show_one(rt: &impl Print) -> io::Result<()> {
     let mut words = [0u32; 21];
-    ask(b"failed", 4, 1, &mut words);
-    write_pages(&words);
+    ask(rt, "failed", 4, 1, &mut words)?;
+    write_pages(rt, &words)
 }
 
-fn main() {
-    show_none();
-    show_one();
-    ask(b"five-blocks", 5, 2, &mut [0u32; 29]);
-    ask(b"six-blocks", 6, 3, &mut [0u32; 37]);
-    ask(b"three-blocks", 3, 2, &mut [7u32; 1]);
-    ask(b"too-many", 4, 2, &mut [7u32; 1]);
-    ask(b"other-length", 4, 1, &mut [7u32; 20]);
+fn main(rt: HostRuntime) -> io::Result<()> {
+    show_none(&rt)?;
+    show_one(&rt)?;
+    ask(&rt, "five-blocks", 5, 2, &mut [0u32; 29])?;
+    ask(&rt, "six-blocks", 6, 3, &mut [0u32; 37])?;
+    ask(&rt, "three-blocks", 3, 2, &mut [7u32; 1])?;
+    ask(&rt, "too-many", 4, 2, &mut [7u32; 1])?;
+    ask(&rt, "other-length", 4, 1, &mut [7u32; 20])
 }

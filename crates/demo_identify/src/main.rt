@@ -6,39 +6,34 @@ mod page;
 
 use chip_interface::Interface;
 use identify::Identified;
-use libc::STDOUT_FILENO;
 use state::State;
+use std::io;
 
 // The allowance that cuts nothing.
 const UNCUT: u32 = 4294967295;
 
-fn print_number(x: usize) {
-    io::write_all(STDOUT_FILENO, b" ");
-    io::print_decimal(STDOUT_FILENO, x as u64);
+fn show_crc(rt: &impl Print, label: &str, bytes: &[u8]) -> io::Result<()> {
+    println!(rt; "{label} {:04x}", parameters::crc(bytes))
 }
 
-fn show_crc(label: &[u8], bytes: &[u8]) {
-    io::write_all(STDOUT_FILENO, label);
-    io::write_all(STDOUT_FILENO, b" ");
-    io::print_hex(STDOUT_FILENO, parameters::crc(bytes) as u64, 4);
-    io::write_all(STDOUT_FILENO, b"\n");
-}
-
-fn show(label: &[u8], done: Identified) {
+fn show(rt: &impl Print, label: &str, done: Identified) -> io::Result<()> {
     let returned = done.returned;
     let sizes = done.sizes;
-    io::write_all(STDOUT_FILENO, label);
-    print_number(returned.answer);
-    print_number(returned.sent);
-    print_number(sizes.main);
-    print_number(sizes.spare);
-    print_number(sizes.pages);
-    print_number(sizes.blocks);
-    io::write_all(STDOUT_FILENO, b"\n");
+    println!(rt;
+        "{label} {} {} {} {} {} {}",
+        returned.answer, returned.sent, sizes.main, sizes.spare, sizes.pages, sizes.blocks
+    )
 }
 
 // Asks a new chip, whose write-protect line is low at 1 and high at 0.
-fn ask_on(line: usize, label: &[u8], parameters: &[u8], fates: &[u32], allowed: u32) {
+fn ask_on(
+    rt: &impl Print,
+    line: usize,
+    label: &str,
+    parameters: &[u8],
+    fates: &[u32],
+    allowed: u32,
+) -> io::Result<()> {
     let mask = [0u8; 192];
     let mut interface = Interface::power_on();
     interface.protected = line;
@@ -57,60 +52,71 @@ fn ask_on(line: usize, label: &[u8], parameters: &[u8], fates: &[u32], allowed: 
         parameters,
         2,
     );
-    show(label, done);
+    show(rt, label, done)
+}
+
+// A page whose first copy is the small chip's, and the others of a chip with more blocks.
+fn good() -> [u8; 768] {
+    let other = page::copy_of(32, 8);
+    page::three(page::copy_of(32, 4), other, other)
 }
 
 // Asks with a whole page.
-fn ask(label: &[u8], page: [u8; 768], fates: &[u32], allowed: u32) {
-    ask_on(0, label, &page, fates, allowed);
+fn ask(
+    rt: &impl Print,
+    label: &str,
+    page: [u8; 768],
+    fates: &[u32],
+    allowed: u32,
+) -> io::Result<()> {
+    ask_on(rt, 0, label, &page, fates, allowed)
 }
 
 // Asks with a whole page while the line is low.
-fn ask_protected(label: &[u8], page: [u8; 768], fates: &[u32]) {
-    ask_on(1, label, &page, fates, UNCUT);
+fn ask_protected(rt: &impl Print, label: &str, page: [u8; 768], fates: &[u32]) -> io::Result<()> {
+    ask_on(rt, 1, label, &page, fates, UNCUT)
 }
 
-fn main() {
+fn show_crcs(rt: &impl Print) -> io::Result<()> {
+    show_crc(rt, "crc-of-none", &[0u8; 0])?;
+    show_crc(rt, "crc-of-zeros", &[0u8; 254])?;
+    show_crc(rt, "crc-of-ones", &[0xffu8; 254])
+}
+
+// Three copies, good and bad.
+fn show_pages(rt: &impl Print) -> io::Result<()> {
     let none = [0u32; 0];
-    show_crc(b"crc-of-none", &[0u8; 0]);
-    show_crc(b"crc-of-zeros", &[0u8; 254]);
-    show_crc(b"crc-of-ones", &[0xffu8; 254]);
     let small = page::copy_of(32, 4);
     let other = page::copy_of(32, 8);
-    let good = page::three(small, other, other);
-    ask(b"good", good, &none, UNCUT);
     let bad = page::bit_wrong(small);
-    ask(
-        b"first-one-bit-wrong",
-        page::three(bad, other, small),
-        &none,
-        UNCUT,
-    );
     let unsigned = page::starting_otherwise();
-    ask(
-        b"first-starts-otherwise",
-        page::three(unsigned, other, small),
-        &none,
-        UNCUT,
-    );
-    ask(
-        b"third-alone-good",
-        page::three(bad, bad, small),
-        &none,
-        UNCUT,
-    );
-    ask(b"three-bad", page::three(bad, bad, bad), &none, UNCUT);
     let narrow = page::copy_of(31, 4);
-    ask(
-        b"outside-limits",
-        page::three(narrow, small, small),
-        &none,
-        UNCUT,
-    );
-    ask_on(0, b"767-bytes", &[0x4f; 767], &none, UNCUT);
-    ask(b"busy-255", good, &[255u32], UNCUT);
-    ask(b"busy-256", good, &[256u32], UNCUT);
-    ask(b"allowed-775", good, &none, 775);
-    ask(b"allowed-776", good, &none, 776);
-    ask_protected(b"write-protected", good, &none);
+    let first_bad = page::three(bad, other, small);
+    let first_unsigned = page::three(unsigned, other, small);
+    let third_good = page::three(bad, bad, small);
+    let all_bad = page::three(bad, bad, bad);
+    let too_narrow = page::three(narrow, small, small);
+    ask(rt, "good", good(), &none, UNCUT)?;
+    ask(rt, "first-one-bit-wrong", first_bad, &none, UNCUT)?;
+    ask(rt, "first-starts-otherwise", first_unsigned, &none, UNCUT)?;
+    ask(rt, "third-alone-good", third_good, &none, UNCUT)?;
+    ask(rt, "three-bad", all_bad, &none, UNCUT)?;
+    ask(rt, "outside-limits", too_narrow, &none, UNCUT)?;
+    ask_on(rt, 0, "767-bytes", &[0x4f; 767], &none, UNCUT)
+}
+
+// A good page, asked for as the chip is busy, as power is cut, and with the line low.
+fn show_calls(rt: &impl Print) -> io::Result<()> {
+    let none = [0u32; 0];
+    ask(rt, "busy-255", good(), &[255u32], UNCUT)?;
+    ask(rt, "busy-256", good(), &[256u32], UNCUT)?;
+    ask(rt, "allowed-775", good(), &none, 775)?;
+    ask(rt, "allowed-776", good(), &none, 776)?;
+    ask_protected(rt, "write-protected", good(), &none)
+}
+
+fn main(rt: HostRuntime) -> io::Result<()> {
+    show_crcs(&rt)?;
+    show_pages(&rt)?;
+    show_calls(&rt)
 }

@@ -56,12 +56,10 @@ pub(crate) fn bit_wrong(copy: [u8; 256]) -> [u8; 256] {
 // The three copies one after the other.
 pub(crate) fn three(first: [u8; 256], second: [u8; 256], third: [u8; 256]) -> [u8; 768] {
     let mut page = [0u8; 768];
-    let mut i: usize = 0;
-    while i < 256 {
+    for i in 0..256 {
         page[i] = first[i];
         page[256 + i] = second[i];
         page[512 + i] = third[i];
-        i += 1;
     }
     page
 }

@@ -5,6 +5,7 @@ ghost use Rattle.line_input.specs.Fields.{field_at};
 
 use journal::Sale;
 use line_input::{Ending, Field};
+use std::io::Read;
 
 // What a line asks for.
 #[derive(Clone, Copy)]
@@ -33,6 +34,7 @@ const GREATEST_PRICE: usize = 4294967295;
 const GREATEST_NUMBER: usize = 65535;
 
 // The sale, where its numbers fit a record.
+#[tactic(auto, unfolding(crate::specs::Lines::fitting))]
 fn fit(selection: usize, count: usize, price: usize, replaces: usize) -> Entry
     ensures { result ≡ fitting selection count price replaces }
 {
@@ -75,6 +77,7 @@ fn parse_price(line: &[u8], selection: usize, count: usize, at: usize) -> Entry
 }
 
 // Four decimal numbers with one space between each two, and nothing else.
+#[tactic(auto, unfolding(crate::specs::Lines::parsed))]
 fn parse(line: &[u8]) -> Entry
     ensures { result ≡ parsed line.now }
 {
@@ -101,10 +104,8 @@ fn line_of(ending: Ending, line: &[u8]) -> Line
     }
 }
 
-pub(crate) fn next_line() -> Line {
+pub(crate) fn next_line(reader: &mut impl Read) -> Line {
     let mut bytes = [0u8; 64];
-    let read = line_input::read_line(&mut bytes);
-    let ending = read.ending;
-    let length = read.length;
-    line_of(ending, &bytes[..length])
+    let read = line_input::read_line(reader, &mut bytes);
+    line_of(read.ending, &bytes[..read.length])
 }

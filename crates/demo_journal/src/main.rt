@@ -9,49 +9,47 @@ ghost use Rattle.demo_journal.specs.Sales.{served, Reached};
 
 use bench_requests::Request;
 use demo_store::Store;
-use libc::{STDERR_FILENO, STDOUT_FILENO};
 use lines::{Entry, Line};
 use sales::Figures;
+use std::io;
+use std::io::Read;
 
 // Prints answer, number and takings of a line that is served on a store the program can come to, and no others.
-fn show(before: Store, entry: Entry, figures: Figures)
+fn show(rt: &impl Print, before: Store, entry: Entry, figures: Figures) -> io::Result<()>
     requires reached { Reached before }
     requires figures_value { figures ≡ (served before entry).figures }
 {
-    io::print_decimal(STDOUT_FILENO, figures.answer as u64);
-    io::write_all(STDOUT_FILENO, b" ");
-    io::print_decimal(STDOUT_FILENO, figures.number as u64);
-    io::write_all(STDOUT_FILENO, b" ");
-    io::print_decimal(STDOUT_FILENO, figures.takings);
-    io::write_all(STDOUT_FILENO, b"\n");
+    println!(rt; "{} {} {}", figures.answer, figures.number, figures.takings)
 }
 
 // The next line, and a message if the run ends before the end of the input.
-fn next_line() -> Line {
-    let line = lines::next_line();
+fn next_line(rt: &impl Eprint, reader: &mut impl Read) -> io::Result<Line> {
+    let line = lines::next_line(reader);
     if let Line::Long = line {
-        io::write_all(STDERR_FILENO, b"demo_journal: a line is too long\n");
+        eprintln!(rt; "demo_journal: a line is too long")?;
     }
     if let Line::Unread = line {
-        io::write_all(STDERR_FILENO, b"demo_journal: the input cannot be read\n");
+        eprintln!(rt; "demo_journal: the input cannot be read")?;
     }
-    line
+    Ok(line)
 }
 
-// Formats the chip and serves lines to the end of the input. Nothing says that it ends, so turns are counted down from a
-// number that no run uses up.
-fn main() {
+// Formats the chip and serves lines to the end of the input. Nothing says that it ends, so turns are counted to a number that
+// no run comes to.
+fn serve_all(rt: &(impl Print + Eprint), reader: &mut impl Read) -> io::Result<()> {
     let formatted = bench_requests::perform(demo_store::new_store(2), Request::Format);
     let mut store = formatted.store;
-    let mut turns = u64::MAX;
-    while turns > 0 {
-        let line = next_line();
-        let Line::Entry(entry) = line else {
-            return;
+    for _ in 0..u64::MAX {
+        let Line::Entry(entry) = next_line(rt, reader)? else {
+            return Ok(());
         };
         let done = sales::serve(store, entry);
-        show(store, entry, done.figures);
+        show(rt, store, entry, done.figures)?;
         store = done.store;
-        turns -= 1;
     }
+    Ok(())
+}
+
+fn main(rt: HostRuntime) -> io::Result<()> {
+    serve_all(&rt, &mut rt.reader())
 }

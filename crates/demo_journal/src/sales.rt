@@ -114,6 +114,7 @@ fn enter(store: Store, sale: Sale) -> Served
 }
 
 // Serves a line; one that is malformed gets 2, and no request is made.
+#[tactic(auto, unfolding(crate::specs::Sales::served))]
 pub(crate) fn serve(store: Store, entry: Entry) -> Served
     ensures { result ≡ served store entry }
 {

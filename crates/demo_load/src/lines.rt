@@ -4,6 +4,7 @@ ghost use Rattle.demo_load.specs.Lines.{fitting, counted, parsed, line_of};
 ghost use Rattle.line_input.specs.Fields.{field_at};
 
 use line_input::{Ending, Field};
+use std::io::Read;
 
 #[derive(Clone, Copy)]
 pub enum Line {
@@ -44,6 +45,7 @@ fn parse_count(line: &[u8], seed: usize, at: usize) -> Line
 }
 
 // A decimal seed, one space and a decimal count, and nothing else.
+#[tactic(auto, unfolding(crate::specs::Lines::parsed))]
 fn parse(line: &[u8]) -> Line
     ensures { result ≡ parsed line.now }
 {
@@ -66,10 +68,8 @@ fn line_of(ending: Ending, line: &[u8]) -> Line
     }
 }
 
-pub(crate) fn next_line() -> Line {
+pub(crate) fn next_line(reader: &mut impl Read) -> Line {
     let mut bytes = [0u8; 64];
-    let read = line_input::read_line(&mut bytes);
-    let ending = read.ending;
-    let length = read.length;
-    line_of(ending, &bytes[..length])
+    let read = line_input::read_line(reader, &mut bytes);
+    line_of(read.ending, &bytes[..read.length])
 }

@@ -3,19 +3,21 @@
 
 mod lines;
 
-ghost use Rattle.std.specs.Prelude.{◌≡◌};
+ghost use Rattle.std.specs.Prelude.{◌≡◌, IfOk};
 ghost use Rattle.demo_load.specs.Load.{asked, begun, request_count, load, load_end, HasLine};
 
 use bench_requests::Figures;
 use demo_store::Ended;
-use libc::STDERR_FILENO;
 use lines::Line;
+use std::io;
+use std::io::Read;
 
 // Prints figures that stand at this place of the load, and no others.
-fn show(seed: u32, count: u32, place: u32, figures: Figures)
+fn show(rt: &impl Print, seed: u32, count: u32, place: u32, figures: Figures) -> io::Result<()>
     requires { HasLine (load seed count) place figures }
 {
-    bench_requests::print(figures);
+    bench_requests::print(rt, figures)?;
+    Ok(())
 }
 
 // A request of the load as the bench makes it.
@@ -32,6 +34,7 @@ fn ask(request: test_load::Request) -> bench_requests::Request
 }
 
 // A new chip, formatted; seed 0 is refused.
+#[tactic(auto, unfolding(crate::specs::Load::begun))]
 fn begin(seed: u32) -> Ended
     ensures { result ≡ begun seed }
 {
@@ -57,37 +60,38 @@ fn request_count(seed: u32, count: u32) -> u32
 }
 
 // Makes and shows the whole load.
-fn serve(seed: u32, count: u32) -> Ended
-    ensures { result ≡ load_end seed count }
+fn serve(rt: &impl Print, seed: u32, count: u32) -> io::Result<Ended>
+    ensures { IfOk result (λ ended. ended ≡ load_end seed count) }
 {
     let requests = request_count(seed, count);
     let mut ended = begin(seed);
     let mut last = seed;
-    let mut made = 0;
-    show(seed, count, 0, bench_requests::figures_of(ended));
-    while made < requests {
+    show(rt, seed, count, 0, bench_requests::figures_of(ended))?;
+    for made in 0..requests {
         let chosen = test_load::choose(last, 2, 4);
-        let request = chosen.request;
-        let store = ended.store;
-        let next = bench_requests::perform(store, ask(request));
-        made += 1;
-        show(seed, count, made, bench_requests::figures_of(next));
+        let next = bench_requests::perform(ended.store, ask(chosen.request));
+        show(rt, seed, count, made + 1, bench_requests::figures_of(next))?;
         ended = next;
         last = chosen.last;
     }
-    ended
+    Ok(ended)
 }
 
-fn main() {
-    let line = lines::next_line();
+// The load that the input asks for, and a message if it asks for none.
+fn next_load(rt: &impl Eprint, reader: &mut impl Read) -> io::Result<Line> {
+    let line = lines::next_line(reader);
     if let Line::Malformed = line {
-        io::write_all(STDERR_FILENO, b"demo_load: malformed line\n");
+        eprintln!(rt; "demo_load: malformed line")?;
     }
     if let Line::Unread = line {
-        io::write_all(STDERR_FILENO, b"demo_load: the input cannot be read\n");
+        eprintln!(rt; "demo_load: the input cannot be read")?;
     }
-    let Line::Load(seed, count) = line else {
-        return;
-    };
-    serve(seed, count);
+    Ok(line)
+}
+
+fn main(rt: HostRuntime) -> io::Result<()> {
+    if let Line::Load(seed, count) = next_load(&rt, &mut rt.reader())? {
+        serve(&rt, seed, count)?;
+    }
+    Ok(())
 }

@@ -3,9 +3,9 @@
 #![tactic(auto)]
 
 use demo_store::{Store, UNCUT};
-use libc::STDOUT_FILENO;
 use open_write::OpenWrite;
 use request::Returned;
+use std::io;
 
 // What page 0 of logical block 0 holds before the write, and what the write puts there.
 const OLD: u8 = 0xa5;
@@ -163,27 +163,23 @@ fn shown(store: Store) -> usize {
 fn prepare(times: usize) -> Store {
     let formatted = demo_store::format(demo_store::new_store(2), &[0u8; 192], &[0u32; 0], UNCUT);
     let mut store = formatted.store;
-    let mut left = times;
-    while 0 < left {
-        left -= 1;
+    for _ in 0..times {
         let ended = demo_store::write(store, &[0u8; 192], &[0u32; 0], UNCUT, 0, 0, OLD);
         store = ended.store;
     }
     store
 }
 
-fn print_number(x: usize, word: &[u8]) {
-    io::print_decimal(STDOUT_FILENO, x as u64);
-    io::write_all(STDOUT_FILENO, word);
-}
-
 // Answer, cycles, whether it is finished, and what the display reads then.
-fn print_step(step: Stepped) {
-    print_number(step.answer, b" ");
-    print_number(step.sent, b" ");
-    print_number(step.finished, b", page 0 shows ");
+fn print_step(rt: &impl Print, step: Stepped) -> io::Result<()> {
     let next = step.next;
-    print_number(shown(next.store), b"\n");
+    println!(rt;
+        "{} {} {}, page 0 shows {}",
+        step.answer,
+        step.sent,
+        step.finished,
+        shown(next.store)
+    )
 }
 
 // One advance; the fates are those of advance number `place`.
@@ -195,22 +191,20 @@ fn advance_with(from: Portioned, k: usize, place: usize, fates: &[u32]) -> Stepp
 }
 
 // A write in portions, an operation of advance number `place` failing.
-fn show(label: &[u8], store: Store, place: usize, fates: &[u32]) {
-    io::write_all(STDOUT_FILENO, label);
-    io::write_all(STDOUT_FILENO, b"\n");
+fn show(rt: &impl Print, label: &str, store: Store, place: usize, fates: &[u32]) -> io::Result<()> {
+    println!(rt; "{label}")?;
     let first = opened(store);
-    print_step(first);
+    print_step(rt, first)?;
     let mut at = first.next;
-    let mut k: usize = 0;
-    while k < 16 {
+    for k in 0..16 {
         let step = advance_with(at, k, place, fates);
-        print_step(step);
+        print_step(rt, step)?;
         if step.finished != 0 {
-            return;
+            return Ok(());
         }
         at = step.next;
-        k += 1;
     }
+    Ok(())
 }
 
 // What a mount finds after a cut: 1 the old page, 2 the new one, 4 anything else.
@@ -229,30 +223,21 @@ fn found(left: Store) -> usize {
 // All that mounts find where an advance is cut at each of its cycles.
 fn cut_everywhere(from: Portioned, mask: &[u8], cycles: u32) -> usize {
     let mut seen: usize = 0;
-    let mut allowed: u32 = 0;
-    while allowed < cycles {
+    for allowed in 0..cycles {
         let cut = advanced(from, mask, &[0u32; 0], allowed);
         let next = cut.next;
         seen = seen | found(next.store);
-        allowed += 1;
     }
     seen
 }
 
-fn print_seen(seen: usize) {
-    if seen == 1 {
-        io::write_all(STDOUT_FILENO, b" old\n");
-        return;
+fn words_of(seen: usize) -> &'static str {
+    match seen {
+        1 => "old",
+        2 => "new",
+        3 => "old or new",
+        _ => "something else",
     }
-    if seen == 2 {
-        io::write_all(STDOUT_FILENO, b" new\n");
-        return;
-    }
-    if seen == 3 {
-        io::write_all(STDOUT_FILENO, b" old or new\n");
-        return;
-    }
-    io::write_all(STDOUT_FILENO, b" something else\n");
 }
 
 // The cycles of an advance over a copy.
@@ -264,30 +249,26 @@ fn cycles_of(k: usize) -> u32 {
 }
 
 // Each advance of a write over a copy, cut at every cycle.
-fn sweep(name: &[u8], mask: &[u8]) {
+fn sweep(rt: &impl Print, name: &str, mask: &[u8]) -> io::Result<()> {
     let first = opened(prepare(1));
     let mut at = first.next;
-    let mut k: usize = 0;
-    while k < 4 {
-        io::write_all(STDOUT_FILENO, b"mask ");
-        io::write_all(STDOUT_FILENO, name);
-        io::write_all(STDOUT_FILENO, b", advance ");
-        print_number(k, b" cut at any cycle:");
-        print_seen(cut_everywhere(at, mask, cycles_of(k)));
+    for k in 0..4 {
+        let words = words_of(cut_everywhere(at, mask, cycles_of(k)));
+        println!(rt; "mask {name}, advance {k} cut at any cycle: {words}")?;
         let whole = advanced(at, mask, &[0u32; 0], UNCUT);
         at = whole.next;
-        k += 1;
     }
+    Ok(())
 }
 
-fn main() {
-    show(b"without a copy", prepare(0), 99, &[0u32; 0]);
-    show(b"over a copy", prepare(1), 99, &[0u32; 0]);
-    show(b"the first erase fails", prepare(1), 0, &[FAILS]);
-    show(b"the third page fails", prepare(1), 2, &[0, FAILS]);
-    sweep(b"00", &[0u8; 192]);
-    sweep(b"ff", &[0xffu8; 192]);
-    sweep(b"fe", &[0xfeu8; 192]);
-    sweep(b"55", &[0x55u8; 192]);
-    sweep(b"aa", &[0xaau8; 192]);
+fn main(rt: HostRuntime) -> io::Result<()> {
+    show(&rt, "without a copy", prepare(0), 99, &[0u32; 0])?;
+    show(&rt, "over a copy", prepare(1), 99, &[0u32; 0])?;
+    show(&rt, "the first erase fails", prepare(1), 0, &[FAILS])?;
+    show(&rt, "the third page fails", prepare(1), 2, &[0, FAILS])?;
+    sweep(&rt, "00", &[0u8; 192])?;
+    sweep(&rt, "ff", &[0xffu8; 192])?;
+    sweep(&rt, "fe", &[0xfeu8; 192])?;
+    sweep(&rt, "55", &[0x55u8; 192])?;
+    sweep(&rt, "aa", &[0xaau8; 192])
 }

@@ -1,6 +1,7 @@
 // Requests with the write-protect line low: those that write change nothing, and the others go on.
 use crate::{show, show_read, writes};
 use demo_store::{Ended, Store, UNCUT};
+use std::io;
 
 // The line low at 1, high at 0.
 fn with_line(mut store: Store, protected: usize) -> Store {
@@ -14,42 +15,42 @@ fn write(store: Store, allowed: u32) -> Ended {
 }
 
 // A write, an erase and a formatting, each of which hands the state back.
-fn show_refused(store: Store) -> Store {
+fn show_refused(rt: &impl Print, store: Store) -> io::Result<Store> {
     let mask = [0xffu8; 192];
     let none = [0u32; 0];
     let written = write(store, UNCUT);
-    show(b"protected-write", written);
+    show(rt, "protected-write", written)?;
     let erased = demo_store::erase(written.store, &mask, &none, UNCUT, 0);
-    show(b"protected-erase", erased);
+    show(rt, "protected-erase", erased)?;
     let formatted = demo_store::format(erased.store, &mask, &none, UNCUT);
-    show(b"protected-format", formatted);
-    formatted.store
+    show(rt, "protected-format", formatted)?;
+    Ok(formatted.store)
 }
 
 // A read with that state, a mount and another read.
-fn show_passed(store: Store) -> Store {
+fn show_passed(rt: &impl Print, store: Store) -> io::Result<Store> {
     let mask = [0xffu8; 192];
     let none = [0u32; 0];
-    show_read(b"protected-read", store, 0, 0);
+    show_read(rt, "protected-read", store, 0, 0)?;
     let mounted = demo_store::mount(store, &mask, &none, UNCUT);
-    show(b"protected-mount", mounted);
-    show_read(b"protected-read", mounted.store, 0, 0);
-    mounted.store
+    show(rt, "protected-mount", mounted)?;
+    show_read(rt, "protected-read", mounted.store, 0, 0)?;
+    Ok(mounted.store)
 }
 
 // Where power is cut in the status read, and where no number is left.
-fn show_order(store: Store) {
-    show(b"protected-allowed-1", write(store, 1));
-    show(b"protected-allowed-2", write(store, 2));
+fn show_order(rt: &impl Print, store: Store) -> io::Result<()> {
+    show(rt, "protected-allowed-1", write(store, 1))?;
+    show(rt, "protected-allowed-2", write(store, 2))?;
     let mut spent = store;
     spent.state.number = 18446744073709551615;
-    show(b"protected-number-spent", write(spent, UNCUT));
+    show(rt, "protected-number-spent", write(spent, UNCUT))
 }
 
 // A chip with one page written, its line low and then released.
-pub(crate) fn show_all() {
+pub(crate) fn show_all(rt: &impl Print) -> io::Result<()> {
     let store = with_line(writes::written(writes::formatted(), 0), 1);
-    let mounted = show_passed(show_refused(store));
-    show_order(mounted);
-    show(b"released-write", write(with_line(mounted, 0), UNCUT));
+    let mounted = show_passed(rt, show_refused(rt, store)?)?;
+    show_order(rt, mounted)?;
+    show(rt, "released-write", write(with_line(mounted, 0), UNCUT))
 }

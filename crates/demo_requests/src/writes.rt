@@ -1,6 +1,7 @@
 // Writes of page 0 of a logical block, on chips as earlier requests left them.
 use crate::show;
 use demo_store::{Ended, Store, UNCUT};
+use std::io;
 
 // A new chip, formatted.
 pub(crate) fn formatted() -> Store {
@@ -24,34 +25,43 @@ pub(crate) fn written(store: Store, block: usize) -> Store {
 }
 
 // The first write on a new chip.
-pub(crate) fn show_write(label: &[u8], fates: &[u32], allowed: u32) {
-    show(label, write(formatted(), fates, allowed, 0));
+pub(crate) fn show_write(
+    rt: &impl Print,
+    label: &str,
+    fates: &[u32],
+    allowed: u32,
+) -> io::Result<()> {
+    show(rt, label, write(formatted(), fates, allowed, 0))
 }
 
 // A write from a state whose next number is the last, and one more.
-pub(crate) fn show_last_number() {
+pub(crate) fn show_last_number(rt: &impl Print) -> io::Result<()> {
     let none = [0u32; 0];
     let mut store = formatted();
     store.state.number = 18446744073709551614;
     let last = write(store, &none, UNCUT, 0);
-    show(b"last-number", last);
-    show(b"number-spent", write(last.store, &none, UNCUT, 0));
+    show(rt, "last-number", last)?;
+    show(rt, "number-spent", write(last.store, &none, UNCUT, 0))
 }
 
 // A write whose first erase fails: the table fill takes the block of the old copy.
-pub(crate) fn show_failed_erase() {
+pub(crate) fn show_failed_erase(rt: &impl Print) -> io::Result<()> {
     let store = written(formatted(), 0);
-    show(b"failed-erase", write(store, &[65536u32], UNCUT, 0));
+    show(rt, "failed-erase", write(store, &[65536u32], UNCUT, 0))
 }
 
 // A write after one that was cut past its first page and a mount: the only free block is the one filled last.
-pub(crate) fn show_cut_write() {
+pub(crate) fn show_cut_write(rt: &impl Print) -> io::Result<()> {
     let none = [0u32; 0];
     let mask = [0u8; 192];
     let store = written(written(formatted(), 0), 1);
     let cut = write(store, &none, 70, 0);
-    show(b"cut-write", cut);
+    show(rt, "cut-write", cut)?;
     let mounted = demo_store::mount(cut.store, &mask, &none, UNCUT);
-    show(b"mount", mounted);
-    show(b"block-filled-last", write(mounted.store, &none, UNCUT, 0));
+    show(rt, "mount", mounted)?;
+    show(
+        rt,
+        "block-filled-last",
+        write(mounted.store, &none, UNCUT, 0),
+    )
 }

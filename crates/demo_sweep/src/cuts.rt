@@ -2,8 +2,8 @@
 ghost use Rattle.std.specs.Prelude.{◌≤◌};
 
 use demo_store::{Store, UNCUT};
-use libc::STDOUT_FILENO;
 use state::State;
+use std::io;
 
 // What the old copy has in page 0.
 const OLD: u8 = 0xa5;
@@ -35,12 +35,10 @@ fn only_byte(buffer: &[u8]) -> usize {
     if buffer.len() == 0 {
         return 256;
     }
-    let mut i = 0;
-    while i < buffer.len() {
-        if buffer[i] != buffer[0] {
+    for byte in buffer {
+        if *byte != buffer[0] {
             return 256;
         }
-        i += 1;
     }
     wide(buffer[0])
 }
@@ -79,12 +77,10 @@ fn new_byte(k: usize) -> usize {
 fn read_all(store: Store) -> usize {
     let mut not_old = 0;
     let mut not_new = 0;
-    let mut k = 0;
-    while k < 8 {
+    for k in 0..8 {
         let byte = page_byte(store, k >> 2, k & 3);
         not_old = not_old | (byte ^ old_byte(k));
         not_new = not_new | (byte ^ new_byte(k));
-        k += 1;
     }
     if not_old == 0 {
         return 0;
@@ -101,14 +97,11 @@ fn look_at(before: &[u8; 768], array: &[u8; 768], block: usize) -> usize {
         return 2;
     }
     let start = block * 192;
-    let end = start + 192;
     let mut not_erased: u8 = 0;
     let mut changed: u8 = 0;
-    let mut i = start;
-    while i < end {
+    for i in start..start + 192 {
         not_erased = not_erased | (array[i] ^ 0xff);
         changed = changed | (array[i] ^ before[i]);
-        i += 1;
     }
     if not_erased == 0 {
         return 0;
@@ -133,9 +126,7 @@ fn prepare(older: usize) -> Store {
     let fates = [0u32; 0];
     let formatted = demo_store::format(demo_store::new_store(2), &mask, &fates, UNCUT);
     let mut store = formatted.store;
-    let mut left = older;
-    while 0 < left {
-        left -= 1;
+    for _ in 0..older {
         store = written(store, OLDER);
     }
     written(store, OLD)
@@ -194,53 +185,33 @@ fn acknowledged(answer: usize, reading: usize) -> usize {
     reading
 }
 
-fn print_reading(reading: usize) {
-    if reading == 0 {
-        io::write_all(STDOUT_FILENO, b" old");
-        return;
+fn word_of_reading(seen: Seen) -> &'static str {
+    match seen.reading {
+        0 => "old",
+        1 => "new",
+        _ => "other",
     }
-    if reading == 1 {
-        io::write_all(STDOUT_FILENO, b" new");
-        return;
-    }
-    io::write_all(STDOUT_FILENO, b" other");
 }
 
-fn print_block(seen: Seen) {
-    if seen.block == 0 {
-        io::write_all(STDOUT_FILENO, b" erased\n");
-        return;
+fn word_of_block(seen: Seen) -> &'static str {
+    match seen.block {
+        0 => "erased",
+        1 => "untouched",
+        _ => {
+            if seen.reading == 1 {
+                "complete"
+            } else {
+                "partly"
+            }
+        }
     }
-    if seen.block == 1 {
-        io::write_all(STDOUT_FILENO, b" untouched\n");
-        return;
-    }
-    if seen.reading == 1 {
-        io::write_all(STDOUT_FILENO, b" complete\n");
-        return;
-    }
-    io::write_all(STDOUT_FILENO, b" partly\n");
-}
-
-fn print_label(label: &[u8], name: &[u8]) {
-    io::write_all(STDOUT_FILENO, label);
-    io::write_all(STDOUT_FILENO, b" block, mask ");
-    io::write_all(STDOUT_FILENO, name);
 }
 
 // Prints the cycle from which the runs see the same.
-fn show_from(label: &[u8], name: &[u8], allowed: u32, seen: Seen) {
-    print_label(label, name);
-    io::write_all(STDOUT_FILENO, b", from ");
-    io::print_decimal(STDOUT_FILENO, allowed as u64);
-    io::write_all(STDOUT_FILENO, b":");
-    print_reading(seen.reading);
-    print_block(seen);
-}
-
-pub(crate) fn print_count(x: usize, word: &[u8]) {
-    io::print_decimal(STDOUT_FILENO, x as u64);
-    io::write_all(STDOUT_FILENO, word);
+fn show_from(rt: &impl Print, label: &str, name: &str, allowed: u32, seen: Seen) -> io::Result<()> {
+    let reading = word_of_reading(seen);
+    let block = word_of_block(seen);
+    println!(rt; "{label} block, mask {name}, from {allowed}: {reading} {block}")
 }
 
 fn differ(a: Seen, b: Seen) -> bool {
@@ -260,7 +231,14 @@ pub(crate) fn is(x: usize, y: usize) -> usize
 }
 
 // Cuts the write at every cycle from 0 to its last, and answers how many runs gave neither old nor new.
-pub(crate) fn sweep(label: &[u8], name: &[u8], older: usize, block: usize, mask: &[u8]) -> usize {
+pub(crate) fn sweep(
+    rt: &impl Print,
+    label: &str,
+    name: &str,
+    older: usize,
+    block: usize,
+    mask: &[u8],
+) -> io::Result<usize> {
     let mut old = 0;
     let mut new = 0;
     let mut other = 0;
@@ -269,22 +247,16 @@ pub(crate) fn sweep(label: &[u8], name: &[u8], older: usize, block: usize, mask:
         block: 3,
     };
     let before = prepare(older);
-    let mut allowed: u32 = 0;
-    while allowed <= FULL {
+    for allowed in 0..=FULL {
         let seen = cut_at(before, block, mask, allowed);
         if differ(seen, shown) {
-            show_from(label, name, allowed, seen);
+            show_from(rt, label, name, allowed, seen)?;
         }
         shown = seen;
         old += is(seen.reading, 0);
         new += is(seen.reading, 1);
         other += is(seen.reading, 2);
-        allowed += 1;
     }
-    print_label(label, name);
-    io::write_all(STDOUT_FILENO, b": ");
-    print_count(old, b" old, ");
-    print_count(new, b" new, ");
-    print_count(other, b" other\n");
-    other
+    println!(rt; "{label} block, mask {name}: {old} old, {new} new, {other} other")?;
+    Ok(other)
 }

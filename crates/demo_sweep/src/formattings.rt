@@ -1,14 +1,14 @@
 // A formatting of a chip whose table lists two blocks, cut at every cycle: which table is current then, and what it lists.
-ghost use Rattle.std.specs.Prelude.{◌≤◌};
+ghost use Rattle.std.specs.Prelude.{◌≤◌, IfOk};
 
 use crate::cuts;
 use chip_interface::Interface;
 use demo_store::UNCUT;
 use geometry::Geometry;
-use libc::STDOUT_FILENO;
 use request::Returned;
 use scan_summary::Depth;
 use state::State;
+use std::io;
 
 // The old table, the first new one, and the blocks that the old one lists.
 const OLD_TABLE: usize = 0;
@@ -176,12 +176,10 @@ fn is_same(before: &[u8; 1152], array: &[u8; 1152], block: usize) -> bool {
     if 5 < block {
         return false;
     }
-    let end = block * 192 + 192;
+    let start = block * 192;
     let mut changed: u8 = 0;
-    let mut i = block * 192;
-    while i < end {
+    for i in start..start + 192 {
         changed = changed | (array[i] ^ before[i]);
-        i += 1;
     }
     changed == 0
 }
@@ -230,47 +228,35 @@ fn lost_again(before: Chip, fates: &[u32], mask: &[u8], allowed: u32) -> usize {
     lost(&was, format(cut.chip, 1, mask, &none, UNCUT))
 }
 
-fn print_list(list: usize) {
-    let mut b: usize = 0;
-    while b < 6 {
+fn print_list(rt: &impl Print, list: usize) -> io::Result<()> {
+    for b in 0..6usize {
         if (list >> b) & 1 == 1 {
-            io::write_all(STDOUT_FILENO, b" ");
-            io::print_decimal(STDOUT_FILENO, b as u64);
+            print!(rt; " {b}")?;
         }
-        b += 1;
     }
+    Ok(())
 }
 
 // The pages programmed since a block was erased; 255 where its erase did not pass.
-fn print_pages(pages: u8) {
+fn print_pages(rt: &impl Print, pages: u8) -> io::Result<()> {
     if pages == 255 {
-        io::write_all(STDOUT_FILENO, b"not erased");
-        return;
+        return print!(rt; "not erased");
     }
-    io::print_decimal(STDOUT_FILENO, pages as u64);
-    io::write_all(STDOUT_FILENO, b" pages");
-}
-
-fn print_label(label: &[u8], name: &[u8]) {
-    io::write_all(STDOUT_FILENO, label);
-    io::write_all(STDOUT_FILENO, b", mask ");
-    io::write_all(STDOUT_FILENO, name);
+    print!(rt; "{pages} pages")
 }
 
 // Prints the cycle from which the runs see the same.
-fn show_from(label: &[u8], name: &[u8], allowed: u32, seen: Seen) {
-    print_label(label, name);
-    io::write_all(STDOUT_FILENO, b", from ");
-    io::print_decimal(STDOUT_FILENO, allowed as u64);
-    io::write_all(STDOUT_FILENO, b": table ");
-    io::print_decimal(STDOUT_FILENO, seen.table as u64);
-    io::write_all(STDOUT_FILENO, b" lists");
-    print_list(seen.list);
-    io::write_all(STDOUT_FILENO, b", block 0 ");
-    print_pages(seen.old);
-    io::write_all(STDOUT_FILENO, b", block 2 ");
-    print_pages(seen.new);
-    io::write_all(STDOUT_FILENO, b"\n");
+fn show_from(rt: &impl Print, label: &str, name: &str, allowed: u32, seen: Seen) -> io::Result<()> {
+    print!(rt;
+        "{label}, mask {name}, from {allowed}: table {} lists",
+        seen.table
+    )?;
+    print_list(rt, seen.list)?;
+    print!(rt; ", block 0 ")?;
+    print_pages(rt, seen.old)?;
+    print!(rt; ", block 2 ")?;
+    print_pages(rt, seen.new)?;
+    println!(rt)
 }
 
 fn differ(a: Seen, b: Seen) -> bool {
@@ -288,26 +274,36 @@ fn differ(a: Seen, b: Seen) -> bool {
 
 // 1 where a run lost an entry. One that found anything new is printed, and its chip formatted again.
 fn tell(
-    label: &[u8],
-    name: &[u8],
+    rt: &impl Print,
+    label: &str,
+    name: &str,
     before: Chip,
     fates: &[u32],
     mask: &[u8],
     allowed: u32,
     seen: Seen,
     found_new: bool,
-) -> usize
-    ensures { result ≤ 1 }
+) -> io::Result<usize>
+    ensures { IfOk result (λ losing. losing ≤ 1) }
 {
     if !found_new {
-        return cuts::is(seen.lost, 1);
+        return Ok(cuts::is(seen.lost, 1));
     }
-    show_from(label, name, allowed, seen);
-    cuts::is(seen.lost | lost_again(before, fates, mask, allowed), 1)
+    show_from(rt, label, name, allowed, seen)?;
+    let again = lost_again(before, fates, mask, allowed);
+    Ok(cuts::is(seen.lost | again, 1))
 }
 
 // Cuts the formatting at every cycle from the first one given to its last, and answers how many runs lost an entry.
-fn sweep(label: &[u8], name: &[u8], fates: &[u32], first: u32, last: u32, mask: &[u8]) -> usize
+fn sweep(
+    rt: &impl Print,
+    label: &str,
+    name: &str,
+    fates: &[u32],
+    first: u32,
+    last: u32,
+    mask: &[u8],
+) -> io::Result<usize>
     requires last_bound { last ≤ 1895 }
     requires first_le_last { first ≤ last }
 {
@@ -322,41 +318,45 @@ fn sweep(label: &[u8], name: &[u8], fates: &[u32], first: u32, last: u32, mask: 
         lost: 0,
     };
     let before = prepare();
-    let mut allowed = first;
-    while allowed <= last {
+    for allowed in first..=last {
         let seen = cut_at(before, fates, mask, allowed);
         let found_new = differ(seen, shown);
-        losing += tell(label, name, before, fates, mask, allowed, seen, found_new);
+        losing += tell(
+            rt, label, name, before, fates, mask, allowed, seen, found_new,
+        )?;
         shown = seen;
         let by_old = cuts::is(seen.table, OLD_TABLE);
         old += by_old;
         new += 1 - by_old;
-        allowed += 1;
     }
-    print_label(label, name);
-    io::write_all(STDOUT_FILENO, b": ");
-    cuts::print_count(old, b" by the old table, ");
-    cuts::print_count(new, b" by a new one, ");
-    cuts::print_count(losing, b" lost an entry\n");
-    losing
+    println!(rt;
+        "{label}, mask {name}: {old} by the old table, {new} by a new one, {losing} lost an entry"
+    )?;
+    Ok(losing)
 }
 
-fn sweep_masks(label: &[u8], fates: &[u32], first: u32, last: u32) -> usize
+fn sweep_masks(
+    rt: &impl Print,
+    label: &str,
+    fates: &[u32],
+    first: u32,
+    last: u32,
+) -> io::Result<usize>
     requires last_bound { last ≤ 1895 }
     requires first_le_last { first ≤ last }
 {
-    let a = sweep(label, b"00", fates, first, last, &[0u8; 192]);
-    let b = sweep(label, b"ff", fates, first, last, &[0xffu8; 192]);
-    let c = sweep(label, b"55", fates, first, last, &[0x55u8; 192]);
-    a | b | c
+    let a = sweep(rt, label, "00", fates, first, last, &[0u8; 192])?;
+    let b = sweep(rt, label, "ff", fates, first, last, &[0xffu8; 192])?;
+    let c = sweep(rt, label, "55", fates, first, last, &[0x55u8; 192])?;
+    Ok(a | b | c)
 }
 
 // A formatting whose operations all pass; and, from its last erase on, that of the old table's block after 24 reads, 3 erases and a fill, one in which this
 // erase fails, so that another table follows. Answers 0 where no run lost an entry.
-pub(crate) fn sweep_both() -> usize {
-    let passing = sweep_masks(b"formatting", &[0u32; 0], 0, 1660);
+pub(crate) fn sweep_both(rt: &impl Print) -> io::Result<usize> {
+    let passing = sweep_masks(rt, "formatting", &[0u32; 0], 0, 1660)?;
     let mut fates = [0u32; 33];
     fates[32] = FAILS;
-    let failing = sweep_masks(b"last erase fails", &fates, 1653, 1895);
-    passing | failing
+    let failing = sweep_masks(rt, "last erase fails", &fates, 1653, 1895)?;
+    Ok(passing | failing)
 }

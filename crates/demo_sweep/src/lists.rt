@@ -1,6 +1,6 @@
 // Lists of calls with cuts, refusals and a protected chip between them, and what a read then gives.
 use demo_store::{Ended, Store, UNCUT};
-use libc::STDOUT_FILENO;
+use std::io;
 
 // A call is a letter: A writes A5h and B 5Ah to page 0 of logical block 0; a and b are A and B cut after the last confirm
 // cycle, and c is B cut before; P is B with the write-protect line low, p a mount with it low; X writes to logical block 2, r
@@ -70,39 +70,24 @@ fn perform(mut store: Store, call: u8) -> Ended {
 }
 
 // Performs the calls on a new chip once it is formatted, and prints each with its answer.
-fn perform_all(calls: &[u8]) -> Store {
+fn perform_all(rt: &impl Print, calls: &[u8]) -> io::Result<Store> {
     let mask = [0u8; 192];
     let fates = [0u32; 0];
     let formatted = demo_store::format(demo_store::new_store(2), &mask, &fates, UNCUT);
     let mut store = formatted.store;
-    let mut i = 0;
-    while i < calls.len() {
-        let call = calls[i];
-        i += 1;
-        let ended = perform(store, call);
-        show_call(call, ended.answer);
+    for call in calls {
+        let ended = perform(store, *call);
+        print!(rt; " {} {},", char::from(*call), ended.answer)?;
         store = ended.store;
     }
-    store
-}
-
-fn show_call(call: u8, answer: usize) {
-    io::write_all(STDOUT_FILENO, &[b' ', call, b' ']);
-    io::print_decimal(STDOUT_FILENO, answer as u64);
-    io::write_all(STDOUT_FILENO, b",");
-}
-
-fn wide(x: u8) -> u64 {
-    x as u64
+    Ok(store)
 }
 
 // Performs the calls, and prints the first byte that a read of the page then gives.
-pub(crate) fn show(label: &[u8], calls: &[u8]) {
+pub(crate) fn show(rt: &impl Print, label: &str, calls: &[u8]) -> io::Result<()> {
     let mask = [0u8; 192];
     let fates = [0u32; 0];
-    io::write_all(STDOUT_FILENO, label);
-    let read = demo_store::read(perform_all(calls), &mask, &fates, UNCUT, 0, 0);
-    io::write_all(STDOUT_FILENO, b" reads ");
-    io::print_hex(STDOUT_FILENO, wide(read.page[0]), 2);
-    io::write_all(STDOUT_FILENO, b"\n");
+    print!(rt; "{label}")?;
+    let read = demo_store::read(perform_all(rt, calls)?, &mask, &fates, UNCUT, 0, 0);
+    println!(rt; " reads {:02x}", read.page[0])
 }

@@ -1,4 +1,4 @@
-// Numbers in a line of input, and the lines of standard input.
+// Numbers in a line of input, and the lines that a reader gives.
 #![tactic(auto)]
 
 mod lines;
@@ -25,6 +25,7 @@ fn wide(x: u8) -> usize
 }
 
 // The value of a digit, in either case of its letter; 255, which is below no base, if the byte is none.
+#[tactic(auto, unfolding(crate::specs::Fields::digit_value))]
 fn digit(byte: u8) -> u8
     ensures { result ≡ digit_value byte }
 {
@@ -50,6 +51,7 @@ fn digit(byte: u8) -> u8
 }
 
 // The number one digit on.
+#[tactic(auto, unfolding(crate::specs::Fields::appended))]
 fn append(number: usize, base: u8, digit: u8) -> usize
     requires { number ≤ 4294967296 }
     ensures value { result ≡ appended number base digit }

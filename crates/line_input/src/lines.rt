@@ -1,9 +1,9 @@
-// Standard input, line by line.
-ghost use Rattle.std.specs.Prelude.{◌≡◌};
-ghost use Rattle.io.specs.Counts.{IsPrefixLen};
+// The input, line by line.
+ghost use Rattle.std.specs.Prelude.{◌≡◌, ◌≤◌, length};
 ghost use Rattle.line_input.specs.Input.{byte_got, ending_by};
 
-use libc::STDIN_FILENO;
+use std::io;
+use std::io::Read;
 
 // What a read of one byte gave.
 #[derive(Clone, Copy)]
@@ -35,24 +35,24 @@ pub struct LineRead {
 }
 
 // A read of one byte that answered so.
-fn byte_got(got: isize, byte: u8) -> Input
+fn byte_got(got: io::Result<usize>, byte: u8) -> Input
     ensures { result ≡ byte_got got byte }
 {
-    if got == 0 {
-        return Input::End;
+    match got {
+        Ok(0) => Input::End,
+        Ok(1) => {
+            if byte == b'\n' {
+                return Input::Newline;
+            }
+            Input::Byte(byte)
+        }
+        _ => Input::Failed,
     }
-    if got != 1 {
-        return Input::Failed;
-    }
-    if byte == b'\n' {
-        return Input::Newline;
-    }
-    Input::Byte(byte)
 }
 
-fn read_byte() -> Input {
+fn read_byte(reader: &mut impl Read) -> Input {
     let mut byte = [0u8; 1];
-    let got = libc::read(STDIN_FILENO, &mut byte);
+    let got = reader.read(&mut byte);
     byte_got(got, byte[0])
 }
 
@@ -74,21 +74,20 @@ fn ending_by(input: Input, length: usize) -> Ending
     }
 }
 
-// Reads the next line, without its newline, which must come before the slice is full.
-pub fn read_line(line: &mut [u8]) -> LineRead
-    ensures { IsPrefixLen result.length line.new }
+// Reads the next line, without its newline, which must come before the slice is full. It takes no byte after the newline.
+pub fn read_line(reader: &mut impl Read, line: &mut [u8]) -> LineRead
+    ensures { result.length ≤ length line.new }
 {
-    let mut length = 0;
-    while length < line.len() {
-        let input = read_byte();
-        let Input::Byte(byte) = input else {
-            return LineRead {
-                ending: ending_by(input, length),
-                length,
-            };
-        };
-        line[length] = byte;
-        length += 1;
+    for (length, place) in line.iter_mut().enumerate() {
+        match read_byte(reader) {
+            Input::Byte(byte) => *place = byte,
+            input => {
+                return LineRead {
+                    ending: ending_by(input, length),
+                    length,
+                };
+            }
+        }
     }
     LineRead {
         ending: Ending::Long,

@@ -27,7 +27,7 @@ returns c =
     let map_fits : (i : ℕ) → Fits w16 (get_or c.args.returned.state.map i 0) = λ i. search (rules, c.well_formed.0.1.1.1.0.1.1.1.1.1.1.1.1.0.1.1) in
     let kinds_long : length c.args.returned.state.kinds ≡ 4096 = search (rules, c.well_formed.0.1.1.1.0.1.1.1.1.1.1.1.1.1.0.1.0) in
     let kinds-fit : (i : ℕ) → Fits w8 (get_or c.args.returned.state.kinds i 0) = λ i. search (rules, c.well_formed.0.1.1.1.0.1.1.1.1.1.1.1.1.1.0.1.1) in
-    let ranged : Ranged c.args.returned.state = record { status_fits = (status_fits).fits; table_fits = (table_fits).fits; last_fits = (last_fits).fits; number_fits = (number_fits).fits; marked_long = marked_long; marked_bytes = λ i. (marked-fits i).fits; invalid_long = invalid_long; invalid_bytes = λ i. (invalid-fits i).fits; map_long = map_long; map_fits = λ i. (map_fits i).fits; kinds_long = kinds_long; kinds_bytes = λ i. (kinds-fit i).fits; } in
+    let ranged : Ranged c.args.returned.state = record { status_fits = (status_fits).fits; table_fits = (table_fits).fits; last_fits = (last_fits).fits; number_fits = (number_fits).fits; marked_long = marked_long; marked_bytes = λ i. (marked-fits i).fits; invalid_long = invalid_long; invalid_bytes = λ i. (invalid-fits i).fits; map_long = map_long; map_fits = λ i. (map_fits i).fits; kinds_long = kinds_long; kinds_bytes = λ i. (kinds-fit i).fits } in
     let opened-word : Fits w64 c.args.write.opened = search rules in
     let phase-word : Fits w64 c.args.write.phase = search rules in
     let step-word : Fits w64 c.args.write.step = search rules in
@@ -38,5 +38,5 @@ returns c =
     let number_word : Fits w64 c.args.write.number = search (rules, c.well_formed.1.0.1.1.1.1.1.1.1.1.1.0) in
     let page-word : Fits w64 c.args.write.page = search (rules, c.well_formed.1.0.1.1.1.1.1.1.1.1.1.1.0) in
     let failed-word : Fits w64 c.args.write.failed = search (rules, c.well_formed.1.0.1.1.1.1.1.1.1.1.1.1.1.0) in
-    let words-ranged : WordsRanged c.args.write = record { opened_fits = (opened-word).fits; phase_fits = (phase-word).fits; step_fits = (step-word).fits; logical_fits = (logical-word).fits; first_fits = (first_word).fits; old_fits = (old-word).fits; block_fits = (block-word).fits; number_fits = (number_word).fits; page_fits = (page-word).fits; failed_fits = (failed-word).fits; } in
+    let words-ranged : WordsRanged c.args.write = record { opened_fits = (opened-word).fits; phase_fits = (phase-word).fits; step_fits = (step-word).fits; logical_fits = (logical-word).fits; first_fits = (first_word).fits; old_fits = (old-word).fits; block_fits = (block-word).fits; number_fits = (number_word).fits; page_fits = (page-word).fits; failed_fits = (failed-word).fits } in
     let page = bytes_page c.args.state.now in record { by_index = put_back_lem c.args.returned.answer c.args.returned.sent (left_open c.args.gone c.args.returned.state c.args.write page) c.args.returned.interface _ _ c.args.sent.now c.leave.ensures c.write_interface.ensures c.requires.sent_len; state_after = ap bytes_open c.leave.ensures ∙ load-left c.args.gone c.args.returned.state c.args.write page (ranged) (words-ranged) (length_part 9328 4096 c.args.state.now (omega (arith, c.requires.state_len))) }

@@ -6,7 +6,6 @@ use Rattle.request.specs.Call.{sized}
 use Rattle.open_write.specs.Open.{open_state}
 use Rattle.open_write.specs.Requests.{open_refusal}
 use Rattle.c_open.proofs.ByteLaws.{page-lent}
-use borrow.Author.Rules.{rules}
 use Rattle.c_buffers.proofs.held.Goals as goal
 
 pub returns : goal.returns

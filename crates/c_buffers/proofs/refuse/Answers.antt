@@ -6,7 +6,6 @@ use Rattle.open_write.specs.Open.{open_state}
 use Rattle.open_write.specs.Requests.{open_result}
 use Rattle.c_open.specs.OpenBytes.{bytes_page}
 use Rattle.c_buffers.specs.Buffers.{put_back}
-use borrow.Author.Rules.{rules}
 use Rattle.c_buffers.proofs.refuse.Goals as goal
 
 pub returns : goal.returns

@@ -2,7 +2,6 @@
 use lib.ListN.{length-set}
 use Rattle.c_buffers.proofs.InterfaceLaws.{interface_written}
 use native.Mathlib.Omega.{arith}
-use borrow.Author.Rules.{rules}
 use Rattle.c_buffers.proofs.write_interface.Goals as goal
 
 pub bounds-interface-4 : goal.bounds-interface-4

@@ -1,6 +1,5 @@
 -- `c_buffers::write_sizes` meets its contract. Assumes nothing.
 use Rattle.c_buffers.proofs.SizeLaws.{sizes_stored}
-use borrow.Author.Rules.{rules}
 use Rattle.c_buffers.proofs.write_sizes.Goals as goal
 
 pub returns : goal.returns

@@ -39,7 +39,7 @@ returns-then-opened-ne0 c =
     let set = (setting (geometry_of c.args.main c.args.spare c.args.pages c.args.blocks c.args.logical) c.args.mask.now c.args.fates.now) in
     let right = sym c.is_lent_rightly.ensures ∙ c.if-not-is_lent_rightly.false in
     let x = open_state c.state_of-before.result c.write_of-write.result (bytes_page c.args.state.now) in
-    let d = device c.interface_of-start.result c.args.array.now c.args.register.now c.args.history.now in let v = request_handed l right c.state_of-before.result c.write_of-write.result c.interface_of-start.result c.state_of-before.ensures c.write_of-write.ensures c.interface_of-start.ensures (λ (c : Device) (y : OpenState). erasing_open set c c.args.allowed y c.args.block) _ _ _
+    let d = device c.interface_of-start.result c.args.array.now c.args.register.now c.args.history.now in let v = request_handed l right c.state_of-before.result c.write_of-write.result c.interface_of-start.result c.state_of-before.ensures c.write_of-write.ensures c.interface_of-start.ensures (λ (k : Device) (y : OpenState). erasing_open set k c.args.allowed y c.args.block) _ _ _
     (erase_held set d c.args.allowed x c.args.block c.if-opened-ne0.true _ c.held-held.ensures) (c.refuse.ensures.by_index _ _ _) c.refuse.ensures.state_after in record { sent_after = v.0; passed_on = v.1 }
 
 pub hand_back-requires : goal.hand_back-requires
@@ -52,5 +52,5 @@ returns c =
     let set = (setting (geometry_of c.args.main c.args.spare c.args.pages c.args.blocks c.args.logical) c.args.mask.now c.args.fates.now) in
     let right = sym c.is_lent_rightly.ensures ∙ c.if-not-is_lent_rightly.false in
     let x = open_state c.state_of-before.result c.write_of-write.result (bytes_page c.args.state.now) in
-    let d = device c.interface_of-start.result c.args.array.now c.args.register.now c.args.history.now in let v = request_handed l right c.state_of-before.result c.write_of-write.result c.interface_of-start.result c.state_of-before.ensures c.write_of-write.ensures c.interface_of-start.ensures (λ (c : Device) (y : OpenState). erasing_open set c c.args.allowed y c.args.block) _ _ _
+    let d = device c.interface_of-start.result c.args.array.now c.args.register.now c.args.history.now in let v = request_handed l right c.state_of-before.result c.write_of-write.result c.interface_of-start.result c.state_of-before.ensures c.write_of-write.ensures c.interface_of-start.ensures (λ (k : Device) (y : OpenState). erasing_open set k c.args.allowed y c.args.block) _ _ _
     (left-beside x _ _ _ c.erase-returned.ensures c.is_stopping-gone.ensures ∙ erase_beside set d c.args.allowed x c.args.block c.if-opened-ne0.false (idle_inside l right (geometry_of c.args.main c.args.spare c.args.pages c.args.blocks c.args.logical) c.state_of-before.result c.write_of-write.result c.if-opened-ne0.false)) (c.hand_back.ensures.by_index _ _ _) c.hand_back.ensures.state_after in record { sent_after = v.0; passed_on = v.1 }

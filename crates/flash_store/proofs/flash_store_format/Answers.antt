@@ -42,7 +42,7 @@ returns-then-held-eq-BARRED c =
     let right = sym c.is_lent_rightly.ensures ∙ c.if-not-is_lent_rightly.false in
     let x = open_state c.state_of-before.result c.write_of-write.result (bytes_page c.args.state.now) in
     let d = device c.interface_of-start.result c.args.array.now c.args.register.now c.args.history.now in
-    let told = c.held-held.ensures ∙ ap (open_refusal (geometry_of c.args.main c.args.spare c.args.pages c.args.blocks c.args.logical) _ x) (turned (eqb c.write_of-write.result.opened 0)) in let v = request_handed l right c.state_of-before.result c.write_of-write.result c.interface_of-start.result c.state_of-before.ensures c.write_of-write.ensures c.interface_of-start.ensures (λ (c : Device) (y : OpenState). formatting_open set c c.args.allowed y) _ _ _
+    let told = c.held-held.ensures ∙ ap (open_refusal (geometry_of c.args.main c.args.spare c.args.pages c.args.blocks c.args.logical) _ x) (turned (eqb c.write_of-write.result.opened 0)) in let v = request_handed l right c.state_of-before.result c.write_of-write.result c.interface_of-start.result c.state_of-before.ensures c.write_of-write.ensures c.interface_of-start.ensures (λ (k : Device) (y : OpenState). formatting_open set k c.args.allowed y) _ _ _
     (ap (λ (k : ℕ). open_result k x d 0) c.if-held-eq-BARRED.true ∙ format_held set d c.args.allowed x (sym told ∙ c.if-held-eq-BARRED.true)) (c.refuse.ensures.by_index _ _ _) c.refuse.ensures.state_after in record { sent_after = v.0; passed_on = v.1 }
 
 pub hand_back-requires : goal.hand_back-requires
@@ -56,5 +56,5 @@ returns c =
     let right = sym c.is_lent_rightly.ensures ∙ c.if-not-is_lent_rightly.false in
     let x = open_state c.state_of-before.result c.write_of-write.result (bytes_page c.args.state.now) in
     let d = device c.interface_of-start.result c.args.array.now c.args.register.now c.args.history.now in
-    let told = c.held-held.ensures ∙ ap (open_refusal (geometry_of c.args.main c.args.spare c.args.pages c.args.blocks c.args.logical) _ x) (turned (eqb c.write_of-write.result.opened 0)) in let v = request_handed l right c.state_of-before.result c.write_of-write.result c.interface_of-start.result c.state_of-before.ensures c.write_of-write.ensures c.interface_of-start.ensures (λ (c : Device) (y : OpenState). formatting_open set c c.args.allowed y) _ _ _
+    let told = c.held-held.ensures ∙ ap (open_refusal (geometry_of c.args.main c.args.spare c.args.pages c.args.blocks c.args.logical) _ x) (turned (eqb c.write_of-write.result.opened 0)) in let v = request_handed l right c.state_of-before.result c.write_of-write.result c.interface_of-start.result c.state_of-before.ensures c.write_of-write.ensures c.interface_of-start.ensures (λ (k : Device) (y : OpenState). formatting_open set k c.args.allowed y) _ _ _
     (left_by format_gives x _ _ _ c.format-returned.ensures c.gives_up-gone.ensures ∙ format_beside set d c.args.allowed x (λ z. c.if-held-eq-BARRED.false (told ∙ z))) (c.hand_back.ensures.by_index _ _ _) c.hand_back.ensures.state_after in record { sent_after = v.0; passed_on = v.1 }

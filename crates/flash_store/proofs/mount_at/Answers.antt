@@ -37,5 +37,5 @@ returns c =
     let set = (setting (geometry_of c.args.main c.args.spare c.args.pages c.args.blocks c.args.logical) c.args.mask.now c.args.fates.now) in
     let right = sym c.is_lent_rightly.ensures ∙ c.if-not-is_lent_rightly.false in
     let x = open_state c.state_of-before.result c.write_of-write.result (bytes_page c.args.state.now) in
-    let d = device c.interface_of-start.result c.args.array.now c.args.register.now c.args.history.now in let v = request_handed l right c.state_of-before.result c.write_of-write.result c.interface_of-start.result c.state_of-before.ensures c.write_of-write.ensures c.interface_of-start.ensures (λ (c : Device) (y : OpenState). mounting_open c.args.depth set c c.args.allowed y) _ _ _
+    let d = device c.interface_of-start.result c.args.array.now c.args.register.now c.args.history.now in let v = request_handed l right c.state_of-before.result c.write_of-write.result c.interface_of-start.result c.state_of-before.ensures c.write_of-write.ensures c.interface_of-start.ensures (λ (k : Device) (y : OpenState). mounting_open c.args.depth set k c.args.allowed y) _ _ _
     (left_by mount_gives x _ _ _ c.mount-returned.ensures (turned (eqb c.mount-returned.result.answer 1))) (c.hand_back.ensures.by_index _ _ _) c.hand_back.ensures.state_after in record { sent_after = v.0; passed_on = v.1 }

@@ -43,7 +43,7 @@ returns-then-opened-ne0 c =
     let set = (setting (geometry_of c.args.main c.args.spare c.args.pages c.args.blocks c.args.logical) c.args.mask.now c.args.fates.now) in
     let right = sym c.is_lent_rightly.ensures ∙ c.if-not-is_lent_rightly.false in
     let x = open_state c.state_of-before.result c.write_of-write.result (bytes_page c.args.state.now) in
-    let d = device c.interface_of-start.result c.args.array.now c.args.register.now c.args.history.now in let v = told_handed_fact l right c.state_of-before.result c.write_of-write.result c.interface_of-start.result c.state_of-before.ensures c.write_of-write.ensures c.interface_of-start.ensures (λ (c : Device) (y : OpenState). appending_open set c c.args.allowed y (sale_of c.args.selection c.args.count c.args.price c.args.replaces)) c.args.number.now _ _ _ _ _ c.if-number-ne1.false
+    let d = device c.interface_of-start.result c.args.array.now c.args.register.now c.args.history.now in let v = told_handed_fact l right c.state_of-before.result c.write_of-write.result c.interface_of-start.result c.state_of-before.ensures c.write_of-write.ensures c.interface_of-start.ensures (λ (k : Device) (y : OpenState). appending_open set k c.args.allowed y (sale_of c.args.selection c.args.count c.args.price c.args.replaces)) c.args.number.now _ _ _ _ _ c.if-number-ne1.false
     (append_held set d c.args.allowed x (sale_of c.args.selection c.args.count c.args.price c.args.replaces) c.if-opened-ne0.true _ c.held-held.ensures) (c.refuse.ensures.by_index _ _ _) c.refuse.ensures.state_after (single c.args.number.now 0 c.if-number-ne1.false) in record { number_after = v.0; passed_on = v.1 }
 
 pub hand_back-requires : goal.hand_back-requires
@@ -55,5 +55,5 @@ returns c =
     let set = (setting (geometry_of c.args.main c.args.spare c.args.pages c.args.blocks c.args.logical) c.args.mask.now c.args.fates.now) in
     let right = sym c.is_lent_rightly.ensures ∙ c.if-not-is_lent_rightly.false in
     let x = open_state c.state_of-before.result c.write_of-write.result (bytes_page c.args.state.now) in
-    let d = device c.interface_of-start.result c.args.array.now c.args.register.now c.args.history.now in let v = told_handed_fact l right c.state_of-before.result c.write_of-write.result c.interface_of-start.result c.state_of-before.ensures c.write_of-write.ensures c.interface_of-start.ensures (λ (c : Device) (y : OpenState). appending_open set c c.args.allowed y (sale_of c.args.selection c.args.count c.args.price c.args.replaces)) c.args.number.now _ _ _ _ _ c.if-number-ne1.false
+    let d = device c.interface_of-start.result c.args.array.now c.args.register.now c.args.history.now in let v = told_handed_fact l right c.state_of-before.result c.write_of-write.result c.interface_of-start.result c.state_of-before.ensures c.write_of-write.ensures c.interface_of-start.ensures (λ (k : Device) (y : OpenState). appending_open set k c.args.allowed y (sale_of c.args.selection c.args.count c.args.price c.args.replaces)) c.args.number.now _ _ _ _ _ c.if-number-ne1.false
     (told-beside x _ _ _ c.is_stopping-gone.ensures ∙ ap (append_beside x) c.append-entered.ensures ∙ append_beside_fact set d c.args.allowed x (sale_of c.args.selection c.args.count c.args.price c.args.replaces) c.if-opened-ne0.false (idle_inside l right (geometry_of c.args.main c.args.spare c.args.pages c.args.blocks c.args.logical) c.state_of-before.result c.write_of-write.result c.if-opened-ne0.false)) (c.hand_back.ensures.by_index _ _ _) c.hand_back.ensures.state_after (single c.args.number.now c.append-entered.result.number c.if-number-ne1.false) in record { number_after = v.0; passed_on = v.1 }

@@ -46,7 +46,7 @@ returns-then-not-is_inside c =
     let set = (setting (geometry_of c.args.main c.args.spare c.args.pages c.args.blocks c.args.logical) c.args.mask.now c.args.fates.now) in
     let right = sym c.is_lent_rightly.ensures ∙ c.if-not-is_lent_rightly.false in
     let x = open_state c.state_of-before.result c.write_of-write.result (bytes_page c.args.state.now) in
-    let d = device c.interface_of-start.result c.args.array.now c.args.register.now c.args.history.now in let v = told_handed_fact l right c.state_of-before.result c.write_of-write.result c.interface_of-start.result c.state_of-before.ensures c.write_of-write.ensures c.interface_of-start.ensures (λ (c : Device) (y : OpenState). takings_open set c c.args.allowed y) c.args.takings.now _ _ _ _ _ c.if-takings-ne1.false
+    let d = device c.interface_of-start.result c.args.array.now c.args.register.now c.args.history.now in let v = told_handed_fact l right c.state_of-before.result c.write_of-write.result c.interface_of-start.result c.state_of-before.ensures c.write_of-write.ensures c.interface_of-start.ensures (λ (k : Device) (y : OpenState). takings_open set k c.args.allowed y) c.args.takings.now _ _ _ _ _ c.if-takings-ne1.false
     (takings_held set d c.args.allowed x (sym (c.is_inside.ensures c.state_of-before.result) ∙ c.if-not-is_inside.true) _ c.held-held.ensures) (c.refuse.ensures.by_index _ _ _) c.refuse.ensures.state_after (single c.args.takings.now 0 c.if-takings-ne1.false) in record { takings_after = v.0; passed_on = v.1 }
 
 pub bounds-takings-0-2 : goal.bounds-takings-0-2
@@ -61,5 +61,5 @@ returns c =
     let set = (setting (geometry_of c.args.main c.args.spare c.args.pages c.args.blocks c.args.logical) c.args.mask.now c.args.fates.now) in
     let right = sym c.is_lent_rightly.ensures ∙ c.if-not-is_lent_rightly.false in
     let x = open_state c.state_of-before.result c.write_of-write.result (bytes_page c.args.state.now) in
-    let d = device c.interface_of-start.result c.args.array.now c.args.register.now c.args.history.now in let v = told_handed_fact l right c.state_of-before.result c.write_of-write.result c.interface_of-start.result c.state_of-before.ensures c.write_of-write.ensures c.interface_of-start.ensures (λ (c : Device) (y : OpenState). takings_open set c c.args.allowed y) c.args.takings.now _ _ _ _ _ c.if-takings-ne1.false
+    let d = device c.interface_of-start.result c.args.array.now c.args.register.now c.args.history.now in let v = told_handed_fact l right c.state_of-before.result c.write_of-write.result c.interface_of-start.result c.state_of-before.ensures c.write_of-write.ensures c.interface_of-start.ensures (λ (k : Device) (y : OpenState). takings_open set k c.args.allowed y) c.args.takings.now _ _ _ _ _ c.if-takings-ne1.false
     (told-beside x _ _ _ c.is_stopping-gone.ensures ∙ ap (takings_beside x) c.takings-total.ensures ∙ takings_beside_fact set d c.args.allowed x (sym (c.is_inside.ensures c.state_of-before.result) ∙ c.if-not-is_inside.false)) (c.hand_back.ensures.by_index _ _ _) c.hand_back.ensures.state_after (single c.args.takings.now c.takings-total.result.takings c.if-takings-ne1.false) in record { takings_after = v.0; passed_on = v.1 }

@@ -34,12 +34,12 @@ slice_bounds-open-end c = omega (arith, (right-long _ _ _ (sym c.is_lent_rightly
 
 pub hand_back-requires : goal.hand_back-requires
 hand_back-requires c = let long = right-long _ _ _ (sym c.is_lent_rightly.ensures ∙ c.if-not-is_lent_rightly.false) in
-    let o = c.open-ended in record { state_len = lent-long c.args.state.now o.new.1.1.0 long.state_long o.auto.1.1.0; interface_len = long.interface_long; sent_len = long.sent_long }
+    let o = c.open-ended in record { state_len = lent-long c.args.state.now c.open-ended.new.kept long.state_long c.open-ended.auto.kept; interface_len = long.interface_long; sent_len = long.sent_long }
 
 pub shape_of-state : goal.shape_of-state
 shape_of-state c = let long = right-long _ _ _ (sym c.is_lent_rightly.ensures ∙ c.if-not-is_lent_rightly.false) in
     let o = c.open-ended in
-    c.state-2-1.given ∙ lent-long c.args.state.now o.new.1.1.0 long.state_long o.auto.1.1.0 ∙ sym long.state_long
+    c.state-2-1.given ∙ lent-long c.args.state.now c.open-ended.new.kept long.state_long c.open-ended.auto.kept ∙ sym long.state_long
 
 pub returns : goal.returns
 unfolding opening_lent
@@ -49,5 +49,5 @@ returns c =
     let right = sym c.is_lent_rightly.ensures ∙ c.if-not-is_lent_rightly.false in
     let d = device c.interface_of-start.result c.args.array.now c.args.register.now c.args.history.now in
     let long = (right-long _ _ _ right).state_long in
-    let o = c.open-ended in let v = request_handed l right c.state_of-before.result c.write_of-write.result c.interface_of-start.result c.state_of-before.ensures c.write_of-write.ensures c.interface_of-start.ensures (λ (c : Device) (y : OpenState). opening_write set c c.args.allowed y c.args.block c.args.page c.args.bytes.now) _ _ _
-    (opened-page (page-put c.args.state.now o.new.1.1.0 long o.auto.1.1.0) ∙ o.ensures ∙ ap (λ (p : List ℕ). opening_write set d c.args.allowed (open_state c.state_of-before.result c.write_of-write.result p) c.args.block c.args.page c.args.bytes.now) (page-lent c.args.state.now long)) (c.hand_back.ensures.by_index _ _ _) c.hand_back.ensures.state_after in record { sent_after = v.0; passed_on = v.1 }
+    let o = c.open-ended in let v = request_handed l right c.state_of-before.result c.write_of-write.result c.interface_of-start.result c.state_of-before.ensures c.write_of-write.ensures c.interface_of-start.ensures (λ (k : Device) (y : OpenState). opening_write set k c.args.allowed y c.args.block c.args.page c.args.bytes.now) _ _ _
+    (opened-page (page-put c.args.state.now c.open-ended.new.kept long c.open-ended.auto.kept) ∙ o.ensures ∙ ap (λ (p : List ℕ). opening_write set d c.args.allowed (open_state c.state_of-before.result c.write_of-write.result p) c.args.block c.args.page c.args.bytes.now) (page-lent c.args.state.now long)) (c.hand_back.ensures.by_index _ _ _) c.hand_back.ensures.state_after in record { sent_after = v.0; passed_on = v.1 }

@@ -1,0 +1,6 @@
+use Rattle.demo_journal.proofs.SaleLaws.{told_is}
+use Rattle.demo_journal.proofs.sales.tell.Goals as goal
+
+pub returns : goal.returns
+returns c =
+    told_is _ _ _ c.args.store c.put_together-ended.ensures.r_value c.put_together-ended.ensures.geometry_value c.takings-total.ensures
