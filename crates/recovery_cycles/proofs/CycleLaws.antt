@@ -126,7 +126,8 @@ names_good g marked failed code d o h b =
 spared_on_chip : (g : Geometry) (marked failed : ℕ → Bool) (os : List ArrayOperation) → Spared g marked failed os → Each (OnChip g) os
 unfolding Spared Each
 spared_on_chip g marked failed [] h = tt
-spared_on_chip g marked failed (o ∷ os) h = (⊎_elim inl (λ x. inr x.below) h.0, spared_on_chip g marked _ os h.1)
+spared_on_chip g marked failed (o ∷ os) h =
+    (⊎_elim inl (λ x. inr x.below) h.0, spared_on_chip g marked (λ b. cond (failed b) true (cond (eqb o.block b) (is_failed o.answer) false)) os h.1)
 
 kind_read : (code : ℕ) → kind_of code ≡ 1 → code ≡ 48
 unfolding kind_of

@@ -69,7 +69,7 @@ programmed_traced g (t ∷ ts) (o ∷ os) h on b =
 left_on_chip : (g : Geometry) (array : List ℕ) (filled : ℕ → Bool) (os : List ArrayOperation) → LeftAlone g array filled os → Each (OnChip g) os
 unfolding LeftAlone Each
 left_on_chip g array filled [] h = tt
-left_on_chip g array filled (o ∷ os) h = (⊎_elim inl (λ x. inr x.below) h.0, left_on_chip g array _ os h.1)
+left_on_chip g array filled (o ∷ os) h = (⊎_elim inl (λ x. inr x.below) h.0, left_on_chip g array (λ b. cond (filled b) true (programs b o)) os h.1)
 
 -- what is said of an operation holds on the chip just before its cycle
 names_unlisted : (g : Geometry) (array : List ℕ) (filled : ℕ → Bool) (code : ℕ) (d : Device) (o : ArrayOperation) → ChangeOn g code d o → LeavesListed g array filled o → NamesUnlisted g array filled d

@@ -1,6 +1,8 @@
 -- A formatting of a chip that this store left spares bad blocks, operation by operation and cycle by cycle. Assumes nothing but the law named.
+use Rattle.bus_polling.specs.Outcomes.{is_failed}
+use lib.Dec.{eqb}
 use Prim.Native.Nat.{ℕ, ◌<◌}
-use mathlib.Core.Bool.{Bool, false}
+use mathlib.Core.Bool.{Bool, false, true, cond}
 use mathlib.Core.List.{List, [], ◌∷◌}
 use mathlib.Core.Logic.{inl, inr, ⊎_elim}
 use mathlib.Core.Path.{◌≡◌, refl, sym, ◌∙◌}
@@ -38,7 +40,7 @@ unfolding Spared
 spared_marks g marked other failed same [] a = tt
 spared_marks g marked other failed same (o ∷ os) a = (
   ⊎_elim inl (λ x. inr (record { below = x.below; unmarked = sym (same o.block x.below) ∙ x.unmarked; table = x.table; table_is = x.table_is; unlisted = x.unlisted; unfailed = x.unfailed })) a.0,
-  spared_marks g marked other _ same os a.1,
+  spared_marks g marked other (λ b. cond (failed b) true (cond (eqb o.block b) (is_failed o.answer) false)) same os a.1,
 )
 
 module _ (s : Setting) (mask_bytes : Bytes s.mask) (d : Device) (bytes : Bytes d.array) (n : ℕ) (state : State) where
