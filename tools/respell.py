@@ -1,5 +1,5 @@
 #!/usr/bin/env python3
-"""Respells this repository's own definitions, fields and lemmas, after /opt/rattle/port/port.py.
+"""Respells this repository's own definitions, fields and lemmas, after port.py of the kit.
 
 usage: tools/respell.py [TOP]      prints each name with what it became; files below crates/ are rewritten in place
 
