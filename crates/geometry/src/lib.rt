@@ -6,7 +6,7 @@ ghost use Rattle.geometry.specs.Limits.{page_count, block_shape, valid, Valid};
 ghost use Rattle.geometry.specs.Sizes.{page_size, block_size, chip_size, row_count, row_of, page_shift};
 
 // Numbers of one chip. `main` and `spare` are the bytes of a page; `pages` those of a block.
-#[derive(Clone, Copy)]
+#[derive(Clone, Copy, Debug, PartialEq, Eq)]
 pub struct Geometry {
     pub main: usize,
     pub spare: usize,
@@ -15,67 +15,29 @@ pub struct Geometry {
     pub logical: usize,
 }
 
-// 4, 8, 16, 32 or 64.
+// Whether a block may have so many pages.
 fn is_page_count(pages: usize) -> bool
     ensures { result ≡ page_count pages }
 {
-    if pages == 4 {
-        return true;
-    }
-    if pages == 8 {
-        return true;
-    }
-    if pages == 16 {
-        return true;
-    }
-    if pages == 32 {
-        return true;
-    }
-    pages == 64
+    matches!(pages, 4 | 8 | 16 | 32 | 64)
 }
 
 // The limits of the spare bytes and the pages of a block.
 fn is_block_shape(spare: usize, pages: usize) -> bool
     ensures { result ≡ block_shape spare pages }
 {
-    if spare < 16 {
-        return false;
-    }
-    if 256 < spare {
-        return false;
-    }
-    is_page_count(pages)
+    (16..=256).contains(&spare) && is_page_count(pages)
 }
 
 // Whether every limit of the geometry holds. Nothing is added or multiplied before it is known to be small.
 pub fn is_valid(g: Geometry) -> bool
     ensures { result ≡ valid g }
 {
-    let main = g.main;
-    if main < 32 {
-        return false;
-    }
-    if 4096 < main {
-        return false;
-    }
-    if !is_block_shape(g.spare, g.pages) {
-        return false;
-    }
-    let blocks = g.blocks;
-    if blocks < 4 {
-        return false;
-    }
-    if 4096 < blocks {
-        return false;
-    }
-    if 8 * (main - 8) < blocks {
-        return false;
-    }
-    let logical = g.logical;
-    if logical < 1 {
-        return false;
-    }
-    logical <= blocks - 2
+    (32..=4096).contains(&g.main)
+        && is_block_shape(g.spare, g.pages)
+        && (4..=4096).contains(&g.blocks)
+        && g.blocks <= 8 * (g.main - 8)
+        && (1..=g.blocks - 2).contains(&g.logical)
 }
 
 // Bytes of a page, main and spare.
@@ -91,8 +53,7 @@ pub fn block_size(g: Geometry) -> usize
     requires { Valid g }
     ensures { result ≡ block_size g }
 {
-    let pages = g.pages;
-    pages * page_size(g)
+    g.pages * page_size(g)
 }
 
 // Bytes of the array.
@@ -100,8 +61,7 @@ pub fn chip_size(g: Geometry) -> usize
     requires { Valid g }
     ensures { result ≡ chip_size g }
 {
-    let blocks = g.blocks;
-    blocks * block_size(g)
+    g.blocks * block_size(g)
 }
 
 // Pages of the chip: rows run from 0 up to this.
@@ -126,19 +86,13 @@ pub fn row_of(g: Geometry, block: usize, page: usize) -> usize
 fn page_shift(pages: usize) -> u32
     ensures { (result ≡ page_shift pages) × (result ≤ 6) }
 {
-    if pages == 4 {
-        return 2;
+    match pages {
+        4 => 2,
+        8 => 3,
+        16 => 4,
+        32 => 5,
+        _ => 6,
     }
-    if pages == 8 {
-        return 3;
-    }
-    if pages == 16 {
-        return 4;
-    }
-    if pages == 32 {
-        return 5;
-    }
-    6
 }
 
 // The block that a row lies in.
@@ -179,7 +133,7 @@ pub fn block_start(g: Geometry, block: usize) -> usize
 pub fn low_byte(address: usize) -> u8
     ensures { result ≡ address % 256 }
 {
-    (address & 0xff) as u8
+    address.to_le_bytes()[0]
 }
 
 // An address without its low byte.

@@ -5,6 +5,3 @@ use Rattle.geometry.proofs.block_size.Goals as goal
 
 pub overflow_mul-result : goal.overflow_mul-result
 overflow_mul-result c = rw c.page_size.ensures (omega (arith, block_size_most c.args.g c.requires))
-
-pub returns : goal.returns
-returns c = rw c.page_size.ensures

@@ -5,6 +5,3 @@ use Rattle.geometry.proofs.row_start.Goals as goal
 
 pub overflow_mul-result : goal.overflow_mul-result
 overflow_mul-result c = rw c.page_size.ensures (omega (arith, row_within c.args.g c.requires.valid c.args.row c.requires.row_bound, chip_size_most c.args.g c.requires.valid))
-
-pub returns : goal.returns
-returns c = rw c.page_size.ensures
