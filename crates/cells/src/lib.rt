@@ -9,10 +9,8 @@ pub fn program_masked(page: &mut [u8], data: &[u8], mask: &[u8])
     requires { (length page.old ≤ length «data».now) × (length page.old ≤ length mask.now) }
     ensures { page.new ≡ programmed page.old (weakened «data».now mask.now) }
 {
-    let mut i = 0;
-    while i < page.len() {
-        page[i] = page[i] & (data[i] | !mask[i]);
-        i += 1;
+    for (i, cell) in page.iter_mut().enumerate() {
+        *cell &= data[i] | !mask[i];
     }
 }
 
@@ -21,10 +19,8 @@ pub fn program_whole(page: &mut [u8], data: &[u8])
     requires { length page.old ≤ length «data».now }
     ensures { page.new ≡ programmed page.old «data».now }
 {
-    let mut i = 0;
-    while i < page.len() {
-        page[i] = page[i] & data[i];
-        i += 1;
+    for (i, cell) in page.iter_mut().enumerate() {
+        *cell &= data[i];
     }
 }
 
@@ -33,10 +29,8 @@ pub fn erase_masked(block: &mut [u8], mask: &[u8])
     requires { length block.old ≤ length mask.now }
     ensures { block.new ≡ raised block.old mask.now }
 {
-    let mut i = 0;
-    while i < block.len() {
-        block[i] = block[i] | mask[i];
-        i += 1;
+    for (i, cell) in block.iter_mut().enumerate() {
+        *cell |= mask[i];
     }
 }
 
@@ -44,11 +38,7 @@ pub fn erase_masked(block: &mut [u8], mask: &[u8])
 pub fn erase_whole(block: &mut [u8])
     ensures { block.new ≡ replicate (length block.old) 255 }
 {
-    let mut i = 0;
-    while i < block.len() {
-        block[i] = 255;
-        i += 1;
-    }
+    block.fill(255);
 }
 
 // Copies `from` over the first bytes of `into`.
@@ -56,9 +46,5 @@ pub fn copy(from: &[u8], into: &mut [u8])
     requires { length from.now ≤ length into.old }
     ensures { into.new ≡ over from.now into.old }
 {
-    let mut i = 0;
-    while i < from.len() {
-        into[i] = from[i];
-        i += 1;
-    }
+    into[..from.len()].copy_from_slice(from);
 }

@@ -1,5 +1,4 @@
 -- `cells::erase_masked` meets its contract: `block` is rewritten by what the erase makes of it.
-use Prim.Native.Nat.{◌-◌}
 use mathlib.Core.Path.{◌∙◌}
 use native.Mathlib.Omega.{arith}
 use Rattle.cells.proofs.CellLaws.{length-raised, get_or-raised}
@@ -13,9 +12,6 @@ pub loop-i-preserved : goal.loop-i-preserved
 loop-i-preserved c =
     rewritten_more _ c.loop-i.invariant (rw length-raised (omega arith)) (omega arith)
     (get_or-raised _ _ _ (omega arith) ∙ rw (rewritten_next c.loop-i.invariant))
-
-pub shape_of-block : goal.shape_of-block
-shape_of-block c = c.loop-i.invariant.same
 
 pub returns : goal.returns
 returns c = rewritten_whole c.loop-i.invariant (length-raised _ _) (omega arith)

@@ -1,12 +1,7 @@
 -- `cells::erase_masked` meets its contract: `block` is rewritten by what the erase makes of it.
-use Prim.Native.Nat.{◌-◌}
-use lib.ListN.{length}
 use Rattle.cells.specs.Cells.{raised}
 use Rattle.cells.proofs.RewriteLaws.{Rewritten}
 use Rattle.cells.proofs.erase_masked.Given as goal
 
 abbrev pub invariant-loop-i : goal.invariant-loop-i
 invariant-loop-i l = Rewritten (raised l.initial.block l.mask) l.initial.block l.block l.i
-
-abbrev pub decreases-loop-i : goal.decreases-loop-i
-decreases-loop-i l = length l.initial.block - l.i

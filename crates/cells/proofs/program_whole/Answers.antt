@@ -1,5 +1,4 @@
 -- `cells::program_whole` meets its contract: `page` is rewritten by what the program leaves of it.
-use Prim.Native.Nat.{◌-◌}
 use mathlib.Core.Path.{◌∙◌}
 use native.Mathlib.Omega.{arith}
 use Rattle.cells.proofs.CellLaws.{length-programmed, get_or_any, get_or-programmed}
@@ -13,9 +12,6 @@ pub loop-i-preserved : goal.loop-i-preserved
 loop-i-preserved c =
     rewritten_more _ c.loop-i.invariant (rw length-programmed (omega arith)) (omega arith)
     (get_or-programmed _ _ _ ∙ rw (rewritten_next c.loop-i.invariant, get_or_any c.args.«data».now c.loop-i.i 255 0 (omega arith)))
-
-pub shape_of-page : goal.shape_of-page
-shape_of-page c = c.loop-i.invariant.same
 
 pub returns : goal.returns
 returns c = rewritten_whole c.loop-i.invariant (length-programmed _ _) (omega arith)

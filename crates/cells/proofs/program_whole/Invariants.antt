@@ -1,12 +1,7 @@
 -- `cells::program_whole` meets its contract: `page` is rewritten by what the program leaves of it.
-use Prim.Native.Nat.{◌-◌}
-use lib.ListN.{length}
 use Rattle.cells.specs.Cells.{programmed}
 use Rattle.cells.proofs.RewriteLaws.{Rewritten}
 use Rattle.cells.proofs.program_whole.Given as goal
 
 abbrev pub invariant-loop-i : goal.invariant-loop-i
 invariant-loop-i l = Rewritten (programmed l.initial.page l.«data») l.initial.page l.page l.i
-
-abbrev pub decreases-loop-i : goal.decreases-loop-i
-decreases-loop-i l = length l.initial.page - l.i
