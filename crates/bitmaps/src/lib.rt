@@ -24,8 +24,7 @@ pub fn is_set(bits: &[u8], block: usize) -> bool
     requires { byte_of block < length bits.now }
     ensures { result ≡ bit_at bits.now block }
 {
-    let at = byte_of(block);
-    bits[at] & mask_of(block) != 0
+    bits[byte_of(block)] & mask_of(block) != 0
 }
 
 // Sets the bit of a block.
@@ -33,8 +32,7 @@ pub fn set_bit(bits: &mut [u8], block: usize)
     requires { byte_of block < length bits.old }
     ensures { bits.new ≡ with_bit bits.old block }
 {
-    let at = byte_of(block);
-    bits[at] = bits[at] | mask_of(block);
+    bits[byte_of(block)] |= mask_of(block);
 }
 
 // How many of the first n blocks have their bit set.
@@ -42,13 +40,11 @@ pub fn count_set(bits: &[u8], n: usize) -> usize
     requires { n ≤ 8 * length bits.now }
     ensures { result ≡ count_bits bits.now n }
 {
-    let mut count: usize = 0;
-    let mut block = 0;
-    while block < n {
+    let mut count = 0;
+    for block in 0..n {
         if is_set(bits, block) {
             count += 1;
         }
-        block += 1;
     }
     count
 }
@@ -59,12 +55,10 @@ fn are_bits_clear(bits: &[u8], from: usize, end: usize) -> bool
     requires end_bound { end ≤ 8 * length bits.now }
     ensures { result ≡ clear_from bits.now from (end - from) }
 {
-    let mut block = from;
-    while block < end {
+    for block in from..end {
         if is_set(bits, block) {
             return false;
         }
-        block += 1;
     }
     true
 }
@@ -75,11 +69,9 @@ fn are_bytes_clear(bits: &[u8], from: usize, end: usize) -> bool
     requires end_in_bounds { end ≤ length bits.now }
     ensures { result ≡ clear_from bits.now (8 * from) (8 * (end - from)) }
 {
-    let mut found: u8 = 0;
-    let mut at = from;
-    while at < end {
-        found = found | bits[at];
-        at += 1;
+    let mut found = 0;
+    for byte in &bits[from..end] {
+        found |= *byte;
     }
     found == 0
 }
@@ -95,13 +87,9 @@ pub fn is_clear_from(bits: &[u8], from: usize, end: usize) -> bool
     if last <= first {
         return are_bits_clear(bits, from, end);
     }
-    if !are_bits_clear(bits, from, 8 * first) {
-        return false;
-    }
-    if !are_bytes_clear(bits, first, last) {
-        return false;
-    }
-    are_bits_clear(bits, 8 * last, end)
+    are_bits_clear(bits, from, 8 * first)
+        && are_bytes_clear(bits, first, last)
+        && are_bits_clear(bits, 8 * last, end)
 }
 
 // Whether no block of the first bytes has its bit set in both bitmaps.
@@ -110,11 +98,9 @@ fn share_no_bit(first: &[u8], second: &[u8], bytes: usize) -> bool
     requires bytes_in_bounds_2 { bytes ≤ length second.now }
     ensures { result ≡ never_both first.now second.now (8 * bytes) }
 {
-    let mut shared: u8 = 0;
-    let mut at = 0;
-    while at < bytes {
-        shared = shared | first[at] & second[at];
-        at += 1;
+    let mut shared = 0;
+    for (at, byte) in first[..bytes].iter().enumerate() {
+        shared |= *byte & second[at];
     }
     shared == 0
 }
@@ -126,13 +112,9 @@ pub fn is_never_both(first: &[u8], second: &[u8], blocks: usize) -> bool
     ensures { result ≡ never_both first.now second.now blocks }
 {
     let bytes = byte_of(blocks);
-    let mut block = blocks;
-    while 8 * bytes < block {
-        block -= 1;
-        if is_set(first, block) {
-            if is_set(second, block) {
-                return false;
-            }
+    for block in (8 * bytes..blocks).rev() {
+        if is_set(first, block) && is_set(second, block) {
+            return false;
         }
     }
     share_no_bit(first, second, bytes)
@@ -143,10 +125,8 @@ fn spread(byte: u8, flags: &mut [u8; 4096], at: usize)
     requires { at + 8 ≤ 4096 }
     ensures { flags.new ≡ spread_bits byte at 8 flags.old }
 {
-    let mut place = 0;
-    while place < 8 {
+    for place in 0..8 {
         flags[at + place] = byte >> place & 1;
-        place += 1;
     }
 }
 
@@ -154,14 +134,12 @@ fn spread(byte: u8, flags: &mut [u8; 4096], at: usize)
 pub fn flags(first: &[u8; 512], second: &[u8; 512]) -> [u8; 4096]
     ensures { result ≡ flags_of first.now second.now 4096 }
 {
-    let mut flags = [0u8; 4096];
-    let mut at = 0;
-    while at < 512 {
-        let byte = first[at] | second[at];
-        if byte != 0 {
-            spread(byte, &mut flags, 8 * at);
+    let mut flags = [0; 4096];
+    for (at, byte) in first.iter().enumerate() {
+        let either = *byte | second[at];
+        if either != 0 {
+            spread(either, &mut flags, 8 * at);
         }
-        at += 1;
     }
     flags
 }

@@ -1,7 +1,6 @@
 -- `bitmaps::count_set` meets its contract. Assumes nothing.
 use Rattle.bitmaps.proofs.BitLaws.{count_set, count_clear}
 use mathlib.Core.Path.{refl, sym, ap, ◌∙◌}
-use Prim.Native.Nat.{◌-◌}
 use Rattle.bitmaps.specs.Bitmap.{count_bits}
 use native.Mathlib.Omega.{arith}
 use Rattle.bitmaps.proofs.count_set.Goals as goal
@@ -9,17 +8,17 @@ use Rattle.bitmaps.proofs.count_set.Goals.{then-is_set, else-is_set}
 
 pub loop-block-init : goal.loop-block-init
 unfolding count_bits
-loop-block-init c = (omega arith, refl, omega arith)
+loop-block-init c = (refl, omega arith)
 
 pub returns : goal.returns
-returns c = c.loop-block.invariant.1 ∙ ap (count_bits c.args.bits.now) (omega arith)
+returns c = c.loop-block.invariant.0 ∙ ap (count_bits c.args.bits.now) (omega arith)
 
 pub loop-block-preserved : goal.loop-block-preserved
 loop-block-preserved c = elim c.if-is_set.branch [
   | then-is_set w ↦
       let t = sym c.is_set.ensures ∙ w.if-is_set.true in
-      (omega arith, omega (arith, w.count-is, c.loop-block.invariant.1, count_set c.args.bits.now c.loop-block.block t), omega (arith, w.count-is))
+      (omega (arith, w.count-is, c.loop-block.invariant.0, count_set c.args.bits.now c.loop-block.block t), omega (arith, w.count-is))
   | else-is_set w ↦
       let t = sym c.is_set.ensures ∙ w.if-is_set.false in
-      (omega arith, omega (arith, w.count-is, c.loop-block.invariant.1, count_clear c.args.bits.now c.loop-block.block t), omega (arith, w.count-is))
+      (omega (arith, w.count-is, c.loop-block.invariant.0, count_clear c.args.bits.now c.loop-block.block t), omega (arith, w.count-is))
 ]

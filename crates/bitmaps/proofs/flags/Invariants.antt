@@ -1,10 +1,6 @@
 -- `bitmaps::flags` meets its contract: the bytes of the blocks passed are their flags, the others 0. Assumes nothing.
-use Prim.Native.Nat.{◌-◌, ◌≤◌}
 use Rattle.bitmaps.proofs.ByteLaws.{Flagged}
 use Rattle.bitmaps.proofs.flags.Given as goal
 
 abbrev pub invariant-loop-at : goal.invariant-loop-at
-invariant-loop-at l = (l.at ≤ 512) × Flagged l.first l.second l.flags l.at
-
-abbrev pub decreases-loop-at : goal.decreases-loop-at
-decreases-loop-at l = 512 - l.at
+invariant-loop-at l = Flagged l.first l.second l.flags l.at

@@ -4,15 +4,24 @@ use mathlib.Core.Path.{sym, ◌∙◌}
 use native.Mathlib.Omega.{arith}
 use Rattle.bitmaps.proofs.ByteLaws.{clear_parts}
 use Rattle.bitmaps.proofs.is_clear_from.Goals as goal
+use Rattle.bitmaps.proofs.is_clear_from.Goals.{then-are_bits_clear, else-are_bits_clear}
 
-pub returns-then-not-are_bits_clear : goal.returns-then-not-are_bits_clear
-returns-then-not-are_bits_clear c =
-    rw (clear_parts c.args.bits.now c.args.from (c.byte_of-first.result + 1) c.byte_of-last.result c.args.end (omega (arith, c.byte_of-first.ensures)) (omega (arith, c.if-last-first.false)) (omega (arith, c.byte_of-last.ensures)), sym c.are_bits_clear-2.ensures ∙ c.if-not-are_bits_clear.true)
+pub returns-then-are_bytes_clear : goal.returns-then-are_bytes_clear
+returns-then-are_bytes_clear c =
+    let parts = clear_parts c.args.bits.now c.args.from (c.byte_of-first.result + 1) c.byte_of-last.result c.args.end (omega (arith, c.byte_of-first.ensures)) (omega arith) (omega (arith, c.byte_of-last.ensures)) in
+    elim c.if-are_bits_clear.branch [
+      | then-are_bits_clear w ↦
+          rw (parts, sym c.are_bits_clear-2.ensures ∙ w.if-are_bits_clear.true, sym w.are_bytes_clear.ensures ∙ sym w.value-is ∙ c.if-are_bytes_clear.true)
+          c.are_bits_clear-then-are_bytes_clear.ensures
+      | else-are_bits_clear w ↦ absurd (cc)
+    ]
 
-pub returns-then-not-are_bytes_clear : goal.returns-then-not-are_bytes_clear
-returns-then-not-are_bytes_clear c =
-    rw (clear_parts c.args.bits.now c.args.from (c.byte_of-first.result + 1) c.byte_of-last.result c.args.end (omega (arith, c.byte_of-first.ensures)) (omega (arith, c.if-last-first.false)) (omega (arith, c.byte_of-last.ensures)), sym c.are_bits_clear-2.ensures ∙ c.if-not-are_bits_clear.false, sym c.are_bytes_clear.ensures ∙ c.if-not-are_bytes_clear.true)
-
-pub returns : goal.returns
-returns c =
-    rw (clear_parts c.args.bits.now c.args.from (c.byte_of-first.result + 1) c.byte_of-last.result c.args.end (omega (arith, c.byte_of-first.ensures)) (omega (arith, c.if-last-first.false)) (omega (arith, c.byte_of-last.ensures)), sym c.are_bits_clear-2.ensures ∙ c.if-not-are_bits_clear.false, sym c.are_bytes_clear.ensures ∙ c.if-not-are_bytes_clear.false) c.are_bits_clear-3.ensures
+pub returns-else-are_bytes_clear : goal.returns-else-are_bytes_clear
+returns-else-are_bytes_clear c =
+    let parts = clear_parts c.args.bits.now c.args.from (c.byte_of-first.result + 1) c.byte_of-last.result c.args.end (omega (arith, c.byte_of-first.ensures)) (omega arith) (omega (arith, c.byte_of-last.ensures)) in
+    elim c.if-are_bits_clear.branch [
+      | then-are_bits_clear w ↦
+          rw (parts, sym c.are_bits_clear-2.ensures ∙ w.if-are_bits_clear.true, sym w.are_bytes_clear.ensures ∙ sym w.value-is ∙ c.if-are_bytes_clear.false)
+          c.if-are_bytes_clear.false
+      | else-are_bits_clear w ↦ rw (parts, sym c.are_bits_clear-2.ensures ∙ w.if-are_bits_clear.false) c.if-are_bytes_clear.false
+    ]

@@ -6,4 +6,4 @@ use Rattle.bitmaps.proofs.is_set.Goals as goal
 
 pub returns : goal.returns
 unfolding bit_at
-returns c = rw (c.byte_of-at.ensures, c.mask_of.ensures) (bit_tested (get_or c.args.bits.now (byte_of c.args.block) 0) (place_of c.args.block))
+returns c = rw (c.byte_of.ensures, c.mask_of.ensures) (bit_tested (get_or c.args.bits.now (byte_of c.args.block) 0) (place_of c.args.block))

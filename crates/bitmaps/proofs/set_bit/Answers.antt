@@ -4,4 +4,4 @@ use Rattle.bitmaps.proofs.set_bit.Goals as goal
 
 pub returns : goal.returns
 unfolding with_bit
-returns c = rw (c.byte_of-at.ensures, c.mask_of.ensures)
+returns c = rw (c.byte_of.ensures, c.mask_of.ensures)

@@ -1,20 +1,26 @@
 -- `bitmaps::share_no_bit` meets its contract: what is shared is 0 exactly where no block passed has both bits. Assumes nothing.
-use Prim.Native.Nat.{ℕ, ◌-◌, ◌*◌}
+use Prim.Native.Nat.{ℕ, ◌*◌, ◌<◌}
 use mathlib.Core.Path.{◌≡◌, refl, ap, ◌∙◌}
 use native.Mathlib.Omega.{arith}
+use lib.Seq.{get_or-take, length-take-le}
 use Rattle.bitmaps.specs.Bitmap.{never_both}
 use Rattle.bitmaps.proofs.ByteLaws.{share_on}
 use Rattle.bitmaps.proofs.share_no_bit.Goals as goal
 
 pub loop-at-init : goal.loop-at-init
 unfolding never_both
-loop-at-init c = (omega arith, refl)
+loop-at-init c = refl
 
 pub loop-at-preserved : goal.loop-at-preserved
 loop-at-preserved c =
-    (omega arith, share_on c.args.first.now c.args.second.now c.loop-at.at c.loop-at.shared (omega (arith, c.shared_slice_known-1.given c.loop-at.at)) (omega (arith, c.shared_slice_known-in-loop-at-1.given c.loop-at.at)) c.loop-at.invariant.1)
+    let at = c.loop-at.at in
+    let all = length-take-le c.args.bytes c.args.first.now (omega arith) in
+    let below : at < c.args.bytes = omega (arith, all) in
+    rw (get_or-take c.args.bytes c.args.first.now at 0 below)
+    (share_on c.args.first.now c.args.second.now at c.loop-at.shared (omega (arith, c.type_inv.first at)) (omega (arith, c.type_inv.second at)) c.loop-at.invariant)
 
 pub returns : goal.returns
 returns c =
-    let e : c.loop-at.at ≡ c.args.bytes = omega arith in
-    c.loop-at.invariant.1 ∙ ap (λ (n : ℕ). never_both c.args.first.now c.args.second.now (8 * n)) e
+    let all = length-take-le c.args.bytes c.args.first.now (omega arith) in
+    let e : c.loop-at.at ≡ c.args.bytes = omega (arith, all) in
+    c.loop-at.invariant ∙ ap (λ (n : ℕ). never_both c.args.first.now c.args.second.now (8 * n)) e

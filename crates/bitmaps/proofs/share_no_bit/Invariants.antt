@@ -1,12 +1,9 @@
 -- `bitmaps::share_no_bit` meets its contract: what is shared is 0 exactly where no block passed has both bits. Assumes nothing.
-use Prim.Native.Nat.{◌-◌, ◌*◌, ◌≤◌}
+use Prim.Native.Nat.{◌*◌}
 use mathlib.Core.Path.{◌≡◌}
 use lib.Dec.{eqb}
 use Rattle.bitmaps.specs.Bitmap.{never_both}
 use Rattle.bitmaps.proofs.share_no_bit.Given as goal
 
 abbrev pub invariant-loop-at : goal.invariant-loop-at
-invariant-loop-at l = (l.at ≤ l.bytes) × (eqb l.shared 0 ≡ never_both l.first l.second (8 * l.at))
-
-abbrev pub decreases-loop-at : goal.decreases-loop-at
-decreases-loop-at l = l.bytes - l.at
+invariant-loop-at l = eqb l.shared 0 ≡ never_both l.first l.second (8 * l.at)

@@ -1,5 +1,5 @@
 -- `bitmaps::spread` meets its contract: the bits passed are written. Assumes nothing.
-use Prim.Native.Nat.{ℕ, ◌-◌}
+use Prim.Native.Nat.{ℕ}
 use mathlib.Core.Path.{◌≡◌, refl, ap, ◌∙◌}
 use native.Mathlib.Omega.{arith}
 use Rattle.bitmaps.specs.Bitmap.{spread_bits}
@@ -8,13 +8,13 @@ use Rattle.bitmaps.proofs.spread.Goals as goal
 
 pub loop-place-init : goal.loop-place-init
 unfolding spread_bits
-loop-place-init c = (omega arith, refl)
+loop-place-init c = refl
 
 pub loop-place-preserved : goal.loop-place-preserved
 loop-place-preserved c =
-    (omega arith, spread_on c.args.byte c.args.at c.args.flags.now c.loop-place.place c.loop-place.flags _ c.loop-place.invariant.1 refl)
+    spread_on c.args.byte c.args.at c.args.flags.now c.loop-place.place c.loop-place.flags _ c.loop-place.invariant refl
 
 pub returns : goal.returns
 returns c =
     let e : c.loop-place.place ≡ 8 = omega arith in
-    c.loop-place.invariant.1 ∙ ap (λ (n : ℕ). spread_bits c.args.byte c.args.at n c.args.flags.now) e
+    c.loop-place.invariant ∙ ap (λ (n : ℕ). spread_bits c.args.byte c.args.at n c.args.flags.now) e

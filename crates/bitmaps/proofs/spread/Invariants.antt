@@ -1,11 +1,7 @@
 -- `bitmaps::spread` meets its contract: the bits passed are written. Assumes nothing.
-use Prim.Native.Nat.{◌-◌, ◌≤◌}
 use mathlib.Core.Path.{◌≡◌}
 use Rattle.bitmaps.specs.Bitmap.{spread_bits}
 use Rattle.bitmaps.proofs.spread.Given as goal
 
 abbrev pub invariant-loop-place : goal.invariant-loop-place
-invariant-loop-place l = (l.place ≤ 8) × (l.flags ≡ spread_bits l.byte l.at l.place l.initial.flags)
-
-abbrev pub decreases-loop-place : goal.decreases-loop-place
-decreases-loop-place l = 8 - l.place
+invariant-loop-place l = l.flags ≡ spread_bits l.byte l.at l.place l.initial.flags
