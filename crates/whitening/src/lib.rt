@@ -27,11 +27,9 @@ fn begin(stream: &mut [u8; MOST_BYTES], page: usize)
     ensures begins { Begins 15 (page + 1) stream.new }
 {
     let mut register = page + 1;
-    let mut at = 0;
-    while at < FIRST_BYTES {
-        stream[at] = (register / 128) as u8;
+    for byte in &mut stream[..FIRST_BYTES] {
+        *byte = (register / 128) as u8;
         register = after_byte(register);
-        at += 1;
     }
 }
 
@@ -45,10 +43,8 @@ fn extend(stream: &mut [u8; MOST_BYTES], apart: usize, end: usize)
 {
     let far = 15 * apart;
     let near = 14 * apart;
-    let mut at = far;
-    while at < end {
+    for at in far..end {
         stream[at] = stream[at - far] ^ stream[at - near];
-        at += 1;
     }
 }
 
@@ -58,10 +54,8 @@ fn mix(bytes: &mut [u8], stream: &[u8; MOST_BYTES])
     requires stream_len { length stream.now ≡ 4096 }
     ensures { bytes.new ≡ xored bytes.old stream.now }
 {
-    let mut i = 0;
-    while i < bytes.len() {
-        bytes[i] = bytes[i] ^ stream[i];
-        i += 1;
+    for (i, byte) in bytes.iter_mut().enumerate() {
+        *byte ^= stream[i];
     }
 }
 

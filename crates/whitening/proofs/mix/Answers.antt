@@ -1,5 +1,4 @@
 -- `whitening::mix` meets its contract: the bytes are rewritten by what the XOR makes of them. Assumes nothing.
-use Prim.Native.Nat.{◌-◌}
 use mathlib.Core.Path.{◌∙◌}
 use native.Mathlib.Omega.{arith}
 use Rattle.cells.proofs.RewriteLaws.{rewritten_none, rewritten_next, rewritten_more, rewritten_whole}
@@ -13,9 +12,6 @@ pub loop-i-preserved : goal.loop-i-preserved
 loop-i-preserved c =
     rewritten_more _ c.loop-i.invariant (rw length-xored (omega arith)) (omega arith)
     (get_or-xored _ _ _ (omega arith) ∙ rw (rewritten_next c.loop-i.invariant))
-
-pub shape_of-bytes : goal.shape_of-bytes
-shape_of-bytes c = c.loop-i.invariant.same
 
 pub returns : goal.returns
 returns c = rewritten_whole c.loop-i.invariant (length-xored _ _) (omega arith)
