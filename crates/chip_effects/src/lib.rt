@@ -19,11 +19,8 @@ pub fn program_part(row: usize, g: Geometry, array: &mut [u8], data: &[u8], mask
     ensures { array.new ≡ put (row * page_size g) (programmed (part (row * page_size g) (page_size g) array.old) (weakened «data».now mask.now)) array.old }
 {
     let at = geometry::row_start(g, row);
-    let size = geometry::page_size(g);
-    let end = at + size;
-    let first = 0;
-    let past = first + size;
-    cells::program_masked(&mut array[at..end], data, &mask[first..past]);
+    let end = at + geometry::page_size(g);
+    cells::program_masked(&mut array[at..end], data, mask);
 }
 
 // A passed program: every bit that the data has clear is cleared.
