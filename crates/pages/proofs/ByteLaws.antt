@@ -1,104 +1,77 @@
 -- Laws of bytes: the count of zero bits of a part, numbers of two, four and eight bytes, the stores that make a page's spare bytes. Assumes nothing.
-use Rattle.pages.proofs.CheckLaws.{zero_bits-append}
 use Rattle.pages.proofs.LayoutLaws.{Kinds, no_kind, narrow, wide, by_kind, length-bytes_of}
-use Prim.Native.Nat.{ℕ, suc, ◌+◌, ◌-◌, ◌*◌, ◌/◌, ◌%◌, ◌≤◌, ◌<◌, zero-le}
+use Prim.Native.Nat.{ℕ, zero, suc, ◌^◌, ◌+◌, ◌-◌, ◌*◌, ◌/◌, ◌%◌, ◌≤◌, ◌<◌}
 use mathlib.Core.Path.{◌≡◌, refl, sym, ap, ap₂, ◌∙◌}
-use mathlib.Core.Bool.{true, false}
-use mathlib.Core.List.{List, [], ◌∷◌, ◌++◌, append_assoc, append-nil}
-use native.Mathlib.Nat.{add-zero, add_assoc, div-div-eq-div-mul}
-use native.Mathlib.Numerals.{add-one}
+use mathlib.Core.Bool.{Bool, true, false, cond, ◌&&◌}
+use Rattle.std.specs.List.{list_all}
+use Rattle.std.specs.Int.{w64, byte_at, bytes_low_first, to_le_bytes, from_le_bytes}
+use Rattle.std.proofs.lemmas.List.{drop-replicate}
+use Rattle.std.proofs.lemmas.List.Recursion.{same_from_clauses}
+use mathlib.Core.List.{List, [], ◌∷◌, ◌++◌, append_assoc}
+use native.Mathlib.Nat.{add-zero, add_assoc, div-div-eq-div-mul, div-one, pow-suc}
 use native.Mathlib.Omega.{arith}
-use borrow.Author.Tests.{ne_eqb}
 use lib.Dec.{eqb}
-use lib.Count.{ones}
-use lib.ListN.{length, get_or, take, drop, set, replicate, length-append, length-drop, length-set, take-append-drop, drop_of_length-le, length-replicate, replicate-append-replicate}
-use lib.Seq.{length-take-le, take-suc, take_all, drop-cons, drop-drop, get_or-drop, set_split, take_at, drop_at}
+use lib.ListN.{length, get_or, take, drop, set, replicate, length-append, length-drop, length-replicate}
+use lib.Seq.{length-take-le, take_all, drop-drop, get_or-drop, set_split, take_at, drop_at}
 use Rattle.cells.specs.Part.{put}
 use Rattle.cells.proofs.PartLaws.{length-put}
 use Rattle.pages.specs.Check.{zero_bits}
 use Rattle.pages.specs.Layout.{all_ones, bytes_of, number_of, number_width, kind_of, label_of, stored_check, counted_check, whole, encoded, label, label_bytes}
 
--- sum is the count of zero bits of the first i bytes
-pub record Counted (bytes : List ℕ) (sum i : ℕ) : Type 0 where
-  pub within : i ≤ length bytes
-  pub small : sum ≤ 8 * i
-  pub is : sum ≡ zero_bits (take i bytes)
+and_is-cond : (a b : Bool) → (a && b) ≡ cond a b false
+and_is-cond true b = refl
+and_is-cond false b = refl
 
-pub counted_none : (bytes : List ℕ) → Counted bytes 0 0
-unfolding zero_bits
-counted_none bytes = record { within = zero-le; small = zero-le; is = refl }
-
-pub counted_more : {bytes : List ℕ} {sum i : ℕ} (n : ℕ) → Counted bytes sum i → i < length bytes → n ≡ ones (get_or bytes i 0)
-    → Counted bytes (sum + (8 - n)) (i + 1)
-unfolding zero_bits
-counted_more {bytes} {sum} {i} n r h e =
-    record {
-      within = omega arith;
-      small = omega arith;
-      is = rw (add-one, take-suc bytes i 0 h, zero_bits-append (take i bytes) (get_or bytes i 0 ∷ []), e, r.is, add-zero);
-    }
-
-pub counted-all : {bytes : List ℕ} {sum i : ℕ} → Counted bytes sum i → length bytes ≤ i → sum ≡ zero_bits bytes
-counted-all {bytes} {sum} {i} r h = r.is ∙ ap zero_bits (take_all i bytes h)
-
--- the first i bytes are FFh
-pub record Passed (bytes : List ℕ) (i : ℕ) : Type 0 where
-  pub within : i ≤ length bytes
-  pub is : all_ones bytes ≡ all_ones (drop i bytes)
-
-pub passed_none : (bytes : List ℕ) → Passed bytes 0
-passed_none bytes = record { within = zero-le; is = refl }
-
-pub passed_more : {bytes : List ℕ} {i : ℕ} → Passed bytes i → i < length bytes → get_or bytes i 0 ≡ 255 → Passed bytes (i + 1)
+-- whether every byte is FFh, in the words of std
+pub all_ones_is : (xs : List ℕ) → all_ones xs ≡ list_all (λ x. eqb x 255) xs
 unfolding all_ones
-passed_more {bytes} {i} r h e =
-    record {
-      within = omega arith;
-      is = r.is ∙ rw (add-one, drop-cons bytes i 0 h, e);
-    }
+all_ones_is xs =
+    same_from_clauses all_ones (list_all (λ x. eqb x 255)) (λ x r. cond (eqb x 255) r false)
+    refl (λ _ _. refl) (λ x ys. and_is-cond (eqb x 255) (list_all (λ y. eqb y 255) ys)) xs
 
-pub passed_not : {bytes : List ℕ} {i : ℕ} → Passed bytes i → i < length bytes → (get_or bytes i 0 ≡ 255 → ⊥) → false ≡ all_ones bytes
-unfolding all_ones
-passed_not {bytes} {i} r h n = sym (r.is ∙ rw (drop-cons bytes i 0 h, ne_eqb (get_or bytes i 0) 255 n))
+-- the bytes of a number, and the number of eight bytes, in the words of std
+byte_at_is : (i n : ℕ) → byte_at i n ≡ n / 256 ^ i % 256
+byte_at_is zero n = rw div-one
+byte_at_is (suc i) n = refl
 
-pub passed_all : {bytes : List ℕ} {i : ℕ} → Passed bytes i → length bytes ≤ i → true ≡ all_ones bytes
-unfolding all_ones
-passed_all {bytes} {i} r h = sym (r.is ∙ rw (drop_of_length-le bytes {i = i} h))
+pub low_bytes : (i k n : ℕ) → bytes_low_first i k n ≡ bytes_of k (n / 256 ^ i)
+unfolding bytes_of
+low_bytes i zero n = refl
+low_bytes i (suc k) n =
+    let next : n / 256 ^ suc i ≡ n / 256 ^ i / 256 = rw pow-suc (sym (div-div-eq-div-mul n (256 ^ i) 256)) in
+    ap₂ ◌∷◌ (byte_at_is i n) (low_bytes (suc i) k n ∙ ap (bytes_of k) next)
 
--- a number of two bytes
-pub pair_is : (at : ℕ) (xs : List ℕ) → at + 2 ≤ length xs → number_of (take 2 (drop at xs)) ≡ get_or xs at 0 + 256 * get_or xs (at + 1) 0
+pub bytes_is : (n : ℕ) → to_le_bytes w64 n ≡ bytes_of 8 n
+bytes_is n = low_bytes 0 8 n ∙ ap (bytes_of 8) (div-one n)
+
+number_is-eight : (a b c d e f g h : ℕ)
+    → from_le_bytes w64 (a ∷ b ∷ c ∷ d ∷ e ∷ f ∷ g ∷ h ∷ []) ≡ number_of (a ∷ b ∷ c ∷ d ∷ e ∷ f ∷ g ∷ h ∷ [])
 unfolding number_of
-pair_is at xs h =
-    let l : at < length xs = omega arith in
-    let m : suc at < length xs = omega arith in
-    rw (drop-cons xs at 0 l, drop-cons xs (suc at) 0 m, add-one) (omega arith)
+number_is-eight a b c d e f g h = omega arith
 
-pub pair_lt : (at : ℕ) (xs : List ℕ) → at + 2 ≤ length xs → get_or xs at 0 < 256 → get_or xs (at + 1) 0 < 256 → number_of (take 2 (drop at xs)) < 65536
-pair_lt at xs h p q = rw (pair_is at xs h) (omega arith)
+pub eight_is : (xs : List ℕ) → length xs ≡ 8 → from_le_bytes w64 xs ≡ number_of xs
+eight_is [] l = absurd (omega (arith, l))
+eight_is (a ∷ []) l = absurd (omega (arith, l))
+eight_is (a ∷ b ∷ []) l = absurd (omega (arith, l))
+eight_is (a ∷ b ∷ c ∷ []) l = absurd (omega (arith, l))
+eight_is (a ∷ b ∷ c ∷ d ∷ []) l = absurd (omega (arith, l))
+eight_is (a ∷ b ∷ c ∷ d ∷ e ∷ []) l = absurd (omega (arith, l))
+eight_is (a ∷ b ∷ c ∷ d ∷ e ∷ f ∷ []) l = absurd (omega (arith, l))
+eight_is (a ∷ b ∷ c ∷ d ∷ e ∷ f ∷ g ∷ []) l = absurd (omega (arith, l))
+eight_is (a ∷ b ∷ c ∷ d ∷ e ∷ f ∷ g ∷ h ∷ []) l = number_is-eight a b c d e f g h
+eight_is (a ∷ b ∷ c ∷ d ∷ e ∷ f ∷ g ∷ h ∷ x ∷ xs) l = absurd (omega (arith, l))
 
--- two bytes and those after them
-number_pair : (k : ℕ) (xs : List ℕ) → 2 ≤ length xs → number_of (take (suc (suc k)) xs) ≡ number_of (take 2 xs) + 65536 * number_of (take k (drop 2 xs))
+-- zeros behind the bytes add nothing
+pub number_of-zeros : (n : ℕ) (xs : List ℕ) → number_of (xs ++ replicate n 0) ≡ number_of xs
 unfolding number_of
-number_pair k [] h = absurd (omega (arith, h))
-number_pair k (a ∷ []) h = absurd (omega (arith, h))
-number_pair k (a ∷ b ∷ xs) h = omega arith
+number_of-zeros zero [] = refl
+number_of-zeros (suc n) [] = omega (arith, number_of-zeros n [])
+number_of-zeros n (x ∷ xs) = ap (λ (k : ℕ). x + 256 * k) (number_of-zeros n xs)
 
--- a number of k + 2 bytes at a place is one of two bytes and one of k
-pair_and : (k at : ℕ) (xs : List ℕ) → at + 2 ≤ length xs
-    → number_of (take (suc (suc k)) (drop at xs)) ≡ number_of (take 2 (drop at xs)) + 65536 * number_of (take k (drop (at + 2) xs))
-pair_and k at xs h = number_pair k (drop at xs) (rw length-drop (omega (arith, h))) ∙ rw (drop-drop 2 at xs)
-
--- a number of four bytes is one of two numbers of two bytes, and one of eight of two of four
-pub four_is : (at : ℕ) (xs : List ℕ) → at + 4 ≤ length xs
-    → number_of (take 4 (drop at xs)) ≡ number_of (take 2 (drop at xs)) + 65536 * number_of (take 2 (drop (at + 2) xs))
-four_is at xs h = pair_and 2 at xs (omega (arith, h))
-
-pub eight_is : (at : ℕ) (xs : List ℕ) → at + 8 ≤ length xs
-    → number_of (take 8 (drop at xs)) ≡ number_of (take 4 (drop at xs)) + 4294967296 * number_of (take 4 (drop (at + 4) xs))
-eight_is at xs h =
-    let e : at + 2 + 2 ≡ at + 4 = omega arith in
-    let next : number_of (take 4 (drop (at + 2 + 2) xs)) ≡ number_of (take 4 (drop (at + 4) xs)) = ap (λ (k : ℕ). number_of (take 4 (drop k xs))) e in
-    omega (arith, pair_and 6 at xs (omega (arith, h)), pair_and 4 (at + 2) xs (omega (arith, h)), next, four_is at xs (omega (arith, h)))
+pub number_padded : (xs ys : List ℕ) → length xs ≤ 8 → ys ≡ xs → from_le_bytes w64 (ys ++ drop (length xs) (replicate 8 0)) ≡ number_of xs
+number_padded xs ys h e =
+    let long : length (xs ++ replicate (8 - length xs) 0) ≡ 8 = simp (length-append, length-replicate) (omega arith) in
+    rw (e, drop-replicate {X = ℕ} (length xs) 8 0) (eight_is (xs ++ replicate (8 - length xs) 0) long ∙ number_of-zeros (8 - length xs) xs)
 
 -- a store of one element
 pub set-put : (at v : ℕ) (xs : List ℕ) → at < length xs → set xs at v ≡ put at (v ∷ []) xs
@@ -137,47 +110,6 @@ set_next at n v ys xs e h =
     let b : at + length ys ≤ length xs = rw e (omega arith) in
     set-put (at + n) v (put at ys xs) (rw (length-put at ys xs b) h) ∙ put_next at n (v ∷ []) ys xs e a
 
--- xs is start with FFh in each place of at least from and below i
-pub record Filled (start : List ℕ) (from : ℕ) (xs : List ℕ) (i : ℕ) : Type 0 where
-  pub least : from ≤ i
-  pub within : i ≤ length start
-  pub same : length xs ≡ length start
-  pub is : xs ≡ put from (replicate (i - from) 255) start
-
-pub filled_none : (start : List ℕ) (from : ℕ) → from ≤ length start → Filled start from start from
-unfolding put
-filled_none start from h =
-    let e : from - from ≡ 0 = omega arith in
-    record {
-      least = omega arith;
-      within = h;
-      same = refl;
-      is = rw e (sym (take-append-drop from start));
-    }
-
-pub filled_more : {start xs : List ℕ} {from i : ℕ} → Filled start from xs i → i < length start → Filled start from (set xs i 255) (i + 1)
-filled_more {start} {xs} {from} {i} r h =
-    let e : i ≡ from + (i - from) = omega arith in
-    let f : i + 1 - from ≡ i - from + 1 = omega arith in
-    record {
-      least = omega arith;
-      within = omega arith;
-      same = length-set xs i 255 ∙ r.same;
-      is =
-          ap (λ (l : List ℕ). set l i 255) r.is
-          ∙ ap (λ (k : ℕ). set (put from (replicate (i - from) 255) start) k 255) e
-          ∙ set_next from (i - from) 255 (replicate (i - from) 255) start (length-replicate (i - from) 255) (omega arith)
-          ∙ rw (f, replicate-append-replicate {A = ℕ} (i - from) 1 255);
-    }
-
-pub filled-all : {start xs : List ℕ} {from i : ℕ} → Filled start from xs i → length xs ≤ i → xs ≡ take from start ++ replicate (length start - from) 255
-filled-all {start} {xs} {from} {i} r h =
-    let e : i ≡ length start = omega arith in
-    let ys : List ℕ = replicate (i - from) 255 in
-    let n : length ys ≡ i - from = length-replicate (i - from) 255 in
-    let f : length start ≤ from + length ys = omega arith in
-    r.is ∙ put_split from ys start ∙ rw (drop_of_length-le start {i = from + length ys} f, append-nil, e)
-
 -- a kind's number has four bytes or eight
 pub width_eight : (k : ℕ) → (number_width k ≡ 0 → ⊥) → (number_width k ≡ 4 → ⊥) → number_width k ≡ 8
 width_eight k none four = by (by_kind k)
@@ -196,98 +128,59 @@ pub number_is : (main w : ℕ) (p : List ℕ) → number_width (kind_of main p) 
 unfolding label_of
 number_is main w p e = rw (e, drop-drop 5 main p)
 
-pub whole-none : (main : ℕ) (p : List ℕ) → number_width (kind_of main p) ≡ 0 → false ≡ whole main p
-unfolding whole
-whole-none main p e = rw e
-
-pub whole-first : (main : ℕ) (p : List ℕ) → (number_width (kind_of main p) ≡ 0 → ⊥) → (get_or p main 0 ≡ 255 → ⊥) → false ≡ whole main p
-unfolding whole
-whole-first main p n f =
-    rw (ne_eqb (number_width (kind_of main p)) 0 n, get_or-drop main p 0 0, add-zero, ne_eqb (get_or p main 0) 255 f)
-
-pub whole_rest : (main : ℕ) (p : List ℕ) → (number_width (kind_of main p) ≡ 0 → ⊥) → get_or p main 0 ≡ 255
-    → all_ones (drop (main + (7 + number_width (kind_of main p))) p) ≡ false → false ≡ whole main p
-unfolding whole
-whole_rest main p n f a =
-    rw (ne_eqb (number_width (kind_of main p)) 0 n, get_or-drop main p 0 0, add-zero, f, drop-drop (7 + number_width (kind_of main p)) main p, a)
-
-pub whole_check : (main : ℕ) (p : List ℕ) → (number_width (kind_of main p) ≡ 0 → ⊥) → get_or p main 0 ≡ 255
-    → all_ones (drop (main + (7 + number_width (kind_of main p))) p) ≡ true
-    → eqb (number_of (take 2 (drop (main + (5 + number_width (kind_of main p))) p))) (zero_bits (take (main + (5 + number_width (kind_of main p))) p)) ≡ whole main p
+-- a page is whole by the tests on its bytes, where its number has w of them
+pub whole_tests : (main w : ℕ) (p : List ℕ) → number_width (kind_of main p) ≡ w
+    → whole main p ≡ cond (eqb w 0) false
+    (cond (eqb (get_or p main 0) 255)
+    (cond (all_ones (drop (main + 5 + w + 2) p)) (eqb (number_of (take 2 (drop (main + 5 + w) p))) (zero_bits (take (main + 5 + w) p))) false)
+    false)
 unfolding whole stored_check counted_check
-whole_check main p n f a =
-    rw (ne_eqb (number_width (kind_of main p)) 0 n, get_or-drop main p 0 0, add-zero, f, drop-drop (7 + number_width (kind_of main p)) main p, a, drop-drop (5 + number_width (kind_of main p)) main p)
+whole_tests main w p e =
+    let rest : main + (7 + w) ≡ main + 5 + w + 2 = omega arith in
+    let check : main + (5 + w) ≡ main + 5 + w = omega arith in
+    rw (e, get_or-drop main p 0 0, add-zero, drop-drop (7 + w) main p, drop-drop (5 + w) main p, rest, check)
 
 -- what stands from a place to the end
 pub take_rest : (at : ℕ) (xs : List ℕ) → take (length xs - at) (drop at xs) ≡ drop at xs
 take_rest at xs = take_all (length xs - at) (drop at xs) (rw length-drop (omega arith))
 
--- a number of eight bytes is four of two
-four_pairs : (n : ℕ) → bytes_of 2 n ++ (bytes_of 2 (n / 65536) ++ (bytes_of 2 (n / 65536 / 65536) ++ bytes_of 2 (n / 65536 / 65536 / 65536))) ≡ bytes_of 8 n
-unfolding bytes_of
-four_pairs n =
-    let z : (m : ℕ) → m / 65536 ≡ m / 256 / 256 = λ m. sym (div-div-eq-div-mul m 256 256) in
-    rw (z n, z (n / 256 / 256), z (n / 256 / 256 / 256 / 256))
-
-pub number_written : (at n : ℕ) (xs p₁ p₂ p₃ p₄ : List ℕ) → at ≤ length xs
-    → p₁ ≡ put at (bytes_of 2 n) xs
-    → p₂ ≡ put (at + 2) (bytes_of 2 (n / 65536)) p₁
-    → p₃ ≡ put (at + 4) (bytes_of 2 (n / 65536 / 65536)) p₂
-    → p₄ ≡ put (at + 6) (bytes_of 2 (n / 65536 / 65536 / 65536)) p₃
-    → p₄ ≡ put at (bytes_of 8 n) xs
-number_written at n xs p₁ p₂ p₃ p₄ h e₁ e₂ e₃ e₄ =
-    let b₁ : List ℕ = bytes_of 2 n in
-    let b₂ : List ℕ = bytes_of 2 (n / 65536) in
-    let b₃ : List ℕ = bytes_of 2 (n / 65536 / 65536) in
-    let b₄ : List ℕ = bytes_of 2 (n / 65536 / 65536 / 65536) in
-    let k₁ : length b₁ ≡ 2 = length-bytes_of 2 n in
-    let k₂ : length (b₁ ++ b₂) ≡ 4 = length-append b₁ b₂ ∙ ap₂ ◌+◌ k₁ (length-bytes_of 2 (n / 65536)) in
-    let k₃ : length ((b₁ ++ b₂) ++ b₃) ≡ 6 = length-append (b₁ ++ b₂) b₃ ∙ ap₂ ◌+◌ k₂ (length-bytes_of 2 (n / 65536 / 65536)) in
-    let q₂ : p₂ ≡ put at (b₁ ++ b₂) xs = e₂ ∙ ap (put (at + 2) b₂) e₁ ∙ put_next at 2 b₂ b₁ xs k₁ h in
-    let q₃ : p₃ ≡ put at ((b₁ ++ b₂) ++ b₃) xs = e₃ ∙ ap (put (at + 4) b₃) q₂ ∙ put_next at 4 b₃ (b₁ ++ b₂) xs k₂ h in
-    let q₄ : p₄ ≡ put at (((b₁ ++ b₂) ++ b₃) ++ b₄) xs = e₄ ∙ ap (put (at + 6) b₄) q₃ ∙ put_next at 6 b₄ ((b₁ ++ b₂) ++ b₃) xs k₃ h in
-    q₄ ∙ ap (λ (ys : List ℕ). put at ys xs) (append_assoc (b₁ ++ b₂) b₃ b₄ ∙ append_assoc b₁ b₂ (b₃ ++ b₄) ∙ four_pairs n)
-
 -- the bytes of a label whose number has eight, as they are stored
-label_bytes_lem : (kind logical place number : ℕ) → number_width kind ≡ 8 → place < 256
-    → (255 ∷ kind ∷ (bytes_of 2 logical ++ (place % 256 ∷ []))) ++ bytes_of 8 number ≡ label_bytes (label kind logical place number)
+label_bytes_lem : (kind logical place number : ℕ) → number_width kind ≡ 8
+    → (255 ∷ kind ∷ (bytes_of 2 logical ++ (place ∷ []))) ++ bytes_of 8 number ≡ label_bytes (label kind logical place number)
 unfolding label_bytes bytes_of
-label_bytes_lem kind logical place number w h =
-    let a : place % 256 ≡ place = omega arith in
-    rw (w, a)
+label_bytes_lem kind logical place number w = rw w
 
 -- the stores that make a page's spare bytes, in their order
-pub finished : (main kind logical place number check : ℕ) (xs p₁ p₂ p₃ p₄ : List ℕ) → main + 16 ≤ length xs → number_width kind ≡ 8 → place < 256
+pub finished : (main kind logical place number check : ℕ) (xs p₁ p₂ p₃ p₄ : List ℕ) → main + 16 ≤ length xs → number_width kind ≡ 8
     → p₁ ≡ put (main + 2) (bytes_of 2 logical) (set (set xs main 255) (main + 1) kind)
-    → p₂ ≡ put (main + 5) (bytes_of 8 number) (set p₁ (main + 4) (place % 256))
+    → p₂ ≡ put (main + 5) (bytes_of 8 number) (set p₁ (main + 4) place)
     → check ≡ zero_bits (take (main + 13) p₂)
     → p₃ ≡ put (main + 13) (bytes_of 2 check) p₂
     → p₄ ≡ take (main + 15) p₃ ++ replicate (length p₃ - (main + 15)) 255
     → p₄ ≡ encoded (length xs - main) (label kind logical place number) (take main xs)
 unfolding encoded
-finished main kind logical place number check xs p₁ p₂ p₃ p₄ h w b e₁ e₂ e₃ e₄ e₅ =
+finished main kind logical place number check xs p₁ p₂ p₃ p₄ h w e₁ e₂ e₃ e₄ e₅ =
     let m : main ≤ length xs = omega arith in
     let ls : List ℕ = bytes_of 2 logical in
     let ns : List ℕ = bytes_of 8 number in
     let cs : List ℕ = bytes_of 2 check in
-    let v : ℕ = place % 256 in
     let s₁ : List ℕ = 255 ∷ [] in
     let s₂ : List ℕ = 255 ∷ kind ∷ [] in
     let s₄ : List ℕ = 255 ∷ kind ∷ ls in
-    let s₅ : List ℕ = 255 ∷ kind ∷ (ls ++ (v ∷ [])) in
+    let s₅ : List ℕ = 255 ∷ kind ∷ (ls ++ (place ∷ [])) in
     let k₄ : length s₄ ≡ 4 = ap (λ (n : ℕ). suc (suc n)) (length-bytes_of 2 logical) in
-    let k₅ : length s₅ ≡ 5 = ap (λ (n : ℕ). suc (suc n)) (length-append ls (v ∷ []) ∙ ap (λ (n : ℕ). n + 1) (length-bytes_of 2 logical)) in
+    let k₅ : length s₅ ≡ 5 = ap (λ (n : ℕ). suc (suc n)) (length-append ls (place ∷ []) ∙ ap (λ (n : ℕ). n + 1) (length-bytes_of 2 logical)) in
     let k : length (s₅ ++ ns) ≡ 13 = length-append s₅ ns ∙ ap₂ ◌+◌ k₅ (length-bytes_of 8 number) in
     let kc : length ((s₅ ++ ns) ++ cs) ≡ 15 = length-append (s₅ ++ ns) cs ∙ ap₂ ◌+◌ k (length-bytes_of 2 check) in
     let q₁ : set xs main 255 ≡ put main s₁ xs = set-put main 255 xs (omega arith) in
     let q₂ : set (set xs main 255) (main + 1) kind ≡ put main s₂ xs = rw q₁ (set_next main 1 kind s₁ xs refl (omega arith)) in
     let q₄ : p₁ ≡ put main s₄ xs = e₁ ∙ rw q₂ (put_next main 2 ls s₂ xs refl m) in
-    let q₅ : set p₁ (main + 4) v ≡ put main s₅ xs = rw q₄ (set_next main 4 v s₄ xs k₄ (omega arith)) in
+    let q₅ : set p₁ (main + 4) place ≡ put main s₅ xs = rw q₄ (set_next main 4 place s₄ xs k₄ (omega arith)) in
     let q : p₂ ≡ put main (s₅ ++ ns) xs = e₂ ∙ rw q₅ (put_next main 5 ns s₅ xs k₅ m) in
     let qc : p₃ ≡ put main ((s₅ ++ ns) ++ cs) xs = e₄ ∙ rw q (put_next main 13 cs (s₅ ++ ns) xs k m) in
     let same : length p₃ ≡ length xs = ap length qc ∙ length-put main ((s₅ ++ ns) ++ cs) xs (omega (arith, kc)) in
     let counted : check ≡ zero_bits (take main xs ++ (s₅ ++ ns)) = e₃ ∙ rw (q, take_put main 13 (s₅ ++ ns) xs k m) in
     let front : take (main + 15) p₃ ≡ (take main xs ++ (s₅ ++ ns)) ++ cs = rw qc (take_put main 15 ((s₅ ++ ns) ++ cs) xs kc m ∙ sym (append_assoc (take main xs) (s₅ ++ ns) cs)) in
     let spare : length p₃ - (main + 15) ≡ length xs - main - 15 = omega arith in
-    let bytes : s₅ ++ ns ≡ label_bytes (label kind logical place number) = label_bytes_lem kind logical place number w b in
+    let bytes : s₅ ++ ns ≡ label_bytes (label kind logical place number) = label_bytes_lem kind logical place number w in
     e₅ ∙ rw (front, spare, w, ← bytes, ← counted) (append_assoc (take main xs ++ (s₅ ++ ns)) cs _)

@@ -20,24 +20,11 @@ const NARROW_DATA: u8 = 0x44;
 
 const NARROW_TABLE: u8 = 0x54;
 
-fn wide(x: u8) -> usize
-    ensures { result ≡ x }
+// The zero bits of a byte.
+fn zeros_of(x: u8) -> u8
+    ensures { (result ≡ 8 - ones x) × (result ≤ 8) }
 {
-    x as usize
-}
-
-// A byte as a part of a sum: a page's zero bits fit 16 bits.
-fn wide_sum(x: u8) -> u16
-    ensures { (result ≡ x) × (result ≤ 255) }
-{
-    x as u16
-}
-
-// The set bits of a byte.
-fn ones_of(x: u8) -> u8
-    ensures { (result ≡ ones x) × (result ≤ 8) }
-{
-    u8::count_ones(x) as u8
+    8 - x.count_ones() as u8
 }
 
 // Adds the zero bits of each byte of a row, eight less its ones, to the count at its place. A count is a byte, so that no byte is
@@ -50,10 +37,8 @@ fn add_zeros(counts: &mut [u8; 256], row: &[u8])
     ensures counts_after { total counts.new ≡ total counts.old + zero_bits row.now }
     ensures by_index_2 { (j : ℕ) → get_or counts.new j 0 ≤ get_or counts.old j 0 + 8 }
 {
-    let mut i = 0;
-    while i < 256 {
-        counts[i] = counts[i] + (8 - ones_of(row[i]));
-        i += 1;
+    for (i, count) in counts.iter_mut().enumerate() {
+        *count += zeros_of(row[i]);
     }
 }
 
@@ -62,13 +47,7 @@ fn total(counts: &[u8; 256]) -> u16
     requires { length counts.now ≡ 256 }
     ensures { result ≡ total counts.now }
 {
-    let mut sum: u16 = 0;
-    let mut i = 0;
-    while i < 256 {
-        sum += wide_sum(counts[i]);
-        i += 1;
-    }
-    sum
+    counts.iter().map(|count| u16::from(*count)).sum()
 }
 
 // The zero bits of bytes that make no row: eight less the ones of each, summed.
@@ -76,13 +55,7 @@ fn rest_zero_bits(bytes: &[u8]) -> u16
     requires { length bytes.now ≤ 255 }
     ensures { result ≡ zero_bits bytes.now }
 {
-    let mut sum: u16 = 0;
-    let mut i = 0;
-    while i < bytes.len() {
-        sum += wide_sum(8 - ones_of(bytes[i]));
-        i += 1;
-    }
-    sum
+    bytes.iter().map(|byte| u16::from(zeros_of(*byte))).sum()
 }
 
 // The zero bits of some bytes: eight less the ones of each, summed by places in rows of 256, then over the places. At most 31 rows
@@ -91,43 +64,27 @@ pub fn zero_bits(bytes: &[u8]) -> usize
     requires { length bytes.now ≤ 8191 }
     ensures { result ≡ zero_bits bytes.now }
 {
-    let mut counts = [0u8; 256];
-    let mut at = 0;
-    while 256 <= bytes.len() - at {
-        let end = at + 256;
-        add_zeros(&mut counts, &bytes[at..end]);
-        at = end;
+    let mut counts = [0; 256];
+    let rows = bytes.chunks_exact(256);
+    let rest = rest_zero_bits(rows.remainder());
+    for row in rows {
+        add_zeros(&mut counts, row);
     }
-    let rows = total(&counts) as usize;
-    let rest = rest_zero_bits(&bytes[at..]) as usize;
-    rows + rest
+    usize::from(total(&counts)) + usize::from(rest)
 }
 
 // Whether every byte is FFh.
 pub fn all_ones(bytes: &[u8]) -> bool
     ensures { result ≡ all_ones bytes.now }
 {
-    let mut i = 0;
-    while i < bytes.len() {
-        if bytes[i] != 255 {
-            return false;
-        }
-        i += 1;
-    }
-    true
+    bytes.iter().all(|byte| *byte == 255)
 }
 
 // Whether a kind is a data page's.
 pub fn is_data(kind: usize) -> bool
     ensures { result ≡ is_data_kind kind }
 {
-    if kind == NARROW_DATA as usize {
-        return true;
-    }
-    if kind == PLAIN_DATA as usize {
-        return true;
-    }
-    kind == DATA as usize
+    kind == usize::from(NARROW_DATA) || kind == usize::from(PLAIN_DATA) || kind == usize::from(DATA)
 }
 
 // Whether main bytes are stored whitened under a kind.
@@ -141,32 +98,28 @@ pub fn is_white(kind: u8) -> bool
 pub fn is_table(kind: usize) -> bool
     ensures { result ≡ is_table_kind kind }
 {
-    if kind == NARROW_TABLE as usize {
-        return true;
-    }
-    kind == TABLE as usize
+    kind == usize::from(NARROW_TABLE) || kind == usize::from(TABLE)
 }
 
 // The bytes of a page's number; 0 where the byte is no kind.
 pub fn number_width(kind: u8) -> usize
     ensures { result ≡ number_width kind }
 {
-    if kind == NARROW_DATA {
-        return 4;
+    match kind {
+        NARROW_DATA | NARROW_TABLE => 4,
+        PLAIN_DATA | DATA | TABLE => 8,
+        _ => 0,
     }
-    if kind == NARROW_TABLE {
-        return 4;
-    }
-    if kind == PLAIN_DATA {
-        return 8;
-    }
-    if kind == DATA {
-        return 8;
-    }
-    if kind == TABLE {
-        return 8;
-    }
-    0
+}
+
+// The number of at most eight bytes, low byte first.
+fn number_in(bytes: &[u8]) -> usize
+    requires { length bytes.now ≤ 8 }
+    ensures { result ≡ number_of bytes.now }
+{
+    let mut eight = [0; 8];
+    eight[..bytes.len()].copy_from_slice(bytes);
+    usize::from_le_bytes(eight)
 }
 
 // A number of two bytes, low byte first.
@@ -174,18 +127,7 @@ pub fn pair_at(bytes: &[u8], at: usize) -> usize
     requires { at + 2 ≤ length bytes.now }
     ensures { result ≡ number_of (take 2 (drop at bytes.now)) }
 {
-    let next = at + 1;
-    wide(bytes[at]) + 256 * wide(bytes[next])
-}
-
-// A number of four bytes, low byte first.
-fn four_at(bytes: &[u8], at: usize) -> usize
-    requires { at + 4 ≤ length bytes.now }
-    ensures { (result ≡ number_of (take 4 (drop at bytes.now))) × (result < 4294967296) }
-{
-    let low = pair_at(bytes, at);
-    let high = pair_at(bytes, at + 2);
-    low + 65536 * high
+    number_in(&bytes[at..at + 2])
 }
 
 // A number of eight bytes, low byte first.
@@ -193,9 +135,7 @@ pub fn number_at(bytes: &[u8], at: usize) -> usize
     requires { at + 8 ≤ length bytes.now }
     ensures { result ≡ number_of (part at 8 bytes.now) }
 {
-    let low = four_at(bytes, at);
-    let high = four_at(bytes, at + 4);
-    low + 4294967296 * high
+    number_in(&bytes[at..at + 8])
 }
 
 // The kind byte of a page.
@@ -203,8 +143,7 @@ pub fn kind_of(page: &[u8], main: usize) -> u8
     requires { Sized main page.now }
     ensures { result ≡ kind_of main page.now }
 {
-    let at = main + 1;
-    page[at]
+    page[main + 1]
 }
 
 // The logical block of a page.
@@ -220,8 +159,7 @@ pub fn place_of(page: &[u8], main: usize) -> usize
     requires { Sized main page.now }
     ensures { result ≡ (label_of main page.now).page }
 {
-    let at = main + 4;
-    wide(page[at])
+    usize::from(page[main + 4])
 }
 
 // The sequence number of a page.
@@ -229,15 +167,12 @@ pub fn number_of(page: &[u8], main: usize) -> u64
     requires { Sized main page.now }
     ensures { result ≡ (label_of main page.now).number }
 {
-    let width = number_width(kind_of(page, main));
-    if width == 0 {
-        return 0;
-    }
     let at = main + 5;
-    if width == 4 {
-        return four_at(page, at) as u64;
+    match number_width(kind_of(page, main)) {
+        0 => 0,
+        4 => number_in(&page[at..at + 4]) as u64,
+        _ => number_at(page, at) as u64,
     }
-    number_at(page, at) as u64
 }
 
 // Whether a page is whole: kind, check and FFh places are right.
@@ -246,18 +181,11 @@ pub fn is_whole(page: &[u8], main: usize) -> bool
     ensures { result ≡ whole main page.now }
 {
     let width = number_width(kind_of(page, main));
-    if width == 0 {
-        return false;
-    }
-    if page[main] != 255 {
-        return false;
-    }
     let check_at = main + 5 + width;
-    let rest = check_at + 2;
-    if all_ones(&page[rest..]) {
-        return pair_at(page, check_at) == zero_bits(&page[0..check_at]);
-    }
-    false
+    width != 0
+        && page[main] == 255
+        && all_ones(&page[check_at + 2..])
+        && pair_at(page, check_at) == zero_bits(&page[..check_at])
 }
 
 // Writes a number of two bytes, low byte first.
@@ -265,9 +193,7 @@ pub fn write_pair(bytes: &mut [u8], at: usize, number: usize)
     requires { at + 2 ≤ length bytes.old }
     ensures { bytes.new ≡ put at (bytes_of 2 number) bytes.old }
 {
-    let next = at + 1;
-    bytes[at] = (number % 256) as u8;
-    bytes[next] = (number / 256 % 256) as u8;
+    bytes[at..at + 2].copy_from_slice(&number.to_le_bytes()[..2]);
 }
 
 // Writes a number of eight bytes, low byte first.
@@ -275,13 +201,7 @@ pub fn write_number(bytes: &mut [u8], at: usize, number: usize)
     requires { at + 8 ≤ length bytes.old }
     ensures { bytes.new ≡ put at (bytes_of 8 number) bytes.old }
 {
-    let second = number / 65536;
-    let third = second / 65536;
-    let fourth = third / 65536;
-    write_pair(bytes, at, number);
-    write_pair(bytes, at + 2, second);
-    write_pair(bytes, at + 4, third);
-    write_pair(bytes, at + 6, fourth);
+    bytes[at..at + 8].copy_from_slice(&number.to_le_bytes());
 }
 
 // Writes FFh from a place on.
@@ -289,11 +209,7 @@ pub fn fill_ones(bytes: &mut [u8], from: usize)
     requires { from ≤ length bytes.old }
     ensures { bytes.new ≡ take from bytes.old ++ replicate (length bytes.old - from) 255 }
 {
-    let mut i = from;
-    while i < bytes.len() {
-        bytes[i] = 255;
-        i += 1;
-    }
+    bytes[from..].fill(255);
 }
 
 // Writes the spare bytes of a page whose main bytes stand already, in the layout whose number has eight bytes.
@@ -311,15 +227,13 @@ pub fn finish_page(
     requires place_bound { place < 256 }
     ensures { page.new ≡ encoded (length page.old - main) (label kind logical place number) (take main page.old) }
 {
-    let k = main + 1;
     page[main] = 255;
-    page[k] = kind;
+    page[main + 1] = kind;
     write_pair(page, main + 2, logical);
-    let p = main + 4;
-    page[p] = (place % 256) as u8;
+    page[main + 4] = place as u8;
     write_number(page, main + 5, number as usize);
     let end = main + 13;
-    let check = zero_bits(&page[0..end]);
+    let check = zero_bits(&page[..end]);
     write_pair(page, end, check);
     fill_ones(page, main + 15);
 }

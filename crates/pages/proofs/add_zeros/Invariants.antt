@@ -1,10 +1,6 @@
 -- `pages::add_zeros` meets its contract: at every turn the bytes passed are added, each at its place. Assumes nothing.
-use Prim.Native.Nat.{◌-◌, ◌≤◌}
 use Rattle.pages.proofs.CountLaws.{Added}
 use Rattle.pages.proofs.add_zeros.Given as goal
 
 abbrev pub invariant-loop-i : goal.invariant-loop-i
-invariant-loop-i l = (l.i ≤ 256) × Added l.initial.counts l.row l.counts l.i
-
-abbrev pub decreases-loop-i : goal.decreases-loop-i
-decreases-loop-i l = 256 - l.i
+invariant-loop-i l = Added l.initial.counts l.row l.counts l.i

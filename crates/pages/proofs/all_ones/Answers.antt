@@ -1,17 +1,11 @@
--- `pages::all_ones` meets its contract: at every turn the bytes passed are FFh. Assumes nothing.
-use Prim.Native.Nat.{◌-◌}
-use native.Mathlib.Omega.{arith}
-use Rattle.pages.proofs.ByteLaws.{passed_none, passed_more, passed_not, passed_all}
+-- `pages::all_ones` meets its contract. Assumes nothing.
+use Rattle.std.proofs.Common.{eqb, rules, tests}
+use Rattle.std.proofs.lemmas.Iterator.{YieldsList-from_slice}
+use Rattle.std.proofs.lemmas.Iterator.Search.{all_from_yields_List}
+use Rattle.pages.proofs.ByteLaws.{all_ones_is}
 use Rattle.pages.proofs.all_ones.Goals as goal
 
-pub loop-i-init : goal.loop-i-init
-loop-i-init c = passed_none _
-
-pub returns-then-bytes-i : goal.returns-then-bytes-i
-returns-then-bytes-i c = passed_not c.loop-i.invariant (omega arith) c.if-bytes-i.true
-
-pub loop-i-preserved : goal.loop-i-preserved
-loop-i-preserved c = passed_more c.loop-i.invariant (omega arith) c.if-bytes-i.false
-
 pub returns : goal.returns
-returns c = passed_all c.loop-i.invariant (omega arith)
+returns c =
+    rw all_ones_is
+    (all_from_yields_List (λ x. eqb x 255) _ _ _ c.all.ensures.ran (YieldsList-from_slice c.args.bytes.now cc) (λ x b q k. search (rules, tests)))

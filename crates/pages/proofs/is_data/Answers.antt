@@ -1,18 +1,16 @@
 -- `pages::is_data` meets its contract. Assumes nothing.
-use mathlib.Core.Path.{sym}
-use borrow.Author.Tests.{ne_eqb}
-use Rattle.bools.proofs.BoolLaws.{or_none}
+use Rattle.std.proofs.Common.{rules, tests}
+use mathlib.Core.Path.{◌∙◌}
+use borrow.Author.Tests.{eq-eqb}
+use Rattle.bools.proofs.BoolLaws.{clash}
 use Rattle.pages.specs.Layout.{is_data_kind}
 use Rattle.pages.proofs.is_data.Goals as goal
+use Rattle.pages.proofs.is_data.Goals.{then-kind-from, else-kind-from}
 
-pub returns-then-kind : goal.returns-then-kind
+pub returns-then-kind-from-2 : goal.returns-then-kind-from-2
 unfolding is_data_kind
-returns-then-kind c = rw c.if-kind.true
+returns-then-kind-from-2 c = elim c.if-kind-from.branch [ then-kind-from w ↦ search (tests, rules) | else-kind-from w ↦ search (tests, rules) ]
 
-pub returns-then-kind-2 : goal.returns-then-kind-2
+pub returns-else-kind-from-2 : goal.returns-else-kind-from-2
 unfolding is_data_kind
-returns-then-kind-2 c = rw c.if-kind-2.true
-
-pub returns : goal.returns
-unfolding is_data_kind
-returns c = rw (ne_eqb _ _ c.if-kind.false, ne_eqb _ _ c.if-kind-2.false) (sym (or_none _))
+returns-else-kind-from-2 c = elim c.if-kind-from.branch [ then-kind-from w ↦ clash (w.value-is ∙ eq-eqb _ _ w.if-kind-from.true) c.if-kind-from-2.false | else-kind-from w ↦ search (tests, rules) ]

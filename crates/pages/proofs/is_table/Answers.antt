@@ -1,14 +1,12 @@
 -- `pages::is_table` meets its contract. Assumes nothing.
-use mathlib.Core.Path.{sym}
-use borrow.Author.Tests.{ne_eqb}
-use Rattle.bools.proofs.BoolLaws.{or_none}
+use Rattle.std.proofs.Common.{rules, tests}
 use Rattle.pages.specs.Layout.{is_table_kind}
 use Rattle.pages.proofs.is_table.Goals as goal
 
-pub returns-then-kind : goal.returns-then-kind
+pub returns-then-kind-from : goal.returns-then-kind-from
 unfolding is_table_kind
-returns-then-kind c = rw c.if-kind.true
+returns-then-kind-from c = search (tests, rules)
 
-pub returns : goal.returns
+pub returns-else-kind-from : goal.returns-else-kind-from
 unfolding is_table_kind
-returns c = rw (ne_eqb _ _ c.if-kind.false) (sym (or_none _))
+returns-else-kind-from c = search (tests, rules)

@@ -1,75 +1,64 @@
 -- `pages::is_whole` meets its contract: each test of the code is one of the definition, in the same order. Assumes nothing.
-use Prim.Native.Nat.{◌+◌, ◌≤◌}
+use Prim.Native.Nat.{◌+◌}
+use mathlib.Core.Bool.{true, false, not}
 use mathlib.Core.Path.{◌≡◌, sym, ap, ◌∙◌}
-use native.Mathlib.Nat.{sub-zero}
 use native.Mathlib.Omega.{arith}
-use lib.ListN.{take, drop, length-take}
-use Rattle.pages.specs.Check.{zero_bits}
-use Rattle.pages.specs.Layout.{number_width, kind_of, all_ones}
+use borrow.Author.Tests.{eq-eqb, ne_eqb}
+use lib.ListN.{drop}
+use lib.Seq.{length-take-le}
+use Rattle.bools.proofs.BoolLaws.{clash}
+use Rattle.pages.specs.Layout.{number_width, all_ones}
 use Rattle.pages.proofs.LayoutLaws.{width_most}
-use Rattle.pages.proofs.ByteLaws.{take_rest, whole-none, whole-first, whole_rest, whole_check}
+use Rattle.pages.proofs.ByteLaws.{take_rest, whole_tests}
 use Rattle.pages.proofs.is_whole.Goals as goal
-
-pub returns-then-width-eq0 : goal.returns-then-width-eq0
-returns-then-width-eq0 c =
-    let width : number_width (kind_of c.args.main c.args.page.now) ≡ c.number_width-width.result = ap number_width (sym c.kind_of.ensures) ∙ sym c.number_width-width.ensures in
-    whole-none _ _ (width ∙ c.if-width-eq0.true)
-
-pub returns-then-page-main : goal.returns-then-page-main
-returns-then-page-main c =
-    let width : number_width (kind_of c.args.main c.args.page.now) ≡ c.number_width-width.result = ap number_width (sym c.kind_of.ensures) ∙ sym c.number_width-width.ensures in
-    let known : number_width (kind_of c.args.main c.args.page.now) ≡ 0 → ⊥ = λ e. c.if-width-eq0.false (sym (width) ∙ e) in
-    whole-first _ _ (known) c.if-page-main.true
+use Rattle.pages.proofs.is_whole.Goals.{then-width-ne0, else-width-ne0, then-page-main, else-page-main}
 
 pub overflow_add-check_at-2 : goal.overflow_add-check_at-2
-overflow_add-check_at-2 c =
-    let small : c.number_width-width.result ≤ 8 = rw c.number_width-width.ensures (width_most c.kind_of.result) in
-    omega (arith, small)
+overflow_add-check_at-2 c = omega (arith, c.number_width-width.ensures, width_most c.kind_of.result)
 
-pub overflow_add-rest : goal.overflow_add-rest
-overflow_add-rest c =
-    let small : c.number_width-width.result ≤ 8 = rw c.number_width-width.ensures (width_most c.kind_of.result) in
-    omega (arith, small)
+pub overflow_add-check_at-then-page-main : goal.overflow_add-check_at-then-page-main
+overflow_add-check_at-then-page-main c = omega (arith, c.number_width-width.ensures, width_most c.kind_of.result)
 
 pub slice_bounds-all_ones-count : goal.slice_bounds-all_ones-count
-slice_bounds-all_ones-count c =
-    let small : c.number_width-width.result ≤ 8 = rw c.number_width-width.ensures (width_most c.kind_of.result) in
-    omega (arith, small)
+slice_bounds-all_ones-count c = omega (arith, c.number_width-width.ensures, width_most c.kind_of.result)
 
 pub slice_bounds-all_ones-start : goal.slice_bounds-all_ones-start
-slice_bounds-all_ones-start c =
-    let small : c.number_width-width.result ≤ 8 = rw c.number_width-width.ensures (width_most c.kind_of.result) in
-    omega (arith, small)
+slice_bounds-all_ones-start c = omega (arith, c.number_width-width.ensures, width_most c.kind_of.result)
 
 pub pair_at-requires : goal.pair_at-requires
-pair_at-requires c =
-    let small : c.number_width-width.result ≤ 8 = rw c.number_width-width.ensures (width_most c.kind_of.result) in
-    omega (arith, small, c.before.before.before.before.before.before.before.before.before)
+pair_at-requires c = omega (arith, c.number_width-width.ensures, width_most c.kind_of.result)
 
 pub slice_bounds-zero_bits-end : goal.slice_bounds-zero_bits-end
 slice_bounds-zero_bits-end c =
-    let small : c.number_width-width.result ≤ 8 = rw c.number_width-width.ensures (width_most c.kind_of.result) in
-    omega (arith, small, c.requires)
-
-pub zero_bits-requires : goal.zero_bits-requires
-zero_bits-requires c =
-    rw length-take (omega (arith, c.requires))
+    let at = c.args.main + 5 + c.number_width-width.result in
+    sym (length-take-le at c.args.page.now (omega (arith, c.number_width-width.ensures, width_most c.kind_of.result)))
 
 pub returns-then-all_ones : goal.returns-then-all_ones
 returns-then-all_ones c =
-    let width : number_width (kind_of c.args.main c.args.page.now) ≡ c.number_width-width.result = ap number_width (sym c.kind_of.ensures) ∙ sym c.number_width-width.ensures in
-    let known : number_width (kind_of c.args.main c.args.page.now) ≡ 0 → ⊥ = λ e. c.if-width-eq0.false (sym (width) ∙ e) in
-    let rest : all_ones (drop (c.args.main + (7 + number_width (kind_of c.args.main c.args.page.now))) c.args.page.now) ≡ c.all_ones.result = let at = c.args.main + 5 + c.number_width-width.result + 2 in let e : c.args.main + (7 + number_width (kind_of c.args.main c.args.page.now)) ≡ at = omega (arith, width) in rw e (sym (c.all_ones.ensures ∙ ap all_ones (take_rest at c.args.page.now))) in
+    let p = c.args.page.now in
     let at = c.args.main + 5 + c.number_width-width.result in
-    let w : c.args.main + (5 + number_width (kind_of c.args.main c.args.page.now)) ≡ at = omega (arith, width) in
-    let counted : c.zero_bits.result ≡ zero_bits (take at c.args.page.now) = c.zero_bits.ensures ∙ rw sub-zero in
-    rw (counted, c.pair_at.ensures, ← w)
-    (whole_check c.args.main c.args.page.now (known) c.if-page-main.false
-    (rest ∙ c.if-all_ones.true))
+    let tests = whole_tests c.args.main c.number_width-width.result p (ap number_width (sym c.kind_of.ensures) ∙ sym c.number_width-width.ensures) in
+    elim c.if-page-main.branch [
+      | then-page-main w ↦ elim c.if-width-ne0.branch [
+        | then-width-ne0 v ↦
+            let rest : all_ones (drop (at + 2) p) ≡ true = sym (w.all_ones.ensures ∙ ap all_ones (take_rest (at + 2) p)) ∙ sym w.value-is ∙ c.if-all_ones.true in
+            rw (tests, ne_eqb _ _ v.if-width-ne0.true, sym v.value-is ∙ w.if-page-main.true, rest, c.pair_at.ensures, c.zero_bits.ensures)
+        | else-width-ne0 v ↦ clash w.if-page-main.true (v.value-is ∙ ap not (eq-eqb _ _ v.if-width-ne0.false))
+      ]
+      | else-page-main w ↦ clash c.if-all_ones.true (w.value-is ∙ w.if-page-main.false)
+    ]
 
-pub returns : goal.returns
-returns c =
-    let width : number_width (kind_of c.args.main c.args.page.now) ≡ c.number_width-width.result = ap number_width (sym c.kind_of.ensures) ∙ sym c.number_width-width.ensures in
-    let known : number_width (kind_of c.args.main c.args.page.now) ≡ 0 → ⊥ = λ e. c.if-width-eq0.false (sym (width) ∙ e) in
-    let rest : all_ones (drop (c.args.main + (7 + number_width (kind_of c.args.main c.args.page.now))) c.args.page.now) ≡ c.all_ones.result = let at = c.args.main + 5 + c.number_width-width.result + 2 in let e : c.args.main + (7 + number_width (kind_of c.args.main c.args.page.now)) ≡ at = omega (arith, width) in rw e (sym (c.all_ones.ensures ∙ ap all_ones (take_rest at c.args.page.now))) in
-    whole_rest _ _ (known) c.if-page-main.false (rest ∙ c.if-all_ones.false)
+pub returns-else-all_ones : goal.returns-else-all_ones
+returns-else-all_ones c =
+    let p = c.args.page.now in
+    let at = c.args.main + 5 + c.number_width-width.result in
+    let tests = whole_tests c.args.main c.number_width-width.result p (ap number_width (sym c.kind_of.ensures) ∙ sym c.number_width-width.ensures) in
+    rw (c.if-all_ones.false, tests) (elim c.if-width-ne0.branch [
+      | then-width-ne0 v ↦ elim c.if-page-main.branch [
+        | then-page-main w ↦
+            let rest : all_ones (drop (at + 2) p) ≡ false = sym (w.all_ones.ensures ∙ ap all_ones (take_rest (at + 2) p)) ∙ sym w.value-is ∙ c.if-all_ones.false in
+            rw (ne_eqb _ _ v.if-width-ne0.true, sym v.value-is ∙ w.if-page-main.true, rest)
+        | else-page-main w ↦ rw (ne_eqb _ _ v.if-width-ne0.true, sym v.value-is ∙ w.if-page-main.false)
+      ]
+      | else-width-ne0 v ↦ rw v.if-width-ne0.false
+    ])

@@ -5,4 +5,4 @@ use Rattle.pages.proofs.place_of.Goals as goal
 
 pub returns : goal.returns
 unfolding label_of
-returns c = rw (c.wide.ensures, get_or-drop)
+returns c = rw (c.from.ensures, get_or-drop)

@@ -1,17 +1,16 @@
--- `pages::write_pair` meets its contract: the second store stands where the first ends. Assumes nothing.
-use Prim.Native.Nat.{◌/◌, ◌%◌}
-use mathlib.Core.Path.{refl}
-use mathlib.Core.List.{[], ◌∷◌}
+-- `pages::write_pair` meets its contract. Assumes nothing.
+use Prim.Native.Nat.{◌+◌, ◌-◌}
+use mathlib.Core.Path.{◌≡◌, ap, ◌∙◌}
 use native.Mathlib.Omega.{arith}
-use lib.ListN.{length-set}
+use lib.ListN.{take}
+use Rattle.cells.proofs.PartLaws.{put-lent}
 use Rattle.pages.specs.Layout.{bytes_of}
-use Rattle.pages.proofs.ByteLaws.{set-put, set_next}
+use Rattle.pages.proofs.LayoutLaws.{length-bytes_of}
 use Rattle.pages.proofs.write_pair.Goals as goal
-
-pub bounds-bytes-next : goal.bounds-bytes-next
-bounds-bytes-next c = simp length-set (omega arith)
 
 pub returns : goal.returns
 unfolding bytes_of
 returns c =
-    rw (set-put c.args.at (c.args.number % 256) c.args.bytes.now (omega arith)) (set_next c.args.at 1 (c.args.number / 256 % 256) (c.args.number % 256 ∷ []) c.args.bytes.now refl (omega arith))
+    let k : c.args.at + 2 - c.args.at ≡ 2 = omega arith in
+    let e : c.copy_from_slice.new.self ≡ bytes_of 2 c.args.number = c.copy_from_slice.ensures.after ∙ ap (take 2) c.to_le_bytes.ensures in
+    rw (k, e) (put-lent c.args.at 2 (bytes_of 2 c.args.number) c.args.bytes.now (length-bytes_of 2 c.args.number))
