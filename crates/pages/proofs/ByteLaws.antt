@@ -9,10 +9,11 @@ use Rattle.std.proofs.lemmas.List.{drop-replicate}
 use Rattle.std.proofs.lemmas.List.Recursion.{same_from_clauses}
 use mathlib.Core.List.{List, [], ◌∷◌, ◌++◌, append_assoc}
 use native.Mathlib.Nat.{add-zero, add_assoc, div-div-eq-div-mul, div-one, pow-suc}
+use native.Mathlib.Numerals.{add-one}
 use native.Mathlib.Omega.{arith}
 use lib.Dec.{eqb}
 use lib.ListN.{length, get_or, take, drop, set, replicate, length-append, length-drop, length-replicate}
-use lib.Seq.{length-take-le, take_all, drop-drop, get_or-drop, set_split, take_at, drop_at}
+use lib.Seq.{length-take-le, take_all, drop-cons, drop-drop, get_or-drop, set_split, take_at, drop_at}
 use Rattle.cells.specs.Part.{put}
 use Rattle.cells.proofs.PartLaws.{length-put}
 use Rattle.pages.specs.Check.{zero_bits}
@@ -44,22 +45,22 @@ low_bytes i (suc k) n =
 pub bytes_is : (n : ℕ) → to_le_bytes w64 n ≡ bytes_of 8 n
 bytes_is n = low_bytes 0 8 n ∙ ap (bytes_of 8) (div-one n)
 
-number_is-eight : (a b c d e f g h : ℕ)
+eight_are : (a b c d e f g h : ℕ)
     → from_le_bytes w64 (a ∷ b ∷ c ∷ d ∷ e ∷ f ∷ g ∷ h ∷ []) ≡ number_of (a ∷ b ∷ c ∷ d ∷ e ∷ f ∷ g ∷ h ∷ [])
 unfolding number_of
-number_is-eight a b c d e f g h = omega arith
+eight_are a b c d e f g h = omega arith
 
-pub eight_is : (xs : List ℕ) → length xs ≡ 8 → from_le_bytes w64 xs ≡ number_of xs
-eight_is [] l = absurd (omega (arith, l))
-eight_is (a ∷ []) l = absurd (omega (arith, l))
-eight_is (a ∷ b ∷ []) l = absurd (omega (arith, l))
-eight_is (a ∷ b ∷ c ∷ []) l = absurd (omega (arith, l))
-eight_is (a ∷ b ∷ c ∷ d ∷ []) l = absurd (omega (arith, l))
-eight_is (a ∷ b ∷ c ∷ d ∷ e ∷ []) l = absurd (omega (arith, l))
-eight_is (a ∷ b ∷ c ∷ d ∷ e ∷ f ∷ []) l = absurd (omega (arith, l))
-eight_is (a ∷ b ∷ c ∷ d ∷ e ∷ f ∷ g ∷ []) l = absurd (omega (arith, l))
-eight_is (a ∷ b ∷ c ∷ d ∷ e ∷ f ∷ g ∷ h ∷ []) l = number_is-eight a b c d e f g h
-eight_is (a ∷ b ∷ c ∷ d ∷ e ∷ f ∷ g ∷ h ∷ x ∷ xs) l = absurd (omega (arith, l))
+pub eight_bytes_are : (xs : List ℕ) → length xs ≡ 8 → from_le_bytes w64 xs ≡ number_of xs
+eight_bytes_are [] l = absurd (omega (arith, l))
+eight_bytes_are (a ∷ []) l = absurd (omega (arith, l))
+eight_bytes_are (a ∷ b ∷ []) l = absurd (omega (arith, l))
+eight_bytes_are (a ∷ b ∷ c ∷ []) l = absurd (omega (arith, l))
+eight_bytes_are (a ∷ b ∷ c ∷ d ∷ []) l = absurd (omega (arith, l))
+eight_bytes_are (a ∷ b ∷ c ∷ d ∷ e ∷ []) l = absurd (omega (arith, l))
+eight_bytes_are (a ∷ b ∷ c ∷ d ∷ e ∷ f ∷ []) l = absurd (omega (arith, l))
+eight_bytes_are (a ∷ b ∷ c ∷ d ∷ e ∷ f ∷ g ∷ []) l = absurd (omega (arith, l))
+eight_bytes_are (a ∷ b ∷ c ∷ d ∷ e ∷ f ∷ g ∷ h ∷ []) l = eight_are a b c d e f g h
+eight_bytes_are (a ∷ b ∷ c ∷ d ∷ e ∷ f ∷ g ∷ h ∷ x ∷ xs) l = absurd (omega (arith, l))
 
 -- zeros behind the bytes add nothing
 pub number_of-zeros : (n : ℕ) (xs : List ℕ) → number_of (xs ++ replicate n 0) ≡ number_of xs
@@ -71,7 +72,35 @@ number_of-zeros n (x ∷ xs) = ap (λ (k : ℕ). x + 256 * k) (number_of-zeros n
 pub number_padded : (xs ys : List ℕ) → length xs ≤ 8 → ys ≡ xs → from_le_bytes w64 (ys ++ drop (length xs) (replicate 8 0)) ≡ number_of xs
 number_padded xs ys h e =
     let long : length (xs ++ replicate (8 - length xs) 0) ≡ 8 = simp (length-append, length-replicate) (omega arith) in
-    rw (e, drop-replicate {X = ℕ} (length xs) 8 0) (eight_is (xs ++ replicate (8 - length xs) 0) long ∙ number_of-zeros (8 - length xs) xs)
+    rw (e, drop-replicate {X = ℕ} (length xs) 8 0) (eight_bytes_are (xs ++ replicate (8 - length xs) 0) long ∙ number_of-zeros (8 - length xs) xs)
+
+-- a number of two bytes
+pub pair_is : (at : ℕ) (xs : List ℕ) → at + 2 ≤ length xs → number_of (take 2 (drop at xs)) ≡ get_or xs at 0 + 256 * get_or xs (at + 1) 0
+unfolding number_of
+pair_is at xs h =
+    let l : at < length xs = omega arith in
+    let m : suc at < length xs = omega arith in
+    rw (drop-cons xs at 0 l, drop-cons xs (suc at) 0 m, add-one) (omega arith)
+
+pub pair_lt : (at : ℕ) (xs : List ℕ) → at + 2 ≤ length xs → get_or xs at 0 < 256 → get_or xs (at + 1) 0 < 256 → number_of (take 2 (drop at xs)) < 65536
+pair_lt at xs h p q = rw (pair_is at xs h) (omega arith)
+
+-- two bytes and those after them
+number_pair : (k : ℕ) (xs : List ℕ) → 2 ≤ length xs → number_of (take (suc (suc k)) xs) ≡ number_of (take 2 xs) + 65536 * number_of (take k (drop 2 xs))
+unfolding number_of
+number_pair k [] h = absurd (omega (arith, h))
+number_pair k (a ∷ []) h = absurd (omega (arith, h))
+number_pair k (a ∷ b ∷ xs) h = omega arith
+
+-- a number of k + 2 bytes at a place is one of two bytes and one of k
+pair_and : (k at : ℕ) (xs : List ℕ) → at + 2 ≤ length xs
+    → number_of (take (suc (suc k)) (drop at xs)) ≡ number_of (take 2 (drop at xs)) + 65536 * number_of (take k (drop (at + 2) xs))
+pair_and k at xs h = number_pair k (drop at xs) (rw length-drop (omega (arith, h))) ∙ rw (drop-drop 2 at xs)
+
+-- a number of four bytes is one of two numbers of two bytes
+pub four_is : (at : ℕ) (xs : List ℕ) → at + 4 ≤ length xs
+    → number_of (take 4 (drop at xs)) ≡ number_of (take 2 (drop at xs)) + 65536 * number_of (take 2 (drop (at + 2) xs))
+four_is at xs h = pair_and 2 at xs (omega (arith, h))
 
 -- a store of one element
 pub set-put : (at v : ℕ) (xs : List ℕ) → at < length xs → set xs at v ≡ put at (v ∷ []) xs

@@ -42,7 +42,7 @@ fn add_zeros(counts: &mut [u8; 256], row: &[u8])
     }
 }
 
-// The sum of the counts.
+// The sum of the counts: the zero bits of a page fit 16 bits.
 fn total(counts: &[u8; 256]) -> u16
     requires { length counts.now ≡ 256 }
     ensures { result ≡ total counts.now }
