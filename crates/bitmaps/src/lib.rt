@@ -99,8 +99,8 @@ fn share_no_bit(first: &[u8], second: &[u8], bytes: usize) -> bool
     ensures { result ≡ never_both first.now second.now (8 * bytes) }
 {
     let mut shared = 0;
-    for (at, byte) in first[..bytes].iter().enumerate() {
-        shared |= *byte & second[at];
+    for (one, other) in first[..bytes].iter().zip(&second[..bytes]) {
+        shared |= *one & *other;
     }
     shared == 0
 }

@@ -1,9 +1,13 @@
 -- Laws of a part of the array that is lent and comes back changed. Assumes nothing.
-use Prim.Native.Nat.{ℕ, ◌+◌, ◌-◌, ◌≤◌}
+use Prim.Native.Nat.{ℕ, ◌+◌, ◌-◌, ◌*◌, ◌≤◌, ◌<◌}
 use mathlib.Core.Path.{◌≡◌, ◌∙◌}
 use mathlib.Core.List.{List, ◌++◌}
 use native.Mathlib.Omega.{arith}
 use lib.ListN.{length, take, drop}
+use Rattle.geometry.specs.declared.Geometry.{Geometry}
+use Rattle.geometry.specs.Limits.{Valid}
+use Rattle.geometry.specs.Sizes.{page_size, block_size, chip_size, row_count}
+use Rattle.geometry.proofs.SizeLaws.{row_within, block_within}
 use Rattle.cells.specs.Part.{part, put}
 use Rattle.cells.proofs.PartLaws.{put-lent, length_part}
 
@@ -13,3 +17,11 @@ pub lent : (at n : ℕ) (f : List ℕ → List ℕ) (ys xs : List ℕ) → at + 
 lent at n f ys xs h same e =
     let k : at + n - at ≡ n = omega arith in
     rw (e, k) (put-lent at n (f (part at n xs)) xs (same (part at n xs) ∙ length_part at n xs h))
+
+-- the bytes of a row, and those of a block, lie in the array
+module _ (g : Geometry) (v : Valid g) (at size all : ℕ) (whole : all ≡ chip_size g) where
+  pub row_lies : (r : ℕ) → r < row_count g → at ≡ r * page_size g → size ≡ page_size g → at + size ≤ all
+  row_lies r h a s = rw (a, s, whole) (row_within g v r h)
+
+  pub block_lies : (b : ℕ) → b < g.blocks → at ≡ b * block_size g → size ≡ block_size g → at + size ≤ all
+  block_lies b h a s = rw (a, s, whole) (block_within g v b h)

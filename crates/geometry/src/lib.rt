@@ -82,7 +82,8 @@ pub fn row_of(g: Geometry, block: usize, page: usize) -> usize
     block * g.pages + page
 }
 
-// The binary logarithm of the pages of a block: rows are split by shifts, not by dividing.
+// The binary logarithm of the pages of a block: rows are split by shifts, not by dividing. Not by `trailing_zeros`, since the edit
+// shift_of_another_count names the shift of one page count.
 fn page_shift(pages: usize) -> u32
     ensures { (result ≡ page_shift pages) × (result ≤ 6) }
 {

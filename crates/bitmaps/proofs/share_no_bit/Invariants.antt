@@ -2,8 +2,9 @@
 use Prim.Native.Nat.{◌*◌}
 use mathlib.Core.Path.{◌≡◌}
 use lib.Dec.{eqb}
+use lib.ListN.{length}
 use Rattle.bitmaps.specs.Bitmap.{never_both}
 use Rattle.bitmaps.proofs.share_no_bit.Given as goal
 
-abbrev pub invariant-loop-at : goal.invariant-loop-at
-invariant-loop-at l = eqb l.shared 0 ≡ never_both l.first l.second (8 * l.at)
+abbrev pub invariant-loop-one : goal.invariant-loop-one
+invariant-loop-one l = eqb l.shared 0 ≡ never_both l.first l.second (8 * length l.yielded)
