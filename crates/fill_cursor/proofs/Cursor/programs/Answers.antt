@@ -3,10 +3,10 @@ use borrow.Author.Tests.{eq-eqb, ne_eqb}
 use Rattle.fill_cursor.specs.Cursor.{programs}
 use Rattle.fill_cursor.proofs.Cursor.programs.Goals as goal
 
-pub returns-then-step-eq2 : goal.returns-then-step-eq2
+pub returns-then-self-eq2 : goal.returns-then-self-eq2
 unfolding programs
-returns-then-step-eq2 c = search eq-eqb
+returns-then-self-eq2 c = search eq-eqb
 
-pub returns : goal.returns
+pub returns-else-self-eq2 : goal.returns-else-self-eq2
 unfolding programs
-returns c = search ne_eqb
+returns-else-self-eq2 c = search ne_eqb
