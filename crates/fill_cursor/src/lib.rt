@@ -124,7 +124,7 @@ impl Cursor {
     pub fn programs(self) -> u64
         ensures { result ≡ programs self }
     {
-        if self.step == 2 { 1 } else { 0 }
+        u64::from(self.step == 2)
     }
 
     // Whether something is due, with so many page programs left.
