@@ -1,9 +1,10 @@
 -- The words of an open write within the bytes of a state, written and read; a state handed from call to call. Assumes nothing.
-use Prim.Native.Nat.{ℕ, ◌+◌, ◌-◌, ◌≤◌}
-use mathlib.Core.List.{List, ◌++◌, append_assoc, append-nil}
+use Prim.Native.Nat.{ℕ, zero, suc, ◌+◌, ◌-◌, ◌*◌, ◌<◌, ◌≤◌}
+use mathlib.Core.List.{List, [], ◌∷◌, ◌++◌, append_assoc, append-nil}
 use mathlib.Core.Path.{◌≡◌, refl, sym, ap, ap₂, ◌∙◌}
+use native.Mathlib.Numerals.{add-one}
 use native.Mathlib.Omega.{arith}
-use lib.ListN.{length, take, drop, replicate, length-append, length-replicate, length-drop, drop_of_length-le, take-append-drop}
+use lib.ListN.{length, get_or, take, drop, replicate, length-append, length-replicate, length-drop, drop_of_length-le, take-append-drop}
 use lib.Seq.{take_at, drop_at, length-take-le}
 use Rattle.cells.specs.Part.{put}
 use Rattle.pages.specs.Layout.{bytes_of}
@@ -15,38 +16,44 @@ use Rattle.open_write.specs.declared.OpenWrite.{OpenWrite}
 use Rattle.open_write.specs.Open.{open_state}
 use Rattle.c_open.specs.OpenBytes.{open_length, write_bytes, open_bytes, bytes_page}
 
--- one word more
-next : (at n : ℕ) (word : ℕ) (ys xs p q : List ℕ) → at ≤ length xs → length ys ≡ n → p ≡ put at ys xs → q ≡ put (at + n) (bytes_of 8 word) p → (length (ys ++ bytes_of 8 word) ≡ n + 8) × (q ≡ put at (ys ++ bytes_of 8 word) xs)
-next at n word ys xs p q room k e f = (
-  length-append ys (bytes_of 8 word) ∙ ap₂ ◌+◌ k (length-bytes_of 8 word),
-  f ∙ ap (put (at + n) (bytes_of 8 word)) e ∙ put_next at n (bytes_of 8 word) ys xs k room,
-)
+-- words of eight bytes, one after the other
+abbrev pub words_bytes : List ℕ → List ℕ
+words_bytes [] = []
+words_bytes (w ∷ ws) = bytes_of 8 w ++ words_bytes ws
 
-pub written : (w : OpenWrite) (xs p1 p2 p3 p4 p5 p6 p7 p8 p9 p10 : List ℕ) → 9248 ≤ length xs
-    → p1 ≡ put 9248 (bytes_of 8 w.opened) xs
-    → p2 ≡ put 9256 (bytes_of 8 w.phase) p1
-    → p3 ≡ put 9264 (bytes_of 8 w.step) p2
-    → p4 ≡ put 9272 (bytes_of 8 w.logical) p3
-    → p5 ≡ put 9280 (bytes_of 8 w.first) p4
-    → p6 ≡ put 9288 (bytes_of 8 w.old) p5
-    → p7 ≡ put 9296 (bytes_of 8 w.block) p6
-    → p8 ≡ put 9304 (bytes_of 8 w.number) p7
-    → p9 ≡ put 9312 (bytes_of 8 w.page) p8
-    → p10 ≡ put 9320 (bytes_of 8 w.failed) p9
-    → p10 ≡ put 9248 (write_bytes w) xs
+long_words : (ws : List ℕ) → length (words_bytes ws) ≡ 8 * length ws
+long_words [] = refl
+long_words (w ∷ ws) = length-append (bytes_of 8 w) (words_bytes ws) ∙ omega (arith, length-bytes_of 8 w, long_words ws)
+
+one_more : (i : ℕ) (ws : List ℕ) → i < length ws → words_bytes (take i ws) ++ bytes_of 8 (get_or ws i 0) ≡ words_bytes (take (suc i) ws)
+one_more i [] h = absurd (omega (arith, h))
+one_more zero (w ∷ ws) h = sym (append-nil (bytes_of 8 w))
+one_more (suc i) (w ∷ ws) h =
+    append_assoc (bytes_of 8 w) (words_bytes (take i ws)) (bytes_of 8 (get_or ws i 0))
+    ∙ ap (λ (bytes : List ℕ). bytes_of 8 w ++ bytes) (one_more i ws (omega (arith, h)))
+
+-- one word more is written
+pub word_written : (i word : ℕ) (ws xs p q : List ℕ) → i < length ws → word ≡ get_or ws i 0 → 9248 ≤ length xs
+    → p ≡ put 9248 (words_bytes (take i ws)) xs → q ≡ put (9248 + 8 * i) (bytes_of 8 word) p → q ≡ put 9248 (words_bytes (take (i + 1) ws)) xs
+word_written i word ws xs p q h w room e f =
+    let long : length (words_bytes (take i ws)) ≡ 8 * i = long_words (take i ws) ∙ ap (λ (n : ℕ). 8 * n) (length-take-le i ws (omega (arith, h))) in
+    f
+    ∙ ap₂ (λ (n : ℕ) (ys : List ℕ). put (9248 + 8 * i) (bytes_of 8 n) ys) w e
+    ∙ put_next 9248 (8 * i) (bytes_of 8 (get_or ws i 0)) (words_bytes (take i ws)) xs long room
+    ∙ ap (λ (ys : List ℕ). put 9248 ys xs) (rw add-one (one_more i ws h))
+
+-- none is written yet
+pub none_written : (xs : List ℕ) → put 9248 [] xs ≡ xs
+unfolding put
+none_written xs = take-append-drop 9248 xs
+
+-- the words of a write
+abbrev pub words_in : OpenWrite → List ℕ
+words_in w = w.opened ∷ w.phase ∷ w.step ∷ w.logical ∷ w.first ∷ w.old ∷ w.block ∷ w.number ∷ w.page ∷ w.failed ∷ []
+
+pub all_written : (w : OpenWrite) → words_bytes (words_in w) ≡ write_bytes w
 unfolding write_bytes
-written w xs p1 p2 p3 p4 p5 p6 p7 p8 p9 p10 room e1 e2 e3 e4 e5 e6 e7 e8 e9 e10 =
-    let q2 = next 9248 8 w.phase (bytes_of 8 w.opened) xs p1 p2 room (length-bytes_of 8 w.opened) e1 e2 in
-    let q3 = next 9248 16 w.step _ xs p2 p3 room q2.0 q2.1 e3 in
-    let q4 = next 9248 24 w.logical _ xs p3 p4 room q3.0 q3.1 e4 in
-    let q5 = next 9248 32 w.first _ xs p4 p5 room q4.0 q4.1 e5 in
-    let q6 = next 9248 40 w.old _ xs p5 p6 room q5.0 q5.1 e6 in
-    let q7 = next 9248 48 w.block _ xs p6 p7 room q6.0 q6.1 e7 in
-    let q8 = next 9248 56 w.number _ xs p7 p8 room q7.0 q7.1 e8 in
-    let q9 = next 9248 64 w.page _ xs p8 p9 room q8.0 q8.1 e9 in
-    let q10 = next 9248 72 w.failed _ xs p9 p10 room q9.0 q9.1 e10 in
-    let same : (((((((((bytes_of 8 w.opened ++ bytes_of 8 w.phase) ++ bytes_of 8 w.step) ++ bytes_of 8 w.logical) ++ bytes_of 8 w.first) ++ bytes_of 8 w.old) ++ bytes_of 8 w.block) ++ bytes_of 8 w.number) ++ bytes_of 8 w.page) ++ bytes_of 8 w.failed) ≡ write_bytes w = simp append_assoc in
-    q10.1 ∙ ap (λ (ys : List ℕ). put 9248 ys xs) same
+all_written w = simp append-nil
 
 pub words_long : (w : OpenWrite) → length (write_bytes w) ≡ 80
 unfolding write_bytes bytes_of

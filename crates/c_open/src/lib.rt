@@ -1,8 +1,9 @@
 // The state with its open write as bytes, for programs in C: stored into a buffer, and loaded from one.
 #![tactic(auto)]
 
-ghost use Rattle.std.specs.Prelude.{◌≡◌, length};
-ghost use Rattle.cells.specs.Part.{put};
+ghost use Rattle.std.specs.Prelude.{◌≡◌, ◌+◌, ◌*◌, ◌<◌, length};
+ghost use Rattle.cells.specs.Part.{part, put};
+ghost use Rattle.pages.specs.Layout.{number_of};
 ghost use Rattle.state.specs.declared.State.{State};
 ghost use Rattle.open_write.specs.Open.{open_state, open_fits};
 ghost use Rattle.c_open.specs.OpenBytes.{open_length, write_bytes, open_bytes, bytes_base, bytes_write, bytes_page, left_open};
@@ -28,22 +29,31 @@ pub fn state_of(bytes: &[u8]) -> State
     c_state::load(&bytes[0..WORDS], &bytes[KINDS..LENGTH])
 }
 
+// One of the ten words of an open write.
+fn word_at(bytes: &[u8], place: usize) -> usize
+    requires bytes_len { length bytes.now ≡ open_length }
+    requires place_lt_ten { place < 10 }
+    ensures { result ≡ number_of (part (9248 + 8 * place) 8 bytes.now) }
+{
+    pages::number_at(bytes, WORDS + 8 * place)
+}
+
 // The words of the open write in a buffer.
 pub fn write_of(bytes: &[u8]) -> OpenWrite
     requires { length bytes.now ≡ open_length }
     ensures { result ≡ bytes_write bytes.now }
 {
     OpenWrite {
-        opened: pages::number_at(bytes, 9248),
-        phase: pages::number_at(bytes, 9256),
-        step: pages::number_at(bytes, 9264),
-        logical: pages::number_at(bytes, 9272),
-        first: pages::number_at(bytes, 9280),
-        old: pages::number_at(bytes, 9288),
-        block: pages::number_at(bytes, 9296),
-        number: pages::number_at(bytes, 9304) as u64,
-        page: pages::number_at(bytes, 9312),
-        failed: pages::number_at(bytes, 9320),
+        opened: word_at(bytes, 0),
+        phase: word_at(bytes, 1),
+        step: word_at(bytes, 2),
+        logical: word_at(bytes, 3),
+        first: word_at(bytes, 4),
+        old: word_at(bytes, 5),
+        block: word_at(bytes, 6),
+        number: word_at(bytes, 7) as u64,
+        page: word_at(bytes, 8),
+        failed: word_at(bytes, 9),
     }
 }
 
@@ -60,26 +70,21 @@ fn put_words(write: OpenWrite, bytes: &mut [u8])
     requires { length bytes.old ≡ open_length }
     ensures { bytes.new ≡ put 9248 (write_bytes write) bytes.old }
 {
-    let number = write.number as usize;
-    pages::write_number(bytes, 9248, write.opened);
-    pages::write_number(bytes, 9256, write.phase);
-    pages::write_number(bytes, 9264, write.step);
-    pages::write_number(bytes, 9272, write.logical);
-    pages::write_number(bytes, 9280, write.first);
-    pages::write_number(bytes, 9288, write.old);
-    pages::write_number(bytes, 9296, write.block);
-    pages::write_number(bytes, 9304, number);
-    pages::write_number(bytes, 9312, write.page);
-    pages::write_number(bytes, 9320, write.failed);
-}
-
-// Writes the kinds of a base state.
-fn put_kinds(kinds: &[u8], bytes: &mut [u8])
-    requires kinds_len { length kinds.now ≡ 4096 }
-    requires bytes_len { length bytes.old ≡ open_length }
-    ensures { bytes.new ≡ put 13424 kinds.now bytes.old }
-{
-    cells::copy(kinds, &mut bytes[KINDS..LENGTH]);
+    let words = [
+        write.opened,
+        write.phase,
+        write.step,
+        write.logical,
+        write.first,
+        write.old,
+        write.block,
+        write.number as usize,
+        write.page,
+        write.failed,
+    ];
+    for (place, &word) in words.iter().enumerate() {
+        pages::write_number(bytes, WORDS + 8 * place, word);
+    }
 }
 
 // Writes a base state and the words of an open write; the page stays.
@@ -87,10 +92,9 @@ pub fn store(state: State, write: OpenWrite, bytes: &mut [u8])
     requires { length bytes.old ≡ open_length }
     ensures { bytes.new ≡ open_bytes (open_state state write (bytes_page bytes.old)) }
 {
-    let kinds = state.kinds;
     c_state::store(state, &mut bytes[0..WORDS]);
     put_words(write, bytes);
-    put_kinds(&kinds, bytes);
+    bytes[KINDS..LENGTH].copy_from_slice(&state.kinds);
 }
 
 // Writes a base state beside a write that stays, or that is given up.
@@ -98,10 +102,10 @@ pub fn leave(state: State, write: OpenWrite, gone: bool, bytes: &mut [u8])
     requires { length bytes.old ≡ open_length }
     ensures { bytes.new ≡ open_bytes (left_open gone state write (bytes_page bytes.old)) }
 {
-    if !gone {
+    if gone {
+        open_write::clear(&mut bytes[PAGE..KINDS]);
+        store(state, OpenWrite::none(), bytes);
+    } else {
         store(state, write, bytes);
-        return;
     }
-    open_write::clear(&mut bytes[PAGE..KINDS]);
-    store(state, OpenWrite::none(), bytes);
 }

@@ -10,7 +10,8 @@ use geometry::Geometry;
 use state::State;
 use state_choose::Choice;
 
-// Where a request stands: which fill, and what is due in it.
+// Where a request stands: which fill, and what is due in it. Phase, step, failed and answer stay numbers: the laws of fill_laws,
+// fill_driver and the recovery crates speak of them, and an open write keeps them as words for C.
 #[derive(Clone, Copy)]
 pub struct Cursor {
     // 0 fills a data copy, 1 a table, 2 has ended.
@@ -43,10 +44,10 @@ fn withdraw(state: State, block: usize, outcome: Outcome) -> State
     requires { block < 4096 }
     ensures { result ≡ withdrawn block state outcome }
 {
-    let Outcome::Failed = outcome else {
-        return State::blank(2);
-    };
-    state.mark_invalid(block)
+    match outcome {
+        Outcome::Failed => state.mark_invalid(block),
+        _ => State::blank(2),
+    }
 }
 
 impl Cursor {
@@ -123,22 +124,14 @@ impl Cursor {
     pub fn programs(self) -> u64
         ensures { result ≡ programs self }
     {
-        let step = self.step;
-        if step == 2 {
-            return 1;
-        }
-        0
+        u64::from(self.step == 2)
     }
 
     // Whether something is due, with so many page programs left.
     pub fn is_open(self, left: u64) -> bool
         ensures { result ≡ is_open_now self left }
     {
-        if left == 0 {
-            return false;
-        }
-        let phase = self.phase;
-        phase < 2
+        left != 0 && self.phase < 2
     }
 
     // The page that is due after an erase or a page that passed.
@@ -146,38 +139,28 @@ impl Cursor {
         requires { self.page < 64 }
         ensures { result ≡ page_after self }
     {
-        let step = self.step;
-        if step == 1 {
-            return 0;
-        }
-        let page = self.page;
-        page + 1
+        if self.step == 1 { 0 } else { self.page + 1 }
     }
 
     // What is due after the last page of a fill passed: a table follows a copy if any block failed.
     fn finish(self) -> Self
         ensures { result ≡ filled_whole self }
     {
-        let phase = self.phase;
-        if phase != 0 {
-            return Cursor::end(0);
+        if self.phase == 0 && self.failed != 0 {
+            self.again(1, self.failed)
+        } else {
+            Cursor::end(0)
         }
-        let failed = self.failed;
-        if failed == 0 {
-            return Cursor::end(0);
-        }
-        self.again(1, failed)
     }
 
     // What is due after an operation that did not pass.
     fn replace(self, outcome: Outcome) -> Self
         ensures { result ≡ unfilled self outcome }
     {
-        let phase = self.phase;
-        let Outcome::Failed = outcome else {
-            return Cursor::end(request::stop_answer(outcome));
-        };
-        self.again(phase, 1)
+        match outcome {
+            Outcome::Failed => self.again(self.phase, 1),
+            _ => Cursor::end(request::stop_answer(outcome)),
+        }
     }
 
     // What is due after the erase or page that was due ended so.
@@ -190,9 +173,10 @@ impl Cursor {
         };
         let page = self.page_after();
         if page < pages {
-            return self.at_page(page);
+            self.at_page(page)
+        } else {
+            self.finish()
         }
-        self.finish()
     }
 
     // The state after a passed fill, or after an operation that did not pass.
@@ -200,24 +184,24 @@ impl Cursor {
         requires { (self.logical < 4096) × (self.block < 4096) }
         ensures { result ≡ settled self state outcome }
     {
-        let block = self.block;
         let Outcome::Passed = outcome else {
-            return withdraw(state, block, outcome);
+            return withdraw(state, self.block, outcome);
         };
-        let phase = self.phase;
-        if phase != 0 {
-            return state.record_table(block);
+        if self.phase == 0 {
+            state.record_copy(pages::DATA, self.logical, self.block)
+        } else {
+            state.record_table(self.block)
         }
-        state.record_copy(pages::DATA, self.logical, block)
     }
 }
 
 fn stop(answer: usize) -> Running
     ensures { result ≡ stopped answer }
 {
-    let cursor = Cursor::end(answer);
-    let state = State::blank(2);
-    Running { cursor, state }
+    Running {
+        cursor: Cursor::end(answer),
+        state: State::blank(2),
+    }
 }
 
 // Takes the next number, then the next permitted block.
@@ -236,9 +220,8 @@ pub fn prepare(c: Cursor, state: State, g: Geometry) -> Running
     let Choice::Block(block) = choice else {
         return stop(8);
     };
-    let cursor = c.fill(block, number);
     Running {
-        cursor,
+        cursor: c.fill(block, number),
         state: taken,
     }
 }

@@ -14,9 +14,8 @@ use Rattle.chip_interface.specs.Interface.{output_phase}
 use Rattle.chip_array.specs.Device.{Device, setting}
 use Rattle.bus_polling.specs.Outcomes.{is_passed}
 use Rattle.bus_polling.specs.declared.Outcome.TheVariants.{Passed}
-use Rattle.parameters.specs.Page.{geometry_of, told}
+use Rattle.parameters.specs.Page.{Told, geometry_of, told}
 use Rattle.parameters.specs.declared.Sizes.{Sizes}
-use Rattle.parameters.specs.declared.Told.{Told}
 use Rattle.parameters.proofs.ToldLaws.{Tells, told_so}
 use Rattle.parameters.proofs.ToldLaws.Tells.{tells_sizes, breaks_limit, has_none}
 use Rattle.state.specs.State.{blank}

@@ -22,8 +22,7 @@ use Rattle.parameter_read.specs.Cycles.{parameter_cycles, parameter_outcome, par
 use Rattle.parameter_read.specs.Ends.{CanTell}
 use Rattle.parameter_read.proofs.ParameterLaws.{parameters_bytes}
 use Rattle.parameters.specs.declared.Sizes.{Sizes}
-use Rattle.parameters.specs.declared.Told.{Told}
-use Rattle.parameters.specs.Page.{told}
+use Rattle.parameters.specs.Page.{Told, told}
 use Rattle.state.specs.State.{blank}
 use Rattle.state.specs.declared.State.{State}
 use Rattle.request.specs.Call.{call_line, stop_answer, end_at, result_of}

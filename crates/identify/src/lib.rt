@@ -69,13 +69,14 @@ fn fetch(
     let g = unknown_geometry();
     let from = request::begin(interface, allowed);
     let reset = operations::reset(from, g, array, register, history, mask, fates);
-    let bus = reset.bus;
-    let outcome = reset.outcome;
-    let Outcome::Passed = outcome else {
-        return Done { bus, outcome };
+    let Outcome::Passed = reset.outcome else {
+        return Done {
+            bus: reset.bus,
+            outcome: reset.outcome,
+        };
     };
     parameter_read::read_parameters(
-        bus, g, array, register, history, mask, fates, parameters, bytes,
+        reset.bus, g, array, register, history, mask, fates, parameters, bytes,
     )
 }
 
@@ -100,22 +101,25 @@ pub fn identify(
             sizes: no_sizes(),
         };
     }
-    let mut bytes = [0u8; 768];
+    let mut bytes = [0u8; PARAMETERS];
     let done = fetch(
         interface, array, register, history, mask, fates, allowed, parameters, &mut bytes,
     );
-    let bus = done.bus;
-    let outcome = done.outcome;
-    let Outcome::Passed = outcome else {
+    let Outcome::Passed = done.outcome else {
+        let answer = request::stop_answer(done.outcome);
         return Identified {
-            returned: request::end(request::stop_answer(outcome), State::blank(2), bus, allowed),
+            returned: request::end(answer, State::blank(2), done.bus, allowed),
             sizes: no_sizes(),
         };
     };
-    let told = parameters::tell(&bytes, logical);
-    let sizes = told.sizes;
-    Identified {
-        returned: request::end(told.answer, state, bus, allowed),
-        sizes,
+    match parameters::tell(&bytes, logical) {
+        Ok(sizes) => Identified {
+            returned: request::end(0, state, done.bus, allowed),
+            sizes,
+        },
+        Err(refusal) => Identified {
+            returned: request::end(usize::from(refusal), state, done.bus, allowed),
+            sizes: no_sizes(),
+        },
     }
 }

@@ -6,7 +6,7 @@ ghost use Rattle.cells.specs.Part.{part};
 ghost use Rattle.pages.specs.Layout.{number_of};
 ghost use Rattle.journal.specs.Records.{sale_bytes, is_next, replaces_in};
 
-// Where the fields of a record stand on its page, and where FFh begins.
+// Where the fields of a record stand on its page after its number, and where FFh begins.
 const SELECTION: usize = 2;
 
 const COUNT: usize = 3;
@@ -19,7 +19,7 @@ const REST: usize = 11;
 
 // A sale as it is entered: what was sold, how many, the price of one in cents, and the number of an earlier record that it
 // replaces, or 0.
-#[derive(Clone, Copy)]
+#[derive(Clone, Copy, Debug, PartialEq, Eq)]
 pub struct Sale {
     pub selection: u8,
     pub count: u16,
@@ -41,13 +41,9 @@ pub fn is_next(page: &[u8], before: usize) -> bool
     requires before_bound { before < 65535 }
     ensures { result ≡ is_next before page.now }
 {
-    if pages::pair_at(page, 0) != before + 1 {
-        return false;
-    }
-    if before < replaces_of(page) {
-        return false;
-    }
-    pages::all_ones(&page[REST..])
+    pages::pair_at(page, 0) == before + 1
+        && replaces_of(page) <= before
+        && pages::all_ones(&page[REST..])
 }
 
 // Count times price, of the bytes that hold both.
@@ -55,10 +51,9 @@ pub fn amount_of(bytes: &[u8]) -> u64
     requires { 6 ≤ length bytes.now }
     ensures { (result ≡ number_of (part 0 2 bytes.now) * number_of (part 2 4 bytes.now)) × (result ≤ 281470681677825) }
 {
-    let count = pages::pair_at(bytes, 0);
-    let low = pages::pair_at(bytes, 2);
-    let high = pages::pair_at(bytes, 4);
-    (count * (low + 65536 * high)) as u64
+    let count = u16::from_le_bytes([bytes[0], bytes[1]]);
+    let price = u32::from_le_bytes([bytes[2], bytes[3], bytes[4], bytes[5]]);
+    u64::from(count) * u64::from(price)
 }
 
 // Writes a record over a page of main bytes.
@@ -66,12 +61,10 @@ pub fn write_record(page: &mut [u8], number: usize, sale: Sale)
     requires { 11 ≤ length page.old }
     ensures { page.new ≡ sale_bytes (length page.old) number sale }
 {
-    let price = sale.price as usize;
-    pages::write_pair(page, 0, number);
+    page[..SELECTION].copy_from_slice(&number.to_le_bytes()[..SELECTION]);
     page[SELECTION] = sale.selection;
-    pages::write_pair(page, COUNT, sale.count as usize);
-    pages::write_pair(page, PRICE, price);
-    pages::write_pair(page, PRICE + 2, price / 256 / 256);
-    pages::write_pair(page, REPLACES, sale.replaces as usize);
-    pages::fill_ones(page, REST);
+    page[COUNT..PRICE].copy_from_slice(&sale.count.to_le_bytes());
+    page[PRICE..REPLACES].copy_from_slice(&sale.price.to_le_bytes());
+    page[REPLACES..REST].copy_from_slice(&sale.replaces.to_le_bytes());
+    page[REST..].fill(0xff);
 }

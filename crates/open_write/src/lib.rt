@@ -12,7 +12,8 @@ use geometry::Geometry;
 // Bytes kept for the page.
 pub const KEPT: usize = 4096;
 
-// The write that is open, as it is kept beside the state. Every value of every word has a meaning.
+// The write that is open, as it is kept beside the state. Its words are numbers, since they come from C: every value of every word
+// has a meaning.
 #[derive(Clone, Copy)]
 pub struct OpenWrite {
     // 0 none is open, any other value one is.
@@ -37,10 +38,7 @@ pub struct OpenWrite {
 fn told(word: usize, other: usize) -> usize
     ensures { result ≡ cond (eqb word 0) 0 other }
 {
-    if word == 0 {
-        return 0;
-    }
-    other
+    if word == 0 { 0 } else { other }
 }
 
 impl OpenWrite {
@@ -103,30 +101,17 @@ impl OpenWrite {
     fn is_inside(self, g: Geometry) -> bool
         ensures { result ≡ words_fit g self }
     {
-        if g.logical <= self.logical {
-            return false;
-        }
-        if g.pages <= self.first {
-            return false;
-        }
-        if g.blocks <= self.block {
-            return false;
-        }
-        self.page < g.pages
+        self.logical < g.logical
+            && self.first < g.pages
+            && self.block < g.blocks
+            && self.page < g.pages
     }
 
     // Whether what is open lies in the geometry, with this buffer for its page.
     pub fn fits(self, kept: &[u8], g: Geometry) -> bool
         ensures { (st : State) → result ≡ open_fits g (open_state st self kept.now) }
     {
-        if kept.len() != KEPT {
-            return false;
-        }
-        let opened = self.opened;
-        if opened == 0 {
-            return true;
-        }
-        self.is_inside(g)
+        kept.len() == KEPT && (self.opened == 0 || self.is_inside(g))
     }
 }
 
@@ -134,24 +119,14 @@ impl OpenWrite {
 pub fn is_stopping(answer: usize) -> bool
     ensures { result ≡ stops answer }
 {
-    if answer < 8 {
-        return false;
-    }
-    if answer <= 11 {
-        return true;
-    }
-    answer == 255
+    matches!(answer, 8..=11 | 255)
 }
 
 // Clears the buffer of the page.
 pub fn clear(kept: &mut [u8])
     ensures { kept.new ≡ replicate (length kept.old) 0 }
 {
-    let mut i = 0;
-    while i < kept.len() {
-        kept[i] = 0;
-        i += 1;
-    }
+    kept.fill(0);
 }
 
 // Keeps the bytes of a page, the rest of the buffer 0.
@@ -159,6 +134,6 @@ pub fn keep_page(bytes: &[u8], kept: &mut [u8])
     requires { length bytes.now ≤ length kept.old }
     ensures { kept.new ≡ kept_page bytes.now kept.old }
 {
-    clear(kept);
-    cells::copy(bytes, kept);
+    kept[..bytes.len()].copy_from_slice(bytes);
+    kept[bytes.len()..].fill(0);
 }

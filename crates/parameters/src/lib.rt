@@ -1,10 +1,11 @@
 // The parameter page of a chip (002, Table 13): its integrity CRC, which of its copies are good, and the sizes that they tell.
 #![tactic(auto)]
 
-ghost use Rattle.std.specs.Prelude.{◌≡◌, ◌+◌, ◌≤◌, ◌<◌, length, take, drop};
+ghost use Rattle.std.specs.Prelude.{◌≡◌, ◌+◌, ◌≤◌, take, drop, option_map};
+ghost use Rattle.std.specs.List.{find};
 ghost use Rattle.pages.specs.Layout.{number_of};
 ghost use Rattle.parameters.specs.Crc.{bit_into, byte_into, integrity};
-ghost use Rattle.parameters.specs.Page.{signed, good, sizes_in, refused_with, judged, first_good_of, told};
+ghost use Rattle.parameters.specs.Page.{good, sizes_in, refusal_answer, told_by, judged, told};
 
 use geometry::Geometry;
 
@@ -17,52 +18,63 @@ pub struct Sizes {
     pub blocks: usize,
 }
 
-// The answer, and the sizes, four zeros if they are refused.
-#[derive(Clone, Copy)]
-pub struct Told {
-    pub answer: usize,
-    pub sizes: Sizes,
+// Why no sizes are told.
+#[derive(Clone, Copy, Debug, PartialEq, Eq)]
+pub enum Refusal {
+    // The sizes break a limit.
+    Geometry,
+    // No copy is good.
+    NoCopy,
 }
 
-// The limits are broken, or no copy is good.
-const GEOMETRY: usize = 1;
+impl From<Refusal> for usize {
+    ghost from_gives = { λ refusal answer. answer ≡ refusal_answer refusal };
 
-const NO_COPY: usize = 12;
+    fn from(refusal: Refusal) -> usize {
+        match refusal {
+            Refusal::Geometry => 1,
+            Refusal::NoCopy => 12,
+        }
+    }
+}
+
+// The bytes of a copy, and where its fields stand: the sizes, and the CRC of all bytes before it.
+const COPY: usize = 256;
+
+const MAIN: usize = 80;
+
+const SPARE: usize = 84;
+
+const PAGES: usize = 92;
+
+const BLOCKS: usize = 96;
+
+const CRC: usize = 254;
 
 // The ONFI integrity CRC: polynomial 8005h, from 4F4Eh on.
-const POLYNOMIAL: usize = 0x8005;
+const POLYNOMIAL: u16 = 0x8005;
 
-const START: usize = 0x4f4e;
-
-fn wide(x: u8) -> usize
-    ensures { (result ≡ x) × (result ≤ 255) }
-{
-    x as usize
-}
+const START: u16 = 0x4f4e;
 
 // The register after one bit more.
-fn with_bit(crc: usize, bit: usize) -> usize
-    requires { crc < 65536 }
+fn with_bit(crc: u16, bit: u16) -> u16
     ensures { result ≡ bit_into crc bit }
 {
-    let shifted = crc * 2 % 65536;
-    if crc / 32768 == bit {
-        return shifted;
+    let shifted = crc << 1;
+    if crc >> 15 == bit {
+        shifted
+    } else {
+        shifted ^ POLYNOMIAL
     }
-    shifted ^ POLYNOMIAL
 }
 
 // The register after one byte more, its most significant bit first.
-fn with_byte(crc: usize, byte: u8) -> usize
-    requires { crc < 65536 }
-    ensures { (result ≡ byte_into crc byte) × (result < 65536) }
+fn with_byte(crc: u16, byte: u8) -> u16
+    ensures { result ≡ byte_into crc byte }
 {
-    let bits = wide(byte);
     let mut register = crc;
-    let mut left: usize = 8;
-    while 0 < left {
-        left -= 1;
-        register = with_bit(register, (bits >> left) & 1);
+    for place in (0..8u32).rev() {
+        register = with_bit(register, u16::from(byte >> place & 1));
     }
     register
 }
@@ -72,117 +84,77 @@ pub fn crc(bytes: &[u8]) -> usize
     ensures { result ≡ integrity bytes.now }
 {
     let mut register = START;
-    let mut i = 0;
-    while i < bytes.len() {
-        register = with_byte(register, bytes[i]);
-        i += 1;
+    for &byte in bytes {
+        register = with_byte(register, byte);
     }
-    register
+    usize::from(register)
 }
 
-// Whether a copy starts with the bytes "ONFI".
-fn is_signed(copy: &[u8]) -> bool
-    requires { length copy.now ≡ 256 }
-    ensures { result ≡ signed copy.now }
-{
-    check::same(&copy[..4], b"ONFI")
-}
-
-// Whether a copy is good: signed, with the CRC of its bytes 0 to 253 in its last two.
-fn is_good(copy: &[u8]) -> bool
-    requires { length copy.now ≡ 256 }
+// Whether a copy is good: it starts with "ONFI", and its last two bytes hold the CRC of those before them.
+fn is_good(copy: &[u8; COPY]) -> bool
     ensures { result ≡ good copy.now }
 {
-    if !is_signed(copy) {
-        return false;
-    }
-    pages::pair_at(copy, 254) == crc(&copy[..254])
+    copy.starts_with(b"ONFI") && pages::pair_at(copy, CRC) == crc(&copy[..CRC])
 }
 
 // A number of four bytes, low byte first.
-fn four_at(copy: &[u8], at: usize) -> usize
-    requires { at + 4 ≤ length copy.now }
+fn four_at(copy: &[u8; COPY], at: usize) -> usize
+    requires { at + 4 ≤ 256 }
     ensures { result ≡ number_of (take 4 (drop at copy.now)) }
 {
-    let second = at + 1;
-    let third = at + 2;
-    let fourth = at + 3;
-    let low = wide(copy[at]) + 256 * wide(copy[second]);
-    let high = wide(copy[third]) + 256 * wide(copy[fourth]);
-    low + 65536 * high
+    u32::from_le_bytes([copy[at], copy[at + 1], copy[at + 2], copy[at + 3]]) as usize
 }
 
 // The sizes that a copy tells.
-fn sizes_in(copy: &[u8]) -> Sizes
-    requires { length copy.now ≡ 256 }
+fn sizes_in(copy: &[u8; COPY]) -> Sizes
     ensures { result ≡ sizes_in copy.now }
 {
     Sizes {
-        main: four_at(copy, 80),
-        spare: pages::pair_at(copy, 84),
-        pages: four_at(copy, 92),
-        blocks: four_at(copy, 96),
-    }
-}
-
-fn refused(answer: usize) -> Told
-    ensures { result ≡ refused_with answer }
-{
-    Told {
-        answer,
-        sizes: Sizes {
-            main: 0,
-            spare: 0,
-            pages: 0,
-            blocks: 0,
-        },
+        main: four_at(copy, MAIN),
+        spare: pages::pair_at(copy, SPARE),
+        pages: four_at(copy, PAGES),
+        blocks: four_at(copy, BLOCKS),
     }
 }
 
 // The sizes of a good copy, tested against the limits with N logical blocks.
-fn judge(sizes: Sizes, logical: usize) -> Told
-    ensures { result ≡ judged sizes logical }
+fn judge(sizes: Sizes, logical: usize) -> Result<Sizes, Refusal>
+    ensures { told_by result ≡ judged sizes logical }
 {
+    let Sizes {
+        main,
+        spare,
+        pages,
+        blocks,
+    } = sizes;
     let g = Geometry {
-        main: sizes.main,
-        spare: sizes.spare,
-        pages: sizes.pages,
-        blocks: sizes.blocks,
+        main,
+        spare,
+        pages,
+        blocks,
         logical,
     };
-    if !geometry::is_valid(g) {
-        return refused(GEOMETRY);
+    if geometry::is_valid(g) {
+        Ok(sizes)
+    } else {
+        Err(Refusal::Geometry)
     }
-    Told { answer: 0, sizes }
 }
 
-// The place of the first good of the three copies, 3 if none is good.
-fn first_good(parameters: &[u8]) -> usize
-    requires { length parameters.now ≡ 768 }
-    ensures { (result ≡ first_good_of parameters.now) × (result ≤ 3) }
+// The first good one of some copies.
+fn first_good(copies: &[[u8; COPY]]) -> Option<&[u8; COPY]>
+    ensures { option_map (λ copy. copy.now) result ≡ find good copies.now }
 {
-    if is_good(&parameters[0..256]) {
-        return 0;
-    }
-    if is_good(&parameters[256..512]) {
-        return 1;
-    }
-    if is_good(&parameters[512..768]) {
-        return 2;
-    }
-    3
+    copies.iter().find(|copy| is_good(copy))
 }
 
 // What the first good of the three copies tells.
-pub fn tell(parameters: &[u8], logical: usize) -> Told
-    requires { length parameters.now ≡ 768 }
-    ensures { result ≡ told parameters.now logical }
+pub fn tell(parameters: &[u8; 3 * COPY], logical: usize) -> Result<Sizes, Refusal>
+    ensures { told_by result ≡ told parameters.now logical }
 {
-    let place = first_good(parameters);
-    if place == 3 {
-        return refused(NO_COPY);
+    let (copies, _) = parameters.as_chunks();
+    match first_good(copies) {
+        Some(copy) => judge(sizes_in(copy), logical),
+        None => Err(Refusal::NoCopy),
     }
-    let at = 256 * place;
-    let end = at + 256;
-    judge(sizes_in(&parameters[at..end]), logical)
 }

@@ -16,8 +16,7 @@ use Rattle.identify.proofs.EndLaws.{identify_ends}
 use Rattle.identify.proofs.SentLaws.{identify_sent, identify_starts}
 use Rattle.identify.proofs.AnswerLaws.{Ends, identify_so, identify_keeps}
 use Rattle.identify.proofs.AnswerLaws.Ends.{unfit, cut, silent, tells}
-use Rattle.parameters.specs.Page.{told}
-use Rattle.parameters.specs.declared.Told.{Told}
+use Rattle.parameters.specs.Page.{Told, told}
 use Rattle.parameters.proofs.ToldLaws.{Tells, told_so}
 use Rattle.parameters.proofs.ToldLaws.Tells.{tells_sizes, breaks_limit, has_none}
 use Rattle.open_write.specs.Open.{mounted_open}

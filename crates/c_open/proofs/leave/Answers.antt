@@ -5,12 +5,11 @@ use Rattle.c_open.specs.OpenBytes.{open_bytes}
 use Rattle.c_open.proofs.ByteLaws.{page_cleared}
 use Rattle.c_open.proofs.leave.Goals as goal
 
-pub returns-then-not-gone : goal.returns-then-not-gone
-returns-then-not-gone c =
-    rw (c.if-not-gone.true) c.store.ensures
-
-pub returns : goal.returns
-returns c =
-    rw (c.if-not-gone.false)
-    (c.store-2.ensures
+pub returns-then-gone : goal.returns-then-gone
+returns-then-gone c =
+    rw (c.if-gone.true)
+    (c.store.ensures
     ∙ (λ i. open_bytes (open_state c.args.state (c.none.ensures i) (page_cleared c.args.bytes.now _ _ c.requires c.clear.ensures refl i))))
+
+pub returns-else-gone : goal.returns-else-gone
+returns-else-gone c = rw (c.if-gone.false) c.store-else-gone.ensures

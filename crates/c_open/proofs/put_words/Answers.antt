@@ -1,15 +1,23 @@
 -- `c_open::put_words` meets its contract. Assumes nothing.
-use mathlib.Core.Path.{◌∙◌}
+use Prim.Native.Nat.{ℕ}
+use mathlib.Core.List.{List}
+use mathlib.Core.Path.{◌≡◌, refl, sym, ap, ◌∙◌}
 use native.Mathlib.Omega.{arith}
-use Rattle.c_open.proofs.ByteLaws.{written}
+use lib.ListN.{take}
+use Rattle.cells.specs.Part.{put}
+use Rattle.c_open.proofs.ByteLaws.{word_written, none_written, all_written, words_in, words_bytes}
 use Rattle.c_open.proofs.put_words.Goals as goal
 
-pub write_number-requires-10 : goal.write_number-requires-10
-write_number-requires-10 c = omega (arith, c.bytes-9-1.given ∙ c.bytes-8-1.given ∙ c.bytes-7-1.given ∙ c.bytes-6-1.given ∙ c.bytes-5-1.given ∙ c.bytes-4-1.given ∙ c.bytes-3-1.given ∙ c.bytes-2-1.given ∙ c.bytes-1.given ∙ c.requires)
+pub loop-place-init : goal.loop-place-init
+loop-place-init c = sym (none_written c.args.bytes.now)
 
-pub shape_of-bytes : goal.shape_of-bytes
-shape_of-bytes c = c.bytes-10-1.given ∙ c.bytes-9-1.given ∙ c.bytes-8-1.given ∙ c.bytes-7-1.given ∙ c.bytes-6-1.given ∙ c.bytes-5-1.given ∙ c.bytes-4-1.given ∙ c.bytes-3-1.given ∙ c.bytes-2-1.given ∙ c.bytes-1.given
+pub loop-place-preserved : goal.loop-place-preserved
+loop-place-preserved c =
+    word_written c.loop-place.place _ (words_in c.args.write) c.args.bytes.now c.loop-place.bytes _ c.loop-place-test.true refl (omega (arith, c.requires)) c.loop-place.invariant c.write_number.ensures
 
 pub returns : goal.returns
 returns c =
-    written c.args.write c.args.bytes.now _ _ _ _ _ _ _ _ _ _ (omega (arith, c.requires)) c.write_number.ensures c.write_number-2.ensures c.write_number-3.ensures c.write_number-4.ensures c.write_number-5.ensures c.write_number-6.ensures c.write_number-7.ensures c.write_number-8.ensures c.write_number-9.ensures c.write_number-10.ensures
+    let all : c.loop-place.place ≡ 10 = omega (arith, c.loop-place-test.false, c.loop-place.auto.place-end) in
+    c.loop-place.invariant
+    ∙ ap (λ (n : ℕ). put 9248 (words_bytes (take n (words_in c.args.write))) c.args.bytes.now) all
+    ∙ ap (λ (ys : List ℕ). put 9248 ys c.args.bytes.now) (all_written c.args.write)

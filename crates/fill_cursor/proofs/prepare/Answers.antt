@@ -34,4 +34,4 @@ returns-in_default c =
 pub returns : goal.returns
 returns c =
     let is = sym (c.choose_block-choice.ensures ∙ ap₂ (λ (x : State) (h : List ℕ). chosen x.marked x.invalid h c.args.g.blocks x.last) c.take_number-taken.ensures c.held-held.ensures) in
-    (λ i. running (c.fill-cursor.ensures i) (c.take_number-taken.ensures i)) ∙ (λ i. running (filling c.in-Block.block (c.next_number-number.ensures i) c.args.c) (taken c.args.state)) ∙ prepared_block c.args.g c.args.c c.args.state (sym c.is_spent.ensures ∙ c.if-is_spent.false) c.in-Block.block (is ∙ c.in-Block.is)
+    (λ i. running (c.fill.ensures i) (c.take_number-taken.ensures i)) ∙ (λ i. running (filling c.in-Block.block (c.next_number-number.ensures i) c.args.c) (taken c.args.state)) ∙ prepared_block c.args.g c.args.c c.args.state (sym c.is_spent.ensures ∙ c.if-is_spent.false) c.in-Block.block (is ∙ c.in-Block.is)

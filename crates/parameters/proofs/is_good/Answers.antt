@@ -1,20 +1,14 @@
 -- `parameters::is_good` meets its contract. Assumes nothing.
 use mathlib.Core.Path.{sym, ap₂, ◌∙◌}
-use native.Mathlib.Omega.{arith}
 use lib.Dec.{eqb}
-use lib.Seq.{length-take-le}
 use Rattle.parameters.specs.Page.{good}
 use Rattle.parameters.proofs.is_good.Goals as goal
 
-pub returns-then-not-is_signed : goal.returns-then-not-is_signed
+pub returns-then-starts_with : goal.returns-then-starts_with
 unfolding good
-returns-then-not-is_signed c = rw (sym c.is_signed.ensures ∙ c.if-not-is_signed.true)
+returns-then-starts_with c =
+    rw (sym c.starts_with.ensures.value ∙ c.if-starts_with.true) (ap₂ eqb c.pair_at.ensures c.crc.ensures)
 
-pub slice_bounds-crc-end : goal.slice_bounds-crc-end
-slice_bounds-crc-end c =
-    sym (length-take-le 254 c.args.copy.now (omega (arith, c.requires)))
-
-pub returns : goal.returns
+pub returns-else-starts_with : goal.returns-else-starts_with
 unfolding good
-returns c =
-    rw (sym c.is_signed.ensures ∙ c.if-not-is_signed.false) (ap₂ eqb c.pair_at.ensures c.crc.ensures)
+returns-else-starts_with c = rw (sym c.starts_with.ensures.value ∙ c.if-starts_with.false) c.if-starts_with.false

@@ -3,10 +3,10 @@ use mathlib.Core.Path.{sym, ◌∙◌}
 use Rattle.parameters.specs.Page.{judged}
 use Rattle.parameters.proofs.judge.Goals as goal
 
-pub returns-then-not-is_valid : goal.returns-then-not-is_valid
+pub returns-then-is_valid : goal.returns-then-is_valid
 unfolding judged
-returns-then-not-is_valid c = rw (sym c.is_valid.ensures ∙ c.if-not-is_valid.true) c.refused.ensures
+returns-then-is_valid c = rw (sym c.is_valid.ensures ∙ c.if-is_valid.true)
 
-pub returns : goal.returns
+pub returns-else-is_valid : goal.returns-else-is_valid
 unfolding judged
-returns c = rw (sym c.is_valid.ensures ∙ c.if-not-is_valid.false)
+returns-else-is_valid c = rw (sym c.is_valid.ensures ∙ c.if-is_valid.false)

@@ -1,16 +1,21 @@
 -- `parameters::tell` meets its contract. Assumes nothing.
-use mathlib.Core.Path.{sym, ◌∙◌}
-use borrow.Author.Tests.{eq-eqb, ne_eqb}
-use Rattle.parameters.specs.Page.{told}
-use Rattle.parameters.proofs.PageLaws.{first-told}
+use mathlib.Core.List.{List}
+use Prim.Native.Nat.{ℕ}
+use mathlib.Core.Path.{ap, ◌∙◌}
+use Rattle.std.specs.Prelude.{Option}
+use Rattle.parameters.specs.Page.{judged, told_of, told}
+use Rattle.parameters.specs.declared.Sizes.{Sizes}
+use Rattle.parameters.proofs.PageLaws.{first_good-cut}
 use Rattle.parameters.proofs.tell.Goals as goal
 
-pub returns-then-place-eq3 : goal.returns-then-place-eq3
+pub returns-in-Some : goal.returns-in-Some
 unfolding told
-returns-then-place-eq3 c = rw (eq-eqb _ 3 (sym c.first_good-place.ensures.0 ∙ c.if-place-eq3.true)) c.refused.ensures
+returns-in-Some c =
+    c.judge.ensures
+    ∙ ap (λ (z : Sizes). judged z c.args.logical) c.sizes_in.ensures
+    ∙ ap (λ (copy : Option (List ℕ)). told_of copy c.args.logical) (c.in-Some.ensures ∙ first_good-cut c.args.parameters.now _ c.told-parameters c.as_chunks.ensures.front)
 
-pub returns : goal.returns
+pub returns-in-None : goal.returns-in-None
 unfolding told
-returns c =
-    rw (ne_eqb _ 3 (λ e. c.if-place-eq3.false (c.first_good-place.ensures.0 ∙ e)))
-    (first-told _ _ c.args.parameters.now c.args.logical c.first_good-place.result c.first_good-place.ensures.0 c.sizes_in.ensures c.judge.ensures)
+returns-in-None c =
+    ap (λ (copy : Option (List ℕ)). told_of copy c.args.logical) (c.in-None.ensures ∙ first_good-cut c.args.parameters.now _ c.told-parameters c.as_chunks.ensures.front)

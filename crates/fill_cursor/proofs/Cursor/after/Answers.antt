@@ -14,6 +14,6 @@ pub returns-then-page-pages : goal.returns-then-page-pages
 returns-then-page-pages c =
     c.at_page.ensures ∙ ap (λ (n : ℕ). on_page n c.args.self) c.page_after-page.ensures ∙ after_page c.args.pages c.args.self c.args.outcome (passed_by_is _ c.in-Passed.is) (subst (λ (n : ℕ). n < c.args.pages) c.page_after-page.ensures c.if-page-pages.true)
 
-pub returns : goal.returns
-returns c =
+pub returns-else-page-pages : goal.returns-else-page-pages
+returns-else-page-pages c =
     c.finish.ensures ∙ after_whole c.args.pages c.args.self c.args.outcome (passed_by_is _ c.in-Passed.is) (subst (λ (n : ℕ). c.args.pages ≤ n) c.page_after-page.ensures c.if-page-pages.false)

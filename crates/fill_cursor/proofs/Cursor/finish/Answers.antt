@@ -1,13 +1,12 @@
 -- `fill_cursor::Cursor::finish` meets its contract. Assumes nothing.
+use mathlib.Core.Logic.{⊎_elim}
 use mathlib.Core.Path.{◌∙◌}
 use Rattle.fill_cursor.proofs.NextLaws.{whole_table, whole_copy, whole_failed}
 use Rattle.fill_cursor.proofs.Cursor.finish.Goals as goal
 
-pub returns-then-phase-ne0 : goal.returns-then-phase-ne0
-returns-then-phase-ne0 c = c.end.ensures ∙ whole_table c.args.self c.if-phase-ne0.true
+pub returns-then-self-ne0 : goal.returns-then-self-ne0
+returns-then-self-ne0 c = c.again.ensures ∙ whole_failed c.args.self c.if-self-eq0.true c.if-self-ne0.true
 
-pub returns-then-failed-eq0 : goal.returns-then-failed-eq0
-returns-then-failed-eq0 c = c.end-then-failed-eq0.ensures ∙ whole_copy c.args.self c.if-phase-ne0.false c.if-failed-eq0.true
-
-pub returns : goal.returns
-returns c = c.again.ensures ∙ whole_failed c.args.self c.if-phase-ne0.false c.if-failed-eq0.false
+pub returns-else-self-eq0 : goal.returns-else-self-eq0
+returns-else-self-eq0 c =
+    c.end.ensures ∙ ⊎_elim (λ x. whole_copy c.args.self x.0 x.1) (λ x. whole_table c.args.self x) c.else-self-eq0.either

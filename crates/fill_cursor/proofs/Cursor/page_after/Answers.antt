@@ -3,10 +3,10 @@ use borrow.Author.Tests.{eq-eqb, ne_eqb}
 use Rattle.fill_cursor.specs.Cursor.{page_after}
 use Rattle.fill_cursor.proofs.Cursor.page_after.Goals as goal
 
-pub returns-then-step-eq1 : goal.returns-then-step-eq1
+pub returns-then-self-eq1 : goal.returns-then-self-eq1
 unfolding page_after
-returns-then-step-eq1 c = search eq-eqb
+returns-then-self-eq1 c = search eq-eqb
 
-pub returns : goal.returns
+pub returns-else-self-eq1 : goal.returns-else-self-eq1
 unfolding page_after
-returns c = search ne_eqb
+returns-else-self-eq1 c = search ne_eqb

@@ -3,14 +3,14 @@ use borrow.Author.Tests.{eq-eqb, ne_eqb}
 use Rattle.open_write.specs.Open.{open_fits}
 use Rattle.open_write.proofs.OpenWrite.fits.Goals as goal
 
-pub returns-then-kept-ne-KEPT : goal.returns-then-kept-ne-KEPT
+pub returns-then-self-eq0 : goal.returns-then-self-eq0
 unfolding open_fits
-returns-then-kept-ne-KEPT c = λ st. search ne_eqb
+returns-then-self-eq0 c = λ st. search eq-eqb
 
-pub returns-then-opened-eq0 : goal.returns-then-opened-eq0
+pub returns-else-self-eq0 : goal.returns-else-self-eq0
 unfolding open_fits
-returns-then-opened-eq0 c = λ st. search eq-eqb
+returns-else-self-eq0 c = λ st. search (eq-eqb, ne_eqb)
 
-pub returns : goal.returns
+pub returns-else-kept-eq-KEPT : goal.returns-else-kept-eq-KEPT
 unfolding open_fits
-returns c = λ st. search (eq-eqb, ne_eqb)
+returns-else-kept-eq-KEPT c = λ st. search ne_eqb
