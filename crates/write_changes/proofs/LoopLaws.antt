@@ -1,15 +1,15 @@
 -- Fills one after the other until one passes: what holds of each holds of all, for data fills and for table fills. Assumes nothing.
-use Prim.Native.Nat.{ℕ, zero, suc, ◌+◌, ◌-◌, ◌≤◌, ◌<◌}
+use Prim.Native.Nat.{ℕ, zero, suc, ◌≤◌, ◌<◌}
 use mathlib.Core.Bool.{Bool, true, false, cond}
 use mathlib.Core.List.{List}
-use mathlib.Core.Path.{◌≡◌, refl, sym, ap, subst, ◌∙◌}
+use mathlib.Core.Path.{◌≡◌, sym, subst}
 use native.Mathlib.Omega.{arith}
 use borrow.Table.Steps.{cases}
 use lib.Dec.{eqb}
 use Rattle.std.specs.Prelude.{Option, Some, None}
 use Rattle.chip_array.specs.Device.{Setting}
 use Rattle.bus_polling.specs.Outcomes.{is_passed, is_failed}
-use Rattle.bus_polling.proofs.OutcomeLaws.{failed_unpassed, passed_unfailed}
+use Rattle.bus_polling.proofs.OutcomeLaws.{passed_unfailed}
 use Rattle.state_choose.specs.Choose.{permitted, chosen}
 use Rattle.state_choose.proofs.ChooseLaws as choose
 use Rattle.pages.specs.Layout.{data_kind}
@@ -19,7 +19,7 @@ use Rattle.request.specs.Call.{stop_answer}
 use Rattle.progress.specs.Progress.{Progress}
 use Rattle.progress.specs.Steps.{resumed}
 use Rattle.fill.specs.Fill.{table_filled}
-use Rattle.fill_tables.specs.Tables.{Tried, Tabled, tabled, try_block, try_table, after_fill, ended_by, tables_filled}
+use Rattle.fill_tables.specs.Tables.{Tried, Tabled, tabled, try_block, try_table, ended_by, tables_filled}
 use Rattle.fill_tables.proofs.AfterLaws.{after_passed, after_failed}
 use Rattle.write_changes.specs.Changes.{Update, Copied, copied, copy_filled, stopped_at, after_try, copy_tried, copies_filled}
 
