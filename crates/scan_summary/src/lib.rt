@@ -28,23 +28,16 @@ pub struct Summary {
     pub greatest: u64,
 }
 
-fn wide(x: u8) -> usize
-    ensures { result ≡ x }
-{
-    x as usize
-}
-
 // Whether a page bears a factory mark, where it is one of the first two.
 fn marked_by(marked: usize, page: &[u8], main: usize, place: usize) -> usize
     requires { Sized main page.now }
     ensures { result ≡ marked_by main place page.now marked }
 {
-    if place < 2 {
-        if page[main] != 255 {
-            return 1;
-        }
+    if place < 2 && page[main] != 255 {
+        1
+    } else {
+        marked
     }
-    marked
 }
 
 impl Summary {
@@ -68,19 +61,10 @@ impl Summary {
         requires { Sized main page.now }
         ensures { result ≡ agrees (label self.kind self.logical 0 self.number) place (label_of main page.now) }
     {
-        let kind = self.kind;
-        if wide(pages::kind_of(page, main)) != kind {
-            return false;
-        }
-        let logical = self.logical;
-        if pages::logical_of(page, main) != logical {
-            return false;
-        }
-        let number = self.number;
-        if pages::number_of(page, main) != number {
-            return false;
-        }
-        pages::place_of(page, main) == place
+        usize::from(pages::kind_of(page, main)) == self.kind
+            && pages::logical_of(page, main) == self.logical
+            && pages::number_of(page, main) == self.number
+            && pages::place_of(page, main) == place
     }
 
     // After a page that is not whole.
@@ -92,39 +76,21 @@ impl Summary {
         self
     }
 
-    // The greater of a number and the greatest so far.
-    fn greatest_with(self, number: u64) -> u64
-        ensures { result ≡ max self.greatest number }
-    {
-        let greatest = self.greatest;
-        if greatest < number {
-            return number;
-        }
-        greatest
-    }
-
     // After a whole page.
     fn whole_step(mut self, marked: usize, page: &[u8], main: usize, place: usize) -> Self
         requires { Sized main page.now }
         ensures { result ≡ whole_step marked place (label_of main page.now) self }
     {
         let number = pages::number_of(page, main);
-        let greatest = self.greatest_with(number);
-        let same = self.agrees(page, main, place);
         self.marked = marked;
         self.any = 1;
-        self.greatest = greatest;
+        self.greatest = self.greatest.max(number);
         if place == 0 {
-            self.kind = wide(pages::kind_of(page, main));
+            self.kind = usize::from(pages::kind_of(page, main));
             self.logical = pages::logical_of(page, main);
             self.number = number;
-            self.complete = 0;
-            if pages::place_of(page, main) == 0 {
-                self.complete = 1;
-            }
-            return self;
-        }
-        if !same {
+            self.complete = usize::from(pages::place_of(page, main) == 0);
+        } else if !self.agrees(page, main, place) {
             self.complete = 0;
         }
         self
@@ -156,23 +122,13 @@ impl Summary {
     pub fn is_complete(self) -> bool
         ensures { result ≡ says_complete self }
     {
-        let marked = self.marked;
-        if marked != 0 {
-            return false;
-        }
-        let complete = self.complete;
-        complete == 1
+        self.marked == 0 && self.complete == 1
     }
 
     // Whether a block with this summary of all pages has no factory mark and a whole page.
     pub fn has_number(self) -> bool
         ensures { result ≡ says_number self }
     {
-        let marked = self.marked;
-        if marked != 0 {
-            return false;
-        }
-        let any = self.any;
-        any == 1
+        self.marked == 0 && self.any == 1
     }
 }
