@@ -17,7 +17,7 @@ use Rattle.cells.proofs.CellLaws.{bytes_drop}
 use Rattle.cells.proofs.PartLaws.{bytes_part}
 use Rattle.pages.specs.Layout.{is_table_kind, kind_of, label_of}
 use Rattle.pages.proofs.LayoutLaws.{number_of_fits}
-use Rattle.copies.specs.Blocks.{block_in, page_in, is_marked, is_complete, is_table, greatest}
+use Rattle.copies.specs.Blocks.{block_in, page_in, is_marked, is_complete, is_table}
 use Rattle.copies.specs.Current.{number_at}
 use Rattle.copies.specs.Pick.{nothing, at, better, pick}
 use Rattle.scan_summary.specs.Summary.{says_complete, says_number}

@@ -48,13 +48,9 @@ impl Found {
         requires { block < 4096 }
         ensures { result ≡ mark_noted block summary self }
     {
-        let marked = summary.marked;
-        if marked == 0 {
-            return self;
+        if summary.marked != 0 {
+            bitmaps::set_bit(&mut self.marked, block);
         }
-        let mut bits = self.marked;
-        bitmaps::set_bit(&mut bits, block);
-        self.marked = bits;
         self
     }
 
@@ -62,28 +58,18 @@ impl Found {
     fn is_greater(self, summary: Summary) -> bool
         ensures { result ≡ is_greater summary self }
     {
-        let any = self.any;
-        if any == 0 {
-            return true;
-        }
-        let greatest = self.greatest;
-        let greater = summary.greatest;
-        greatest < greater
+        self.any == 0 || self.greatest < summary.greatest
     }
 
     // After a block's greatest number.
     fn note_greatest(mut self, block: usize, summary: Summary) -> Self
         ensures { result ≡ greatest_noted block summary self }
     {
-        if !summary.has_number() {
-            return self;
+        if summary.has_number() && self.is_greater(summary) {
+            self.any = 1;
+            self.greatest = summary.greatest;
+            self.last = block;
         }
-        if !self.is_greater(summary) {
-            return self;
-        }
-        self.any = 1;
-        self.greatest = summary.greatest;
-        self.last = block;
         self
     }
 
@@ -91,34 +77,20 @@ impl Found {
     fn is_newer(self, summary: Summary) -> bool
         ensures { result ≡ is_newer summary self }
     {
-        let tables = self.tables;
-        if tables == 0 {
-            return true;
-        }
-        let number = self.number;
-        let newer = summary.number;
-        number < newer
+        self.tables == 0 || self.number < summary.number
     }
 
     // After a block that may be the current table; right and bits are those of its pages.
     fn note_table(mut self, block: usize, summary: Summary, right: usize, bits: [u8; 512]) -> Self
         ensures { result ≡ table_noted block summary right bits self }
     {
-        if !summary.is_complete() {
-            return self;
+        if summary.is_complete() && pages::is_table(summary.kind) && self.is_newer(summary) {
+            self.tables = 1;
+            self.table = block;
+            self.number = summary.number;
+            self.right = right;
+            self.bits = bits;
         }
-        let kind = summary.kind;
-        if !pages::is_table(kind) {
-            return self;
-        }
-        if !self.is_newer(summary) {
-            return self;
-        }
-        self.tables = 1;
-        self.table = block;
-        self.number = summary.number;
-        self.right = right;
-        self.bits = bits;
         self
     }
 
@@ -127,8 +99,8 @@ impl Found {
         requires { block < 4096 }
         ensures { result ≡ noted block summary right bits self }
     {
-        let marked = self.note_mark(block, summary);
-        let counted = marked.note_greatest(block, summary);
-        counted.note_table(block, summary, right, bits)
+        self.note_mark(block, summary)
+            .note_greatest(block, summary)
+            .note_table(block, summary, right, bits)
     }
 }
