@@ -40,27 +40,27 @@ layouts false false c o i = refl
 
 -- the answer of the tests in their order
 module _ (g : Geometry) (f : Found) where
-  pub no_table : f.tables ≡ 0 → false ≡ carries g f
+  pub no_table : f.tables ≡ false → false ≡ carries g f
   unfolding carries
-  no_table t = rw (eq-eqb f.tables 0 t)
+  no_table t = rw t
 
-  module _ (t : f.tables ≡ 0 → ⊥) where
+  module _ (t : f.tables ≡ true) where
     pub wrong_pages : f.right ≡ 0 → false ≡ carries g f
     unfolding carries
-    wrong_pages r = rw (ne_eqb f.tables 0 t, eq-eqb f.right 0 r)
+    wrong_pages r = rw (t, eq-eqb f.right 0 r)
 
     module _ (r : f.right ≡ 0 → ⊥) where
       pub marked_listed : never_both f.marked f.bits g.blocks ≡ false → false ≡ carries g f
       unfolding carries
-      marked_listed m = rw (ne_eqb f.tables 0 t, ne_eqb f.right 0 r, m)
+      marked_listed m = rw (t, ne_eqb f.right 0 r, m)
 
       pub own_listed : never_both f.marked f.bits g.blocks ≡ true → bit_at f.bits f.table ≡ true → false ≡ carries g f
       unfolding carries
-      own_listed m o = rw (ne_eqb f.tables 0 t, ne_eqb f.right 0 r, m, o)
+      own_listed m o = rw (t, ne_eqb f.right 0 r, m, o)
 
       pub all_right : never_both f.marked f.bits g.blocks ≡ true → bit_at f.bits f.table ≡ false → true ≡ carries g f
       unfolding carries
-      all_right m o = rw (ne_eqb f.tables 0 t, ne_eqb f.right 0 r, m, o)
+      all_right m o = rw (t, ne_eqb f.right 0 r, m, o)
 
 -- right for the geometry, so right for the number that it names
 right_own : (g : Geometry) (block : List ℕ) (n : ℕ) → 0 < n → right_to g block n ≡ true → right_to (own_count g block) block n ≡ true
@@ -108,16 +108,15 @@ module _ (g : Geometry) (v : Valid g) (array : List ℕ) (long : length array �
   found_chosen : Chosen Full g three array g.blocks (kept f) → survey_of g f ≡ surveyed g array
   unfolding survey_of carries carried_by below_by
   found_chosen c =
-      let some : eqb f.tables 0 ≡ false = ne_eqb f.tables 0 (λ x. omega (arith, x, c.tables_one)) in
       let here = picked c in
       let below = table_below Full g v array long f.table here in
-      rw (some, c.right_is, c.bits_are, found_marked Full g three array g.blocks, found_greatest Full g three array g.blocks, here, carries_table f.table below)
+      rw (c.tables_one, c.right_is, c.bits_are, found_marked Full g three array g.blocks, found_greatest Full g three array g.blocks, here, carries_table f.table below)
       (carried_arms g array (marks_to g array g.blocks) f.table (greatest_below g array g.blocks) (laid_table g marks (block_in g array f.table)) (lists g (block_in g array f.table) f.table))
 
   found_missing : Missing Full g three array g.blocks (kept f) → survey_of g f ≡ surveyed g array
   unfolding survey_of carries carried_by list_bits entry_of below_by
   found_missing m =
-      rw (eq-eqb f.tables 0 m.tables_none, found_marked Full g three array g.blocks, found_greatest Full g three array g.blocks, missing m)
+      rw (m.tables_none, found_marked Full g three array g.blocks, found_greatest Full g three array g.blocks, missing m)
 
   pub survey_found : survey_of g f ≡ surveyed g array
   survey_found = ⊎_elim found_missing found_chosen (table_found Full g three array g.blocks)

@@ -17,7 +17,7 @@ pub fn judge(found: Found, g: Geometry, copies: &Copies<'_>) -> usize
     requires table_bound { found.table < 4096 }
     ensures { result ≡ judged_by g found (told copies.now) }
 {
-    if found.tables == 0 {
+    if !found.tables {
         return 4;
     }
     if found.right != 1

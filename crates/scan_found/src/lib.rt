@@ -11,12 +11,12 @@ use scan_summary::Summary;
 // What the blocks scanned so far told, but for their copies.
 #[derive(Clone, Copy)]
 pub struct Found {
-    // 1 if a page was whole; the greatest number on one, 0 if none was, and the lowest block that holds it.
-    pub any: usize,
+    // Whether a page was whole; the greatest number on one, 0 if none was, and the lowest block that holds it.
+    pub any: bool,
     pub greatest: u64,
     pub last: usize,
-    // 1 if a complete table was found; the block and number of the current one, how its pages are laid out, its bitmap.
-    pub tables: usize,
+    // Whether a complete table was found; the block and number of the current one, how its pages are laid out, its bitmap.
+    pub tables: bool,
     pub table: usize,
     pub number: u64,
     pub right: usize,
@@ -31,10 +31,10 @@ impl Found {
         ensures { result ≡ blank_found }
     {
         Self {
-            any: 0,
+            any: false,
             greatest: 0,
             last: 0,
-            tables: 0,
+            tables: false,
             table: 0,
             number: 0,
             right: 0,
@@ -48,7 +48,7 @@ impl Found {
         requires { block < 4096 }
         ensures { result ≡ mark_noted block summary self }
     {
-        if summary.marked != 0 {
+        if summary.marked {
             bitmaps::set_bit(&mut self.marked, block);
         }
         self
@@ -58,7 +58,7 @@ impl Found {
     fn is_greater(self, summary: Summary) -> bool
         ensures { result ≡ is_greater summary self }
     {
-        self.any == 0 || self.greatest < summary.greatest
+        !self.any || self.greatest < summary.greatest
     }
 
     // After a block's greatest number.
@@ -66,7 +66,7 @@ impl Found {
         ensures { result ≡ greatest_noted block summary self }
     {
         if summary.has_number() && self.is_greater(summary) {
-            self.any = 1;
+            self.any = true;
             self.greatest = summary.greatest;
             self.last = block;
         }
@@ -77,7 +77,7 @@ impl Found {
     fn is_newer(self, summary: Summary) -> bool
         ensures { result ≡ is_newer summary self }
     {
-        self.tables == 0 || self.number < summary.number
+        !self.tables || self.number < summary.number
     }
 
     // After a block that may be the current table; right and bits are those of its pages.
@@ -85,7 +85,7 @@ impl Found {
         ensures { result ≡ table_noted block summary right bits self }
     {
         if summary.is_complete() && pages::is_table(summary.kind) && self.is_newer(summary) {
-            self.tables = 1;
+            self.tables = true;
             self.table = block;
             self.number = summary.number;
             self.right = right;

@@ -6,11 +6,11 @@ use Rattle.format_scan.proofs.SurveyLaws.{no_table, wrong_pages, marked_listed, 
 use borrow.Author.Rules.{rules}
 use Rattle.format_scan.proofs.does_carry.Goals as goal
 
-pub returns-then-tables-eq0 : goal.returns-then-tables-eq0
-returns-then-tables-eq0 c = no_table c.args.g c.args.found c.if-tables-eq0.true
+pub returns-then-not-found : goal.returns-then-not-found
+returns-then-not-found c = no_table c.args.g c.args.found c.if-not-found.true
 
 pub returns-then-right-eq0 : goal.returns-then-right-eq0
-returns-then-right-eq0 c = wrong_pages c.args.g c.args.found c.if-tables-eq0.false c.if-right-eq0.true
+returns-then-right-eq0 c = wrong_pages c.args.g c.args.found c.if-not-found.false c.if-right-eq0.true
 
 pub is_never_both-requires : goal.is_never_both-requires
 is_never_both-requires c =
@@ -19,7 +19,7 @@ is_never_both-requires c =
 
 pub returns-then-not-is_never_both : goal.returns-then-not-is_never_both
 returns-then-not-is_never_both c =
-    marked_listed c.args.g c.args.found c.if-tables-eq0.false c.if-right-eq0.false (sym c.is_never_both.ensures ∙ c.if-not-is_never_both.true)
+    marked_listed c.args.g c.args.found c.if-not-found.false c.if-right-eq0.false (sym c.is_never_both.ensures ∙ c.if-not-is_never_both.true)
 
 pub is_set-requires : goal.is_set-requires
 is_set-requires c =
@@ -28,8 +28,8 @@ is_set-requires c =
 
 pub returns-then-is_set : goal.returns-then-is_set
 returns-then-is_set c =
-    own_listed c.args.g c.args.found c.if-tables-eq0.false c.if-right-eq0.false (sym c.is_never_both.ensures ∙ c.if-not-is_never_both.false) (sym c.is_set.ensures ∙ c.if-is_set.true)
+    own_listed c.args.g c.args.found c.if-not-found.false c.if-right-eq0.false (sym c.is_never_both.ensures ∙ c.if-not-is_never_both.false) (sym c.is_set.ensures ∙ c.if-is_set.true)
 
 pub returns : goal.returns
 returns c =
-    all_right c.args.g c.args.found c.if-tables-eq0.false c.if-right-eq0.false (sym c.is_never_both.ensures ∙ c.if-not-is_never_both.false) (sym c.is_set.ensures ∙ c.if-is_set.false)
+    all_right c.args.g c.args.found c.if-not-found.false c.if-right-eq0.false (sym c.is_never_both.ensures ∙ c.if-not-is_never_both.false) (sym c.is_set.ensures ∙ c.if-is_set.false)

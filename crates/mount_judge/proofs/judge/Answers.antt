@@ -4,9 +4,9 @@ use Rattle.std.proofs.lemmas.Grind.{common_steps}
 use Rattle.mount_judge.specs.Judging.{judged_by}
 use Rattle.mount_judge.proofs.judge.Goals as goal
 
-pub returns-then-found-eq0 : goal.returns-then-found-eq0
+pub returns-then-not-found : goal.returns-then-not-found
 unfolding judged_by
-returns-then-found-eq0 c = grind (arith, common_steps)
+returns-then-not-found c = grind (arith, common_steps)
 
 pub returns-then-found-ne1 : goal.returns-then-found-ne1
 unfolding judged_by

@@ -4,9 +4,13 @@ use Rattle.std.proofs.lemmas.Grind.{common_steps}
 use Rattle.scan_summary.specs.Summary.{marked_by}
 use Rattle.scan_summary.proofs.marked_by.Goals as goal
 
-pub returns-then-page-main : goal.returns-then-page-main
+pub returns-then-marked : goal.returns-then-marked
 unfolding marked_by
-returns-then-page-main c = grind (arith, common_steps)
+returns-then-marked c = grind (arith, common_steps)
+
+pub returns-then-place-lt2 : goal.returns-then-place-lt2
+unfolding marked_by
+returns-then-place-lt2 c = grind (arith, common_steps)
 
 pub returns-else-place-lt2 : goal.returns-else-place-lt2
 unfolding marked_by

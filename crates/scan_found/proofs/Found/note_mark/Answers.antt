@@ -4,10 +4,10 @@ use Rattle.std.proofs.lemmas.Grind.{common_steps}
 use Rattle.scan_found.specs.Found.{mark_noted}
 use Rattle.scan_found.proofs.Found.note_mark.Goals as goal
 
-pub returns-then-summary-ne0 : goal.returns-then-summary-ne0
+pub returns-then-summary : goal.returns-then-summary
 unfolding mark_noted
-returns-then-summary-ne0 c = grind (arith, common_steps)
+returns-then-summary c = grind (arith, common_steps)
 
-pub returns-else-summary-ne0 : goal.returns-else-summary-ne0
+pub returns-else-summary : goal.returns-else-summary
 unfolding mark_noted
-returns-else-summary-ne0 c = grind (arith, common_steps)
+returns-else-summary c = grind (arith, common_steps)
