@@ -6,6 +6,7 @@ use mathlib.Core.Path.{◌≡◌, refl, sym, ap, ap₂, subst, ◌∙◌}
 use native.Mathlib.Nat.{zero-add}
 use native.Mathlib.Numerals.{add-one}
 use native.Mathlib.Omega.{arith}
+use mir.Val.{bool_byte}
 use lib.Dec.{eqb}
 use lib.ListN.{replicate}
 use Rattle.geometry.specs.Sizes.{row_of}
@@ -49,6 +50,11 @@ after-unfailed s from array register history block o f called e =
       failed_is = rw f;
       numbers_are = λ t. rw f;
     })
+
+-- a test as a number
+pub flag_is : (b : Bool) → bool_byte b ≡ cond b 1 0
+flag_is true = refl
+flag_is false = refl
 
 -- after one that failed: the scan of the block leaves line m and outcome o
 pub after_failed : (s : Setting) (l : Line) (block : ℕ) → Called s l → (m : Line) (o : Outcome) (summary : Summary)

@@ -5,7 +5,6 @@ use mathlib.Core.List.{List}
 use mathlib.Core.Logic.{⊎_elim}
 use mathlib.Core.Path.{◌≡◌, refl, sym, subst}
 use native.Mathlib.Omega.{arith}
-use borrow.Author.Tests.{eq-eqb, ne_eqb}
 use lib.Dec.{eqb}
 use lib.ListN.{length, replicate}
 use Rattle.geometry.specs.declared.Geometry.{Geometry}
@@ -37,30 +36,6 @@ layouts true true c o i = refl
 layouts true false c o i = absurd (false≢true (i refl))
 layouts false true c o i = refl
 layouts false false c o i = refl
-
--- the answer of the tests in their order
-module _ (g : Geometry) (f : Found) where
-  pub no_table : f.tables ≡ false → false ≡ carries g f
-  unfolding carries
-  no_table t = rw t
-
-  module _ (t : f.tables ≡ true) where
-    pub wrong_pages : f.right ≡ 0 → false ≡ carries g f
-    unfolding carries
-    wrong_pages r = rw (t, eq-eqb f.right 0 r)
-
-    module _ (r : f.right ≡ 0 → ⊥) where
-      pub marked_listed : never_both f.marked f.bits g.blocks ≡ false → false ≡ carries g f
-      unfolding carries
-      marked_listed m = rw (t, ne_eqb f.right 0 r, m)
-
-      pub own_listed : never_both f.marked f.bits g.blocks ≡ true → bit_at f.bits f.table ≡ true → false ≡ carries g f
-      unfolding carries
-      own_listed m o = rw (t, ne_eqb f.right 0 r, m, o)
-
-      pub all_right : never_both f.marked f.bits g.blocks ≡ true → bit_at f.bits f.table ≡ false → true ≡ carries g f
-      unfolding carries
-      all_right m o = rw (t, ne_eqb f.right 0 r, m, o)
 
 -- right for the geometry, so right for the number that it names
 right_own : (g : Geometry) (block : List ℕ) (n : ℕ) → 0 < n → right_to g block n ≡ true → right_to (own_count g block) block n ≡ true

@@ -138,13 +138,7 @@ impl<'a> Copies<'a> {
     }
 
     // Enters the current copies into the map.
-    pub fn map_copies(
-        &self,
-        bits: &[u8; 512],
-        blocks: usize,
-        logical: usize,
-        map: &mut [u16; 4096],
-    )
+    pub fn map_copies(&self, bits: &[u8; 512], blocks: usize, logical: usize, map: &mut [u16; 4096])
         requires { (blocks ≤ 4096) × (logical ≤ 4096) }
         ensures { map.new ≡ map_to (told self.now) bits.now blocks logical map.old blocks }
     {
