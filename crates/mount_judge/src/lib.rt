@@ -11,7 +11,7 @@ use scan_found::Found;
 use scan_found::contents::Copies;
 use state::State;
 
-// The answer from what was found: 4 no table, 5 wrong table, 6 clash, or 0.
+// The answer from what was found, one of the paper's numbers (docs/DECISIONS.md): 4 no table, 5 wrong table, 6 clash, or 0.
 pub fn judge(found: Found, g: Geometry, copies: &Copies<'_>) -> usize
     requires valid { Valid g }
     requires table_bound { found.table < 4096 }

@@ -14,7 +14,7 @@ pub struct Copies<'a> {
     pub numbers: &'a [u64; 4096],
 }
 
-// Notes the kind, logical block and number of a complete block.
+// Notes the kind, logical block and number of a complete block, in three buffers that the caller lends to a whole scan.
 pub fn note_copy(
     summary: Summary,
     block: usize,

@@ -11,11 +11,13 @@ use scan_summary::Summary;
 // What the blocks scanned so far told, but for their copies.
 #[derive(Clone, Copy)]
 pub struct Found {
-    // Whether a page was whole; the greatest number on one, 0 if none was, and the lowest block that holds it.
+    // Whether a page was whole; the greatest number on one, 0 if none was, and the lowest block that holds it. No Option of the
+    // two, since a mounted state has the 0 too.
     pub any: bool,
     pub greatest: u64,
     pub last: usize,
-    // Whether a complete table was found; the block and number of the current one, how its pages are laid out, its bitmap.
+    // Whether a complete table was found; the block and number of the current one, how its pages are laid out (the number that
+    // `table::right_with` gives), its bitmap.
     pub tables: bool,
     pub table: usize,
     pub number: u64,

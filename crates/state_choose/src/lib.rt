@@ -5,7 +5,8 @@ ghost use Rattle.std.specs.Prelude.{◌≡◌, ◌*◌, ◌<◌, ◌≤◌, leng
 ghost use Rattle.bitmaps.specs.Bitmap.{byte_of};
 ghost use Rattle.state_choose.specs.Choose.{permitted, next_block, chosen, count_permitted};
 
-// Whether a block is unmarked, not invalid and held by nothing.
+// Whether a block is unmarked, not invalid and held by nothing. The three bitmaps are no struct: callers have the first two in a
+// state of their own, and would build one for a single call.
 pub fn is_permitted(marked: &[u8], invalid: &[u8], held: &[u8], block: usize) -> bool
     requires block_in_bounds { byte_of block < length marked.now }
     requires block_in_bounds_2 { byte_of block < length invalid.now }

@@ -47,7 +47,7 @@ fn is_right_page(page: &[u8], g: Geometry, logical: usize, place: usize) -> bool
 }
 
 // The layout of a table's pages so far, and of this one: 1 right for the geometry, 2 right for the number of logical blocks
-// named in page 0 only, 0 neither.
+// named in page 0 only, 0 neither. A number, as the definition `right_with` of copies and the laws of scans have it.
 pub fn right_with(right: usize, page: &[u8], g: Geometry, place: usize) -> usize
     requires valid { Valid g }
     requires page_len { length page.now ≡ page_size g }
