@@ -154,9 +154,9 @@ impl State {
     }
 
     // Whether every copy's block is on the chip, unmarked, valid and named once.
-    fn has_sound_map(self, blocks: usize, logical: usize) -> bool
-        requires { (blocks ≤ 4096) × (logical ≤ 4096) × (self.table < blocks) }
-        ensures { result ≡ sound_from self blocks (with_bit (replicate 512 0) self.table) 0 logical }
+    fn has_sound_map(&self, blocks: usize, logical: usize) -> bool
+        requires { (blocks ≤ 4096) × (logical ≤ 4096) × (self.now.table < blocks) }
+        ensures { result ≡ sound_from self.now blocks (with_bit (replicate 512 0) self.now.table) 0 logical }
     {
         let mut taken = bitmaps::flags(&self.marked, &self.invalid);
         taken[self.table] = 1;
@@ -175,18 +175,18 @@ impl State {
     }
 
     // Whether the table's block is on the chip, unmarked and valid.
-    fn has_sound_table(self, blocks: usize) -> bool
+    fn has_sound_table(&self, blocks: usize) -> bool
         requires { blocks ≤ 4096 }
-        ensures { result ≡ sound_block self.marked self.invalid (replicate 512 0) blocks self.table }
+        ensures { result ≡ sound_block self.now.marked self.now.invalid (replicate 512 0) blocks self.now.table }
     {
         self.table < blocks
             && state_choose::is_permitted(&self.marked, &self.invalid, &[0u8; 512], self.table)
     }
 
     // Whether the map names sound blocks for the logical blocks and none past them, and the table's block is sound.
-    fn has_sound_entries(self, blocks: usize, logical: usize) -> bool
+    fn has_sound_entries(&self, blocks: usize, logical: usize) -> bool
         requires { (blocks ≤ 4096) × (logical ≤ 4096) }
-        ensures { result ≡ sound_entries self blocks logical }
+        ensures { result ≡ sound_entries self.now blocks logical }
     {
         is_empty_from(&self.map, logical)
             && self.has_sound_table(blocks)

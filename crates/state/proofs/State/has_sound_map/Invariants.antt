@@ -9,5 +9,5 @@ use Rattle.state.proofs.State.has_sound_map.Given as goal
 
 abbrev pub invariant-loop-entry : goal.invariant-loop-entry
 invariant-loop-entry l =
-    (cond (eqb l.unsound 0) (takes_from l.fn.self.map l.blocks l.taken l.entry-index (l.logical - l.entry-index)) false ≡ takes_from l.fn.self.map l.blocks l.initial.taken 0 l.logical)
+    (cond (eqb l.unsound 0) (takes_from l.self.map l.blocks l.taken l.entry-index (l.logical - l.entry-index)) false ≡ takes_from l.self.map l.blocks l.initial.taken 0 l.logical)
     × (length l.taken ≡ 4096)
