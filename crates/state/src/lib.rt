@@ -36,8 +36,8 @@ fn is_empty_from(map: &[u16], logical: usize) -> bool
     ensures { result ≡ empty_from map.now logical (4096 - logical) }
 {
     let mut other: u16 = 0;
-    for entry in &map[logical..] {
-        other |= !*entry;
+    for l in logical..4096 {
+        other |= !map[l];
     }
     other == 0
 }
@@ -154,16 +154,19 @@ impl State {
     }
 
     // Whether every copy's block is on the chip, unmarked, valid and named once.
-    fn has_sound_map(&self, blocks: usize, logical: usize) -> bool
-        requires { (blocks ≤ 4096) × (logical ≤ 4096) × (self.now.table < blocks) }
-        ensures { result ≡ sound_from self.now blocks (with_bit (replicate 512 0) self.now.table) 0 logical }
+    fn has_sound_map(self, blocks: usize, logical: usize) -> bool
+        requires { (blocks ≤ 4096) × (logical ≤ 4096) × (self.table < blocks) }
+        ensures { result ≡ sound_from self blocks (with_bit (replicate 512 0) self.table) 0 logical }
     {
-        let mut taken = bitmaps::flags(&self.marked, &self.invalid);
+        let marked = self.marked;
+        let invalid = self.invalid;
+        let map = self.map;
+        let mut taken = bitmaps::flags(&marked, &invalid);
         taken[self.table] = 1;
         // No early end: an entry does not wait for the one before it.
         let mut unsound: u8 = 0;
-        for entry in &self.map[..logical] {
-            let block = usize::from(*entry);
+        for l in 0..logical {
+            let block = usize::from(map[l]);
             if block < blocks {
                 unsound |= taken[block];
                 taken[block] = 1;
@@ -175,20 +178,23 @@ impl State {
     }
 
     // Whether the table's block is on the chip, unmarked and valid.
-    fn has_sound_table(&self, blocks: usize) -> bool
+    fn has_sound_table(self, blocks: usize) -> bool
         requires { blocks ≤ 4096 }
-        ensures { result ≡ sound_block self.now.marked self.now.invalid (replicate 512 0) blocks self.now.table }
+        ensures { result ≡ sound_block self.marked self.invalid (replicate 512 0) blocks self.table }
     {
+        let marked = self.marked;
+        let invalid = self.invalid;
         self.table < blocks
-            && state_choose::is_permitted(&self.marked, &self.invalid, &[0u8; 512], self.table)
+            && state_choose::is_permitted(&marked, &invalid, &[0u8; 512], self.table)
     }
 
     // Whether the map names sound blocks for the logical blocks and none past them, and the table's block is sound.
-    fn has_sound_entries(&self, blocks: usize, logical: usize) -> bool
+    fn has_sound_entries(self, blocks: usize, logical: usize) -> bool
         requires { (blocks ≤ 4096) × (logical ≤ 4096) }
-        ensures { result ≡ sound_entries self.now blocks logical }
+        ensures { result ≡ sound_entries self blocks logical }
     {
-        is_empty_from(&self.map, logical)
+        let map = self.map;
+        is_empty_from(&map, logical)
             && self.has_sound_table(blocks)
             && self.has_sound_map(blocks, logical)
     }
@@ -198,11 +204,15 @@ impl State {
         requires { (blocks ≤ 4096) × (logical ≤ 4096) }
         ensures { result ≡ mounted self blocks logical }
     {
+        // Locals here and below, and entries by index: where a field or a slice of it is lent, the state is copied for the call,
+        // and the test takes more than twice as long.
+        let marked = self.marked;
+        let invalid = self.invalid;
         self.status == 1
             && self.last < blocks
-            && bitmaps::is_clear_from(&self.marked, blocks, 4096)
-            && bitmaps::is_clear_from(&self.invalid, blocks, 4096)
-            && bitmaps::is_never_both(&self.marked, &self.invalid, 4096)
+            && bitmaps::is_clear_from(&marked, blocks, 4096)
+            && bitmaps::is_clear_from(&invalid, blocks, 4096)
+            && bitmaps::is_never_both(&marked, &invalid, 4096)
             && self.has_sound_entries(blocks, logical)
     }
 

@@ -7,7 +7,7 @@ use lib.ListN.{length}
 use Rattle.state.proofs.TakenLaws.{takes_from}
 use Rattle.state.proofs.State.has_sound_map.Given as goal
 
-abbrev pub invariant-loop-entry : goal.invariant-loop-entry
-invariant-loop-entry l =
-    (cond (eqb l.unsound 0) (takes_from l.self.map l.blocks l.taken l.entry-index (l.logical - l.entry-index)) false ≡ takes_from l.self.map l.blocks l.initial.taken 0 l.logical)
+abbrev pub invariant-loop-l : goal.invariant-loop-l
+invariant-loop-l l =
+    (cond (eqb l.unsound 0) (takes_from l.map l.blocks l.taken l.l (l.logical - l.l)) false ≡ takes_from l.map l.blocks l.initial.taken 0 l.logical)
     × (length l.taken ≡ 4096)
