@@ -42,6 +42,8 @@ fn is_empty_from(map: &[u16], logical: usize) -> bool
     other == 0
 }
 
+// Methods copy a field to a local before they lend it, and read entries by index: where a field or a slice of it is lent, the whole
+// state is copied for the call, and the test for a mounted state takes more than twice as long.
 impl State {
     // A state that is 0 in all other fields.
     pub fn blank(status: usize) -> Self
@@ -132,7 +134,9 @@ impl State {
         requires { (self.last < blocks) × (blocks ≤ 4096) }
         ensures { result ≡ chosen self.marked self.invalid held.now blocks self.last }
     {
-        state_choose::choose(&self.marked, &self.invalid, held, blocks, self.last)
+        let marked = self.marked;
+        let invalid = self.invalid;
+        state_choose::choose(&marked, &invalid, held, blocks, self.last)
     }
 
     // The blocks that hold something current, one bit a block.
@@ -140,12 +144,13 @@ impl State {
         requires { logical ≤ 4096 }
         ensures { result ≡ held_bits self logical }
     {
+        let map = self.map;
         let mut bits = [0u8; 512];
         if self.table < 4096 {
             bitmaps::set_bit(&mut bits, self.table);
         }
-        for entry in &self.map[..logical] {
-            let block = usize::from(*entry);
+        for l in 0..logical {
+            let block = usize::from(map[l]);
             if block < 4096 {
                 bitmaps::set_bit(&mut bits, block);
             }
@@ -204,8 +209,6 @@ impl State {
         requires { (blocks ≤ 4096) × (logical ≤ 4096) }
         ensures { result ≡ mounted self blocks logical }
     {
-        // Locals here and below, and entries by index: where a field or a slice of it is lent, the state is copied for the call,
-        // and the test takes more than twice as long.
         let marked = self.marked;
         let invalid = self.invalid;
         self.status == 1
@@ -224,8 +227,10 @@ impl State {
         if !self.is_mounted(blocks, logical) {
             return 0;
         }
+        let marked = self.marked;
+        let invalid = self.invalid;
         let held = self.held(logical);
-        state_choose::count_permitted(&self.marked, &self.invalid, &held, blocks)
+        state_choose::count_permitted(&marked, &invalid, &held, blocks)
     }
 
     // The state after a passed fill with a table.
