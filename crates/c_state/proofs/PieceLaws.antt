@@ -9,7 +9,6 @@ use lib.ListN.{length, get_or, take, drop, set, length-append, length-set, take-
 use lib.Seq.{length-take-le, take-suc, take_all, drop-drop}
 use Rattle.cells.specs.Cells.{over}
 use Rattle.cells.specs.Part.{part, put}
-use Rattle.cells.proofs.PartLaws.{put-lent, length_part}
 use Rattle.pages.specs.Layout.{bytes_of, number_of}
 use Rattle.pages.proofs.ByteLaws.{put_next, set_next}
 use Rattle.pages.proofs.LayoutLaws.{length-bytes_of}
@@ -28,18 +27,6 @@ put_whole ys xs h = over-whole ys xs h
 pub put-none : (at : ℕ) (xs : List ℕ) → put at [] xs ≡ xs
 unfolding put
 put-none at xs = take-append-drop at xs
-
--- a bitmap, written into a lent part and read from one
-pub bits_written : (at k : ℕ) (bits p y : List ℕ) → k ≡ 512 → length bits ≡ 512 → y ≡ over bits (take k (drop at p)) → length (take k (drop at p)) ≤ 512
-    → take at p ++ (y ++ drop k (drop at p)) ≡ put at bits p
-bits_written at k bits p y e l f h =
-    let whole : y ≡ bits = f ∙ over-whole bits (take k (drop at p)) (omega (arith, h, l)) in
-    rw whole (put-lent at k bits p (l ∙ sym e))
-
-pub bits_read : (at k : ℕ) (p xs y : List ℕ) → k ≡ 512 → at + 512 ≤ length p → length xs ≡ 512 → y ≡ over (take k (drop at p)) xs → y ≡ part at 512 p
-bits_read at k p xs y e h l f =
-    let long : length (take k (drop at p)) ≡ 512 = rw e (length_part at 512 p h) in
-    f ∙ over-whole (take k (drop at p)) xs (omega (arith, l, long)) ∙ ap (λ (n : ℕ). take n (drop at p)) e
 
 -- entries written one after the other
 pub pairs-append : (xs ys : List ℕ) → pairs (xs ++ ys) ≡ pairs xs ++ pairs ys

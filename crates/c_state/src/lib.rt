@@ -10,20 +10,13 @@ use state::State;
 // The bytes of a state without its kinds.
 pub const LENGTH: usize = 9248;
 
-fn wide(x: u16) -> usize
-    ensures { result ≡ x }
-{
-    x as usize
-}
-
 // Writes a bitmap.
 fn write_bits(bytes: &mut [u8], at: usize, bits: &[u8])
     requires at_in_bounds { at + 512 ≤ length bytes.old }
     requires bits_len { length bits.now ≡ 512 }
     ensures { bytes.new ≡ put at bits.now bytes.old }
 {
-    let end = at + 512;
-    cells::copy(bits, &mut bytes[at..end]);
+    bytes[at..at + 512].copy_from_slice(bits);
 }
 
 // Writes the factory marks and the invalid blocks.
@@ -43,8 +36,7 @@ fn bits_at(bytes: &[u8], at: usize) -> [u8; 512]
     ensures { result ≡ part at 512 bytes.now }
 {
     let mut bits = [0u8; 512];
-    let end = at + 512;
-    cells::copy(&bytes[at..end], &mut bits);
+    bits.copy_from_slice(&bytes[at..at + 512]);
     bits
 }
 
@@ -54,10 +46,8 @@ fn write_map(bytes: &mut [u8], map: &[u16])
     requires map_len { length map.now ≡ 4096 }
     ensures { bytes.new ≡ put 1056 (pairs map.now) bytes.old }
 {
-    let mut l = 0;
-    while l < 4096 {
-        pages::write_pair(bytes, 1056 + 2 * l, wide(map[l]));
-        l += 1;
+    for (l, entry) in map.iter().enumerate() {
+        pages::write_pair(bytes, 1056 + 2 * l, usize::from(*entry));
     }
 }
 
@@ -67,10 +57,8 @@ fn read_map(bytes: &[u8], map: &mut [u16])
     requires map_len { length map.old ≡ 4096 }
     ensures { map.new ≡ entries 4096 (drop 1056 bytes.now) }
 {
-    let mut l = 0;
-    while l < 4096 {
+    for l in 0..4096 {
         map[l] = pages::pair_at(bytes, 1056 + 2 * l) as u16;
-        l += 1;
     }
 }
 
@@ -79,16 +67,12 @@ pub fn store(state: State, bytes: &mut [u8])
     requires { length bytes.old ≡ state_length }
     ensures { bytes.new ≡ state_bytes state }
 {
-    let number = state.number as usize;
-    let marked = state.marked;
-    let invalid = state.invalid;
-    let map = state.map;
     pages::write_number(bytes, 0, state.status);
     pages::write_number(bytes, 8, state.table);
     pages::write_number(bytes, 16, state.last);
-    pages::write_number(bytes, 24, number);
-    write_bitmaps(bytes, &marked, &invalid);
-    write_map(bytes, &map);
+    pages::write_number(bytes, 24, state.number as usize);
+    write_bitmaps(bytes, &state.marked, &state.invalid);
+    write_map(bytes, &state.map);
 }
 
 // Kinds, one a logical block.
@@ -97,7 +81,7 @@ fn kinds_of(bytes: &[u8]) -> [u8; 4096]
     ensures { result ≡ bytes.now }
 {
     let mut kinds = [0u8; 4096];
-    cells::copy(bytes, &mut kinds);
+    kinds.copy_from_slice(bytes);
     kinds
 }
 
@@ -107,23 +91,16 @@ pub fn load(bytes: &[u8], kind_bytes: &[u8]) -> State
     requires kind_bytes_len { length kind_bytes.now ≡ 4096 }
     ensures { result ≡ bytes_state bytes.now kind_bytes.now }
 {
-    let status = pages::number_at(bytes, 0);
-    let table = pages::number_at(bytes, 8);
-    let last = pages::number_at(bytes, 16);
-    let number = pages::number_at(bytes, 24) as u64;
-    let marked = bits_at(bytes, 32);
-    let invalid = bits_at(bytes, 544);
     let mut map = [0u16; 4096];
     read_map(bytes, &mut map);
-    let kinds = kinds_of(kind_bytes);
     State {
-        status,
-        table,
-        last,
-        number,
-        marked,
-        invalid,
+        status: pages::number_at(bytes, 0),
+        table: pages::number_at(bytes, 8),
+        last: pages::number_at(bytes, 16),
+        number: pages::number_at(bytes, 24) as u64,
+        marked: bits_at(bytes, 32),
+        invalid: bits_at(bytes, 544),
         map,
-        kinds,
+        kinds: kinds_of(kind_bytes),
     }
 }

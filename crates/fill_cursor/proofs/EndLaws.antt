@@ -5,14 +5,13 @@ use mathlib.Core.Path.{◌≡◌, refl}
 use native.Mathlib.Omega.{arith}
 use borrow.Table.Steps.{cases}
 use lib.Dec.{eqb, ltb}
+use Rattle.std.specs.Prelude.{Option, Some, None}
 use Rattle.geometry.specs.declared.Geometry.{Geometry}
 use Rattle.bus_polling.specs.Outcomes.{is_passed, is_failed, is_silent, is_cut_off, answered}
 use Rattle.bus_polling.specs.declared.Outcome.{Outcome}
 use Rattle.bus_polling.specs.declared.Outcome.TheVariants.{Passed, Failed, Silent, Cut, Illegal, Protected}
 use Rattle.state.specs.State.{spent}
 use Rattle.state.specs.declared.State.{State}
-use Rattle.state_choose.specs.declared.Choice.{Choice}
-use Rattle.state_choose.specs.declared.Choice.TheVariants.{Block, Worn}
 use Rattle.request.specs.Call.{stop_answer}
 use Rattle.fill_cursor.specs.Cursor.{running, choice_of, on_block, prepared, page_after, filled_whole, unfilled, after_action, withdrawn, settled, state_after, after_due}
 use Rattle.fill_cursor.specs.declared.Cursor.{Cursor}
@@ -23,10 +22,10 @@ module _ (g : Geometry) (c : Cursor) (st : State) (due : c.phase < 2) where
   abbrev Unfinished : Running → Type 0
   Unfinished r = (r.cursor.phase < 2 → ⊥) → r.cursor.answer ≡ 0 → ⊥
 
-  by_choice : (x : Choice) → Unfinished (on_block c st x)
+  by_choice : (x : Option ℕ) → Unfinished (on_block c st x)
   unfolding on_block
-  by_choice Worn n z = omega (arith, z)
-  by_choice (Block b) n z = n due
+  by_choice None n z = omega (arith, z)
+  by_choice (Some b) n z = n due
 
   pub prepared_unfinished : Unfinished (prepared g c st)
   unfolding prepared

@@ -7,14 +7,13 @@ use native.Mathlib.Omega.{arith}
 use borrow.Table.Steps.{cases}
 use borrow.Author.Tests.{eqb-true, eqb-false, ltb-true, lt-ltb, leb-false}
 use lib.Dec.{eqb, ltb}
+use Rattle.std.specs.Prelude.{Option, Some, None}
 use Rattle.geometry.specs.declared.Geometry.{Geometry}
 use Rattle.bus_polling.specs.Outcomes.{is_passed, is_failed, answered, is_protected}
 use Rattle.bus_polling.specs.declared.Outcome.{Outcome}
 use Rattle.bus_polling.specs.declared.Outcome.TheVariants.{Passed, Failed, Silent, Cut, Illegal, Protected}
 use Rattle.bus_polling.proofs.OutcomeLaws.{passed_answered, failed_answered, passed_unprotected, failed_unprotected}
 use Rattle.state_choose.specs.Choose.{chosen, permitted}
-use Rattle.state_choose.specs.declared.Choice.{Choice}
-use Rattle.state_choose.specs.declared.Choice.TheVariants.{Block, Worn}
 use Rattle.state_choose.proofs.ChooseLaws.{found, after_below}
 use Rattle.pages.specs.Layout.{data_kind}
 use Rattle.state.specs.State.{next_number, number_end, spent, taken, with_invalid, with_copy}
@@ -24,18 +23,18 @@ use Rattle.fill_cursor.specs.declared.Cursor.{Cursor}
 use Rattle.fill_cursor.specs.declared.Running.{Running}
 
 -- a block chosen is on the chip
-pub chosen_below : (marked invalid held : List ℕ) (blocks last b : ℕ) → last < blocks → chosen marked invalid held blocks last ≡ Block b → b < blocks
+pub chosen_below : (marked invalid held : List ℕ) (blocks last b : ℕ) → last < blocks → chosen marked invalid held blocks last ≡ Some b → b < blocks
 chosen_below marked invalid held blocks last b h e =
     let f = found (permitted marked invalid held) blocks blocks last b h e in
     subst (λ (x : ℕ). x < blocks) f.is (after_below blocks last (suc f.steps) (omega (arith, h)))
 
 -- a fill is prepared: the request stops, or a number and a block were taken
 module _ (g : Geometry) (c : Cursor) (st : State) (P : Running → Type 0) (stops : (a : ℕ) → P (stopped a))
-    (takes : (b : ℕ) → choice_of g st ≡ Block b → next_number st < number_end → P (running (filling b (next_number st) c) (taken st))) where
-  by_block : next_number st < number_end → (x : Choice) → choice_of g st ≡ x → P (on_block c st x)
+    (takes : (b : ℕ) → choice_of g st ≡ Some b → next_number st < number_end → P (running (filling b (next_number st) c) (taken st))) where
+  by_block : next_number st < number_end → (x : Option ℕ) → choice_of g st ≡ x → P (on_block c st x)
   unfolding on_block
-  by_block h Worn e = stops 8
-  by_block h (Block b) e = takes b e h
+  by_block h None e = stops 8
+  by_block h (Some b) e = takes b e h
 
   pub by_prepared : P (prepared g c st)
   unfolding prepared

@@ -4,13 +4,10 @@ use mathlib.Core.Bool.{true, false}
 use mathlib.Core.Path.{◌≡◌, refl, sym, ap}
 use native.Mathlib.Omega.{arith}
 use borrow.Author.Tests.{eq-eqb, ne_eqb, lt-ltb, le-ltb}
-use denote.Enum.Declared.{tag_of}
+use Rattle.std.specs.Prelude.{Option, Some, None}
 use Rattle.geometry.specs.declared.Geometry.{Geometry}
 use Rattle.bus_polling.specs.Outcomes.{is_passed, is_failed}
 use Rattle.bus_polling.specs.declared.Outcome.{Outcome}
-use Rattle.state_choose.specs.declared.Choice.{Choice}
-use Rattle.state_choose.specs.declared.Choice.TheVariants.{Block, Worn}
-use Rattle.state_choose.specs.contracts.Choice.{the_type}
 use Rattle.request.specs.Call.{stop_answer}
 use Rattle.pages.specs.Layout.{data_kind}
 use Rattle.state.specs.State.{blank, next_number, spent, taken, with_invalid, with_copy, with_table}
@@ -18,21 +15,17 @@ use Rattle.state.specs.declared.State.{State}
 use Rattle.fill_cursor.specs.Cursor.{running, ended, filling, on_page, in_table, replaced, stopped, choice_of, on_block, prepared, page_after, filled_whole, unfilled, after_action, withdrawn, settled}
 use Rattle.fill_cursor.specs.declared.Cursor.{Cursor}
 
-pub worn_by_tag : (x : Choice) → tag_of the_type x ≡ 1 → x ≡ Worn
-worn_by_tag (Block b) h = absurd (omega (arith, h))
-worn_by_tag Worn h = refl
-
 -- a fill is prepared: no number is left, no block is, or both were taken
 module _ (g : Geometry) (c : Cursor) (st : State) where
   pub prepared_spent : spent st ≡ true → stopped 9 ≡ prepared g c st
   unfolding prepared
   prepared_spent t = rw t
 
-  pub prepared_worn : spent st ≡ false → choice_of g st ≡ Worn → stopped 8 ≡ prepared g c st
+  pub prepared_worn : spent st ≡ false → choice_of g st ≡ None → stopped 8 ≡ prepared g c st
   unfolding prepared on_block
   prepared_worn f e = rw f (ap (on_block c st) (sym e))
 
-  pub prepared_block : spent st ≡ false → (b : ℕ) → choice_of g st ≡ Block b → running (filling b (next_number st) c) (taken st) ≡ prepared g c st
+  pub prepared_block : spent st ≡ false → (b : ℕ) → choice_of g st ≡ Some b → running (filling b (next_number st) c) (taken st) ≡ prepared g c st
   unfolding prepared on_block
   prepared_block f b e = rw f (ap (on_block c st) (sym e))
 

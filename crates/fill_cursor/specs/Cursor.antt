@@ -1,11 +1,9 @@
 -- A write or erase on its way: what is due, and what is due after it.
-use Rattle.std.specs.Prelude.{ℕ, ◌+◌, ◌*◌, ◌≤◌, ◌<◌, Bool, false, cond, ◌≡◌, eqb, ltb}
+use Rattle.std.specs.Prelude.{ℕ, ◌+◌, ◌*◌, ◌≤◌, ◌<◌, Bool, false, cond, ◌≡◌, eqb, ltb, Option, Some, None}
 use Rattle.geometry.specs.declared.Geometry.{Geometry}
 use Rattle.bus_polling.specs.Outcomes.{is_passed, is_failed}
 use Rattle.bus_polling.specs.declared.Outcome.{Outcome}
 use Rattle.state_choose.specs.Choose.{chosen}
-use Rattle.state_choose.specs.declared.Choice.{Choice}
-use Rattle.state_choose.specs.declared.Choice.TheVariants.{Block, Worn}
 use Rattle.pages.specs.Layout.{data_kind}
 use Rattle.state.specs.State.{blank, next_number, numbers_left, spent, taken, with_invalid, with_copy, with_table, held_bits}
 use Rattle.state.specs.declared.State.{State}
@@ -51,12 +49,12 @@ in_table c = moved 1 0 0 0 0 c.failed c
 abbrev pub stopped : ℕ → Running
 stopped a = running (ended a) (blank 2)
 
-unfoldable pub on_block : Cursor → State → Choice → Running
-on_block c st Worn = stopped 8
-on_block c st (Block b) = running (filling b (next_number st) c) (taken st)
+unfoldable pub on_block : Cursor → State → Option ℕ → Running
+on_block c st None = stopped 8
+on_block c st (Some b) = running (filling b (next_number st) c) (taken st)
 
 -- the blocks held are known at the request's start and change with a passed fill only
-abbrev pub choice_of : Geometry → State → Choice
+abbrev pub choice_of : Geometry → State → Option ℕ
 choice_of g st = chosen st.marked st.invalid (held_bits st g.logical) g.blocks st.last
 
 -- a fill takes the next number, then the next permitted block

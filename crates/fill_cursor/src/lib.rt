@@ -8,7 +8,6 @@ ghost use Rattle.fill_cursor.specs.Cursor.{moved, first_cursor, ended, filling, 
 use bus_polling::Outcome;
 use geometry::Geometry;
 use state::State;
-use state_choose::Choice;
 
 // Where a request stands: which fill, and what is due in it. Phase, step, failed and answer stay numbers: the laws of fill_laws,
 // fill_driver and the recovery crates speak of them, and an open write keeps them as words for C.
@@ -216,8 +215,7 @@ pub fn prepare(c: Cursor, state: State, g: Geometry) -> Running
     let number = state.next_number();
     let taken = state.take_number();
     let held = state.held(g.logical);
-    let choice = taken.choose_block(&held, g.blocks);
-    let Choice::Block(block) = choice else {
+    let Some(block) = taken.choose_block(&held, g.blocks) else {
         return stop(8);
     };
     Running {

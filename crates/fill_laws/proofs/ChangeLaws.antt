@@ -8,6 +8,7 @@ use borrow.Table.Steps.{cases}
 use borrow.Author.Tests.{eqb-true}
 use lib.Dec.{eqb}
 use lib.ListN.{length}
+use Rattle.std.specs.Prelude.{Option, Some, None}
 use Rattle.bitmaps.specs.Bitmap.{with_bit}
 use Rattle.geometry.specs.declared.Geometry.{Geometry}
 use Rattle.geometry.specs.Limits.{Valid}
@@ -19,8 +20,6 @@ use Rattle.state_choose.specs.Choose.{chosen, count_permitted}
 use Rattle.state_choose.proofs.ChooseLaws.{by_choice, count_less}
 use Rattle.write_changes.proofs.LoopLaws.{chosen_permitted, copies_end}
 use Rattle.request.proofs.CallLaws.{stop_least}
-use Rattle.state_choose.specs.declared.Choice.{Choice}
-use Rattle.state_choose.specs.declared.Choice.TheVariants.{Block, Worn}
 use Rattle.state.specs.State.{next_number, numbers_left, taken, with_invalid, held_bits}
 use Rattle.state.specs.declared.State.{State}
 use Rattle.request.specs.Call.{stop_answer}
@@ -76,14 +75,14 @@ module _ (s : Setting) (v : Valid s.geometry) (u : Update) where
     try_ends f q Illegal e = rw (as_gone q Illegal e refl) (reach_less s u.bytes (omega arith) (omega arith) (reach_still s u.bytes (stopped 255) q))
     try_ends f q Protected e = rw (as_gone q Protected e refl) (reach_less s u.bytes (omega arith) (omega arith) (reach_still s u.bytes (stopped 255) q))
 
-    try_block_fact : (f : Bool) (p : Progress) → Reaches s u.bytes (66 * suc k) (64 * suc k) (on_block (failing u f) st (Block b)) p (after_copies u (copy_tried s u st f p more (Block b))) (copy_tried s u st f p more (Block b)).progress
+    try_block_fact : (f : Bool) (p : Progress) → Reaches s u.bytes (66 * suc k) (64 * suc k) (on_block (failing u f) st (Some b)) p (after_copies u (copy_tried s u st f p more (Some b))) (copy_tried s u st f p more (Some b)).progress
     unfolding on_block copy_tried after_try copy_of source_of settled is_passed
     try_block_fact f p =
         let q = copy_filled s u st b p in
         reach_less s u.bytes (omega arith) (omega arith)
         (reach_on s u.bytes (block.fill_reach s v u.bytes (filling b (next_number st) (failing u f)) (taken st) (omega arith) refl p q refl) (try_ends f q q.outcome refl))
 
-  try_worn : (k : ℕ) (st : State) (more : State → Progress → Copied) (f : Bool) (p : Progress) → Reaches s u.bytes (66 * k) (64 * k) (on_block (failing u f) st Worn) p (after_copies u (copy_tried s u st f p more Worn)) (copy_tried s u st f p more Worn).progress
+  try_worn : (k : ℕ) (st : State) (more : State → Progress → Copied) (f : Bool) (p : Progress) → Reaches s u.bytes (66 * k) (64 * k) (on_block (failing u f) st None) p (after_copies u (copy_tried s u st f p more None)) (copy_tried s u st f p more None).progress
   unfolding on_block copy_tried
   try_worn k st more f p = reach_less s u.bytes (omega arith) (omega arith) (reach_still s u.bytes (stopped 8) p)
 
@@ -103,7 +102,7 @@ module _ (s : Setting) (v : Valid s.geometry) (u : Update) where
         let c = failing u f in
         let own = held_bits st g.logical in
         let more = copies_filled s held u k true in
-        let To : ℕ → Choice → Type 0 = λ i x. Reaches s u.bytes (66 * i) (64 * i) (on_block c st x) p (after_copies u (copy_tried s u st f p more x)) (copy_tried s u st f p more x).progress in
+        let To : ℕ → Option ℕ → Type 0 = λ i x. Reaches s u.bytes (66 * i) (64 * i) (on_block c st x) p (after_copies u (copy_tried s u st f p more x)) (copy_tried s u st f p more x).progress in
         let here : To j (choice_of g st) =
         by_choice (choice_of g st)
         (λ w. subst (To j) (sym w) (try_worn j st more f p))
@@ -113,7 +112,7 @@ module _ (s : Setting) (v : Valid s.geometry) (u : Update) where
         let most : count_permitted st.marked st.invalid own g.blocks ≤ j = subst (λ (y : List ℕ). count_permitted st.marked st.invalid y g.blocks ≤ j) (sym h) few in
         let next : count_permitted st.marked (with_bit st.invalid b) held g.blocks ≤ j - 1 = subst (λ (y : List ℕ). count_permitted st.marked (with_bit st.invalid b) y g.blocks ≤ j - 1) h (omega (arith, less, most)) in
         let one : suc (j - 1) ≡ j = omega (arith, less, most) in
-        subst (To j) (sym w) (subst (λ (n : ℕ). To n (Block b)) one (try_block_fact (j - 1) st more b (λ p'. on b (j - 1) p' next) f p))) in
+        subst (To j) (sym w) (subst (λ (n : ℕ). To n (Some b)) one (try_block_fact (j - 1) st more b (λ p'. on b (j - 1) p' next) f p))) in
         let tried = subst (λ (y : List ℕ). Reaches s u.bytes (66 * j) (64 * j) (on_block c st (choice_of g st)) p (after_copies u (copy_tried s u st f p more (chosen st.marked st.invalid y g.blocks st.last))) (copy_tried s u st f p more (chosen st.marked st.invalid y g.blocks st.last)).progress) h here in
         let from = subst (λ (r : Running). Reaches s u.bytes 1 0 (running c st) p r p) (prepared_open g c st (omega (arith, e))) (reach_prepared s u.bytes (running c st) p (omega arith) refl) in
         reach_less s u.bytes (omega arith) (omega arith) (reach_on s u.bytes from tried)

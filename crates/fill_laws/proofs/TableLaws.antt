@@ -8,6 +8,7 @@ use borrow.Table.Steps.{cases}
 use borrow.Author.Tests.{lt-leb, le-leb, lt-ltb}
 use lib.Dec.{eqb}
 use lib.ListN.{length, length-set}
+use Rattle.std.specs.Prelude.{Option, Some, None}
 use Rattle.bitmaps.specs.Bitmap.{with_bit}
 use Rattle.geometry.specs.declared.Geometry.{Geometry}
 use Rattle.geometry.specs.Limits.{Valid}
@@ -18,8 +19,6 @@ use Rattle.bus_polling.specs.declared.Outcome.TheVariants.{Passed, Failed, Silen
 use Rattle.state_choose.specs.Choose.{chosen, permitted, count_permitted}
 use Rattle.state_choose.proofs.ChooseLaws.{by_choice, count_less}
 use Rattle.write_changes.proofs.LoopLaws.{chosen_permitted}
-use Rattle.state_choose.specs.declared.Choice.{Choice}
-use Rattle.state_choose.specs.declared.Choice.TheVariants.{Block, Worn}
 use Rattle.state.specs.State.{blank, next_number, number_end, numbers_left, taken, with_invalid, held_bits}
 use Rattle.state.specs.declared.State.{State}
 use Rattle.request.specs.Call.{stop_answer}
@@ -92,14 +91,14 @@ module _ (s : Setting) (v : Valid s.geometry) (bytes : List ℕ) where
     try_ends q Illegal e = rw (as_gone q Illegal e refl) (reach_less s bytes (omega arith) (omega arith) (reach_still s bytes (stopped 255) q))
     try_ends q Protected e = rw (as_gone q Protected e refl) (reach_less s bytes (omega arith) (omega arith) (reach_still s bytes (stopped 255) q))
 
-    try_block_fact : (p : Progress) → Reaches s bytes (66 * suc k) (64 * suc k) (on_block c st (Block b)) p (end_of (after more (try_block s st p (Block b)))) (after more (try_block s st p (Block b))).progress
+    try_block_fact : (p : Progress) → Reaches s bytes (66 * suc k) (64 * suc k) (on_block c st (Some b)) p (end_of (after more (try_block s st p (Some b)))) (after more (try_block s st p (Some b))).progress
     unfolding on_block try_block copy_of source_of
     try_block_fact p =
         let q = table_filled s b (next_number st) st.invalid p in
         reach_less s bytes (omega arith) (omega arith)
         (reach_on s bytes (block.fill_reach s v bytes (filling b (next_number st) c) (taken st) (omega (arith, table)) refl p q (rw table)) (try_ends q q.outcome refl))
 
-  try_worn : (c : Cursor) (k : ℕ) (st : State) (more : State → Progress → Tabled) (p : Progress) → Reaches s bytes (66 * k) (64 * k) (on_block c st Worn) p (end_of (after more (try_block s st p Worn))) (after more (try_block s st p Worn)).progress
+  try_worn : (c : Cursor) (k : ℕ) (st : State) (more : State → Progress → Tabled) (p : Progress) → Reaches s bytes (66 * k) (64 * k) (on_block c st None) p (end_of (after more (try_block s st p None))) (after more (try_block s st p None)).progress
   unfolding on_block try_block
   try_worn c k st more p = reach_less s bytes (omega arith) (omega arith) (reach_still s bytes (stopped 8) p)
 
@@ -119,7 +118,7 @@ module _ (s : Setting) (v : Valid s.geometry) (bytes : List ℕ) where
     tables_more c table first k st p e h size last j few on =
         let own = held_bits st g.logical in
         let more = tables_filled s held k in
-        let To : ℕ → Choice → Type 0 = λ i x. Reaches s bytes (66 * i) (64 * i) (on_block c st x) p (end_of (after more (try_block s st p x))) (after more (try_block s st p x)).progress in
+        let To : ℕ → Option ℕ → Type 0 = λ i x. Reaches s bytes (66 * i) (64 * i) (on_block c st x) p (end_of (after more (try_block s st p x))) (after more (try_block s st p x)).progress in
         let here : To j (choice_of g st) =
         by_choice (choice_of g st)
         (λ w. subst (To j) (sym w) (try_worn c j st more p))
@@ -129,7 +128,7 @@ module _ (s : Setting) (v : Valid s.geometry) (bytes : List ℕ) where
         let most : count_permitted st.marked st.invalid own g.blocks ≤ j = subst (λ (x : List ℕ). count_permitted st.marked st.invalid x g.blocks ≤ j) (sym h) few in
         let next : count_permitted st.marked (with_bit st.invalid b) held g.blocks ≤ j - 1 = subst (λ (x : List ℕ). count_permitted st.marked (with_bit st.invalid b) x g.blocks ≤ j - 1) h (omega (arith, less, most)) in
         let one : suc (j - 1) ≡ j = omega (arith, less, most) in
-        subst (To j) (sym w) (subst (λ (n : ℕ). To n (Block b)) one (try_block_fact c table (j - 1) st more b (λ p'. on b (j - 1) p' f.0 next) p))) in
+        subst (To j) (sym w) (subst (λ (n : ℕ). To n (Some b)) one (try_block_fact c table (j - 1) st more b (λ p'. on b (j - 1) p' f.0 next) p))) in
         let tried = subst (λ (x : List ℕ). Reaches s bytes (66 * j) (64 * j) (on_block c st (choice_of g st)) p (end_of (after more (try_block s st p (chosen st.marked st.invalid x g.blocks st.last)))) (after more (try_block s st p (chosen st.marked st.invalid x g.blocks st.last))).progress) h here in
         let from = subst (λ (r : Running). Reaches s bytes 1 0 (running c st) p r p) (prepared_open g c st (omega (arith, e))) (reach_prepared s bytes (running c st) p (omega (arith, table)) first) in
         reach_less s bytes (omega arith) (omega arith) (reach_on s bytes from tried)

@@ -1,13 +1,11 @@
 -- Table fills until one passes: each takes the next number, then the next permitted block; a failure makes that block invalid.
-use Rattle.std.specs.Prelude.{ℕ, zero, suc, cond, List, eqb}
+use Rattle.std.specs.Prelude.{ℕ, zero, suc, cond, List, eqb, Option, Some, None}
 use Rattle.chip_array.specs.Device.{Setting}
 use Rattle.bus_polling.specs.Outcomes.{is_passed, is_failed}
 use Rattle.bus_polling.specs.declared.Outcome.{Outcome}
 use Rattle.state_choose.specs.Choose.{chosen}
 use Rattle.state.specs.State.{blank, next_number, taken, with_invalid, with_table}
 use Rattle.state.specs.declared.State.{State}
-use Rattle.state_choose.specs.declared.Choice.{Choice}
-use Rattle.state_choose.specs.declared.Choice.TheVariants.{Block, Worn}
 use Rattle.request.specs.Call.{Result, answer_for, state_for, status_answer, status_state, end_at}
 use Rattle.progress.specs.Progress.{Progress, progress}
 use Rattle.fill.specs.Fill.{table_filled}
@@ -26,9 +24,9 @@ tried p s w = record { progress = p; state = s; worn = w }
 unfoldable pub after_fill : ℕ → Outcome → State → State
 after_fill b o s = cond (is_passed o) (with_table b s) (cond (is_failed o) (with_invalid b s) s)
 
-unfoldable pub try_block : Setting → State → Progress → Choice → Tried
-try_block s st p Worn = tried p st 1
-try_block s st p (Block b) =
+unfoldable pub try_block : Setting → State → Progress → Option ℕ → Tried
+try_block s st p None = tried p st 1
+try_block s st p (Some b) =
     tried (table_filled s b (next_number st) st.invalid p)
     (after_fill b (table_filled s b (next_number st) st.invalid p).outcome (taken st)) 0
 

@@ -6,6 +6,7 @@ use mathlib.Core.Path.{◌≡◌, refl, sym, ap, ap₂, subst, ◌∙◌}
 use native.Mathlib.Nat.{zero-add}
 use native.Mathlib.Numerals.{add-one}
 use native.Mathlib.Omega.{arith}
+use mir.Val.{bool_byte}
 use lib.Dec.{eqb}
 use lib.ListN.{replicate}
 use Rattle.geometry.specs.Sizes.{row_of}
@@ -50,17 +51,22 @@ after-unfailed s from array register history block o f called e =
       numbers_are = λ t. rw f;
     })
 
+-- a test as a number
+pub flag_is : (b : Bool) → bool_byte b ≡ cond b 1 0
+flag_is true = refl
+flag_is false = refl
+
 -- after one that failed: the scan of the block leaves line m and outcome o
 pub after_failed : (s : Setting) (l : Line) (block : ℕ) → Called s l → (m : Line) (o : Outcome) (summary : Summary)
     → ((cs : List Cycle) (os : List ArrayOperation) → m ≡ (pages_read s block s.geometry.pages (progress l Passed cs os)).line)
     → ((cs : List Cycle) (os : List ArrayOperation) → o ≡ (pages_read s block s.geometry.pages (progress l Passed cs os)).outcome)
     → (is_passed o ≡ true → Called s m) → (is_passed o ≡ true → summary ≡ summed s.geometry (block_in s.geometry l.chip.array block) s.geometry.pages)
-    → AfterDone s l m Failed o block 1 (record { any = summary.any; greatest = summary.greatest })
+    → AfterDone s l m Failed o block 1 (record { any = cond summary.any 1 0; greatest = summary.greatest })
 unfolding after_erase is_failed
 after_failed s l block called m o summary line_is outcome_is next summary_is =
     let row = block_in s.geometry l.chip.array block in
     let two : 2 ≤ s.geometry.pages = omega (arith, called.is_valid.pages_least) in
-    let any_is : is_passed o ≡ true → summary.any ≡ cond (any_to s.geometry row s.geometry.pages) 1 0 = λ t. ap (λ (x : Summary). x.any) (summary_is t) ∙ summed_any s.geometry row two in
+    let any_is : is_passed o ≡ true → cond summary.any 1 0 ≡ cond (any_to s.geometry row s.geometry.pages) 1 0 = λ t. ap (λ (x : Summary). cond x.any 1 0) (summary_is t) ∙ ap (λ (b : Bool). cond b 1 0) (summed_any s.geometry row two) in
     let greatest_is : is_passed o ≡ true → summary.greatest ≡ greatest_to s.geometry row s.geometry.pages = λ t. ap (λ (x : Summary). x.greatest) (summary_is t) ∙ summed_greatest s.geometry row two in
     record {
       line_is = line_is;

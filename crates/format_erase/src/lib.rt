@@ -100,7 +100,7 @@ fn read_failed(
     let outcome = scanned.outcome;
     let summary = scanned.summary;
     let numbers = Numbers {
-        any: summary.any,
+        any: usize::from(summary.any),
         greatest: summary.greatest,
     };
     BlockErased {

@@ -11,6 +11,7 @@ use borrow.Table.Steps.{cases}
 use borrow.Author.Tests.{eq-eqb, ne_eqb, eqb-true, eqb-false}
 use lib.Dec.{eqb}
 use lib.ListN.{length, replicate}
+use Rattle.std.specs.Prelude.{Option, Some, None}
 use Rattle.geometry.specs.Limits.{Valid}
 use Rattle.geometry.specs.Sizes.{page_size, block_size}
 use Rattle.cells.specs.Bytes.{Bytes}
@@ -26,8 +27,6 @@ use Rattle.bools.proofs.BoolLaws.{and_none, or_none, one_true, unless}
 use Rattle.state_choose.specs.Choose.{permitted, chosen, count_permitted}
 use Rattle.state.specs.State.{blank, next_number, number_end, numbers_left, taken, with_invalid, with_table}
 use Rattle.state.specs.declared.State.{State}
-use Rattle.state_choose.specs.declared.Choice.{Choice}
-use Rattle.state_choose.specs.declared.Choice.TheVariants.{Block, Worn}
 use Rattle.state_choose.proofs.ChooseLaws as choose
 use Rattle.request.specs.Call.{answer_for, state_for}
 use Rattle.progress.specs.Progress.{Progress, line_of}
@@ -357,15 +356,15 @@ module _ (s : Setting) (mask_bytes : Bytes s.mask) (carried held : List ℕ) (fo
   one_try k st p = refl
 
   module _ (k : ℕ) (st : State) (p : Progress) (r : Ready s carried held former p st) (number_fits : next_number st < number_end) where
-    abbrev choice : Choice
+    abbrev choice : Option ℕ
     choice = chosen st.marked st.invalid held s.geometry.blocks st.last
 
-    try_is : (c : Choice) → choice ≡ c → try_table s held st p ≡ try_block s st p c
+    try_is : (c : Option ℕ) → choice ≡ c → try_table s held st p ≡ try_block s st p c
     unfolding try_table
     try_is c e = ap (try_block s st p) e
 
     -- no block is left
-    worn : choice ≡ Worn → Left s carried held former st p (after_try k (try_block s st p Worn))
+    worn : choice ≡ None → Left s carried held former st p (after_try k (try_block s st p None))
     unfolding after_try try_block
     worn e =
         let none = (choose.worn_exactly (permitted st.marked st.invalid held) s.geometry.blocks st.last r.last_below).0 e in
@@ -390,7 +389,7 @@ module _ (s : Setting) (mask_bytes : Bytes s.mask) (carried held : List ℕ) (fo
         }
 
     -- block b is filled
-    module _ (b : ℕ) (e : choice ≡ Block b) where
+    module _ (b : ℕ) (e : choice ≡ Some b) where
       chosen_is : choose.Found (permitted st.marked st.invalid held) s.geometry.blocks s.geometry.blocks st.last b
       chosen_is = choose.found (permitted st.marked st.invalid held) s.geometry.blocks s.geometry.blocks st.last b r.last_below e
 
@@ -446,11 +445,11 @@ module _ (s : Setting) (mask_bytes : Bytes s.mask) (carried held : List ℕ) (fo
       held_same : (c : ℕ) → bit_at held c ≡ true → failed_in c ended.started ≡ failed_in c p.started
       held_same c t = block_left.failures c ∙ rw (ne_eqb b c (off_held c t)) (or_none (failed_in c p.started))
 
-      failed_is : is_failed ended.outcome ≡ true → tables_filled s held k (with_invalid b numbered) (resumed ended) ≡ after_try k (try_block s st p (Block b))
+      failed_is : is_failed ended.outcome ≡ true → tables_filled s held k (with_invalid b numbered) (resumed ended) ≡ after_try k (try_block s st p (Some b))
       unfolding after_try try_block
       failed_is w = rw w (ap (λ (x : State). tables_filled s held k x (resumed ended)) (sym (after_failed b numbered ended.outcome w)))
 
-      ended_is : is_failed ended.outcome ≡ false → ended_by ended (after_fill b ended.outcome numbered) ≡ after_try k (try_block s st p (Block b))
+      ended_is : is_failed ended.outcome ≡ false → ended_by ended (after_fill b ended.outcome numbered) ≡ after_try k (try_block s st p (Some b))
       unfolding after_try try_block
       ended_is f = rw f
 
@@ -550,7 +549,7 @@ module _ (s : Setting) (mask_bytes : Bytes s.mask) (carried held : List ℕ) (fo
           }
 
       filled_so : ((st' : State) (p' : Progress) → Ready s carried held former p' st' → k ≡ numbers_left st' → Left s carried held former st' p' (tables_filled s held k st' p')) → suc k ≡ numbers_left st
-          → Left s carried held former st p (after_try k (try_block s st p (Block b)))
+          → Left s carried held former st p (after_try k (try_block s st p (Some b)))
       filled_so less h =
           cases (is_failed ended.outcome)
           (λ w. subst (Left s carried held former st p) (failed_is w)
@@ -583,5 +582,5 @@ module _ (s : Setting) (mask_bytes : Bytes s.mask) (carried held : List ℕ) (fo
       let fits : next_number st < number_end = omega (arith, h) in
       subst (Left s carried held former st p) (sym (one_try k st p))
       (by_choice (chosen st.marked st.invalid held s.geometry.blocks st.last)
-      (λ e. subst (λ (t : Tried). Left s carried held former st p (after_try k t)) (sym (try_is k st p r fits Worn e)) (worn k st p r fits e))
-      (λ b e. subst (λ (t : Tried). Left s carried held former st p (after_try k t)) (sym (try_is k st p r fits (Block b) e)) (filled_so k st p r fits b e (tables_leave k) h)))
+      (λ e. subst (λ (t : Tried). Left s carried held former st p (after_try k t)) (sym (try_is k st p r fits None e)) (worn k st p r fits e))
+      (λ b e. subst (λ (t : Tried). Left s carried held former st p (after_try k t)) (sym (try_is k st p r fits (Some b) e)) (filled_so k st p r fits b e (tables_leave k) h)))

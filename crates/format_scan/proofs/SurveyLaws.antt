@@ -5,7 +5,6 @@ use mathlib.Core.List.{List}
 use mathlib.Core.Logic.{⊎_elim}
 use mathlib.Core.Path.{◌≡◌, refl, sym, subst}
 use native.Mathlib.Omega.{arith}
-use borrow.Author.Tests.{eq-eqb, ne_eqb}
 use lib.Dec.{eqb}
 use lib.ListN.{length, replicate}
 use Rattle.geometry.specs.declared.Geometry.{Geometry}
@@ -37,30 +36,6 @@ layouts true true c o i = refl
 layouts true false c o i = absurd (false≢true (i refl))
 layouts false true c o i = refl
 layouts false false c o i = refl
-
--- the answer of the tests in their order
-module _ (g : Geometry) (f : Found) where
-  pub no_table : f.tables ≡ 0 → false ≡ carries g f
-  unfolding carries
-  no_table t = rw (eq-eqb f.tables 0 t)
-
-  module _ (t : f.tables ≡ 0 → ⊥) where
-    pub wrong_pages : f.right ≡ 0 → false ≡ carries g f
-    unfolding carries
-    wrong_pages r = rw (ne_eqb f.tables 0 t, eq-eqb f.right 0 r)
-
-    module _ (r : f.right ≡ 0 → ⊥) where
-      pub marked_listed : never_both f.marked f.bits g.blocks ≡ false → false ≡ carries g f
-      unfolding carries
-      marked_listed m = rw (ne_eqb f.tables 0 t, ne_eqb f.right 0 r, m)
-
-      pub own_listed : never_both f.marked f.bits g.blocks ≡ true → bit_at f.bits f.table ≡ true → false ≡ carries g f
-      unfolding carries
-      own_listed m o = rw (ne_eqb f.tables 0 t, ne_eqb f.right 0 r, m, o)
-
-      pub all_right : never_both f.marked f.bits g.blocks ≡ true → bit_at f.bits f.table ≡ false → true ≡ carries g f
-      unfolding carries
-      all_right m o = rw (ne_eqb f.tables 0 t, ne_eqb f.right 0 r, m, o)
 
 -- right for the geometry, so right for the number that it names
 right_own : (g : Geometry) (block : List ℕ) (n : ℕ) → 0 < n → right_to g block n ≡ true → right_to (own_count g block) block n ≡ true
@@ -108,16 +83,15 @@ module _ (g : Geometry) (v : Valid g) (array : List ℕ) (long : length array �
   found_chosen : Chosen Full g three array g.blocks (kept f) → survey_of g f ≡ surveyed g array
   unfolding survey_of carries carried_by below_by
   found_chosen c =
-      let some : eqb f.tables 0 ≡ false = ne_eqb f.tables 0 (λ x. omega (arith, x, c.tables_one)) in
       let here = picked c in
       let below = table_below Full g v array long f.table here in
-      rw (some, c.right_is, c.bits_are, found_marked Full g three array g.blocks, found_greatest Full g three array g.blocks, here, carries_table f.table below)
+      rw (c.tables_one, c.right_is, c.bits_are, found_marked Full g three array g.blocks, found_greatest Full g three array g.blocks, here, carries_table f.table below)
       (carried_arms g array (marks_to g array g.blocks) f.table (greatest_below g array g.blocks) (laid_table g marks (block_in g array f.table)) (lists g (block_in g array f.table) f.table))
 
   found_missing : Missing Full g three array g.blocks (kept f) → survey_of g f ≡ surveyed g array
   unfolding survey_of carries carried_by list_bits entry_of below_by
   found_missing m =
-      rw (eq-eqb f.tables 0 m.tables_none, found_marked Full g three array g.blocks, found_greatest Full g three array g.blocks, missing m)
+      rw (m.tables_none, found_marked Full g three array g.blocks, found_greatest Full g three array g.blocks, missing m)
 
   pub survey_found : survey_of g f ≡ surveyed g array
   survey_found = ⊎_elim found_missing found_chosen (table_found Full g three array g.blocks)

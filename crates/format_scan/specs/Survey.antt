@@ -29,9 +29,10 @@ survey marked carried old greatest = record { marked = marked; carried = carried
 -- the list of the table found is carried over: it is laid out whatever its number of logical blocks, and does not list its own block
 unfoldable pub carries : Geometry → Found → Bool
 carries g f =
-    cond (eqb f.tables 0) false
+    cond f.tables
     (cond (eqb f.right 0) false
     (cond (never_both f.marked f.bits g.blocks) (cond (bit_at f.bits f.table) false true) false))
+    false
 
 unfoldable pub survey_of : Geometry → Found → Survey
 survey_of g f =

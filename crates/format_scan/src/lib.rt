@@ -32,8 +32,7 @@ fn does_carry(found: Found, g: Geometry) -> bool
     requires table_bound { found.table < 4096 }
     ensures { result ≡ carries g found }
 {
-    let tables = found.tables;
-    if tables == 0 {
+    if !found.tables {
         return false;
     }
     let right = found.right;

@@ -145,7 +145,7 @@ module _ (depth : Depth) (g : Geometry) (v : Valid g) (array : List ℕ) (long :
   unfolding judged_by mount_answer judge_table current_table
   judge_missing m =
       let f = found_to depth g array g.blocks in
-      rw (eq-eqb f.tables 0 m.tables_none, m.none_picked)
+      rw (m.tables_none, m.none_picked)
 
   picked_table : (k : Kept) → Chosen depth g three array g.blocks k → current_table g array ≡ at k.table
   unfolding current_table
@@ -155,9 +155,8 @@ module _ (depth : Depth) (g : Geometry) (v : Valid g) (array : List ℕ) (long :
   unfolding judged_by mount_answer
   judge_found c =
       let f = found_to depth g array g.blocks in
-      let some : eqb f.tables 0 ≡ false = ne_eqb f.tables 0 (λ x. omega (arith, x, c.tables_one)) in
       let here = picked_table (kept f) c in
-      rw (some, c.right_is, c.bits_are, found_marked depth g three array g.blocks, here) (judge_chosen f.table (table_below f.table here))
+      rw (c.tables_one, c.right_is, c.bits_are, found_marked depth g three array g.blocks, here) (judge_chosen f.table (table_below f.table here))
 
   -- the answer from what was found is the answer that the array's definitions give
   pub judge_is : judged_by g (found_to depth g array g.blocks) all ≡ mount_answer g array

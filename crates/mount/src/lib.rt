@@ -18,6 +18,7 @@ use bus_polling::Outcome;
 use chip_interface::Interface;
 use geometry::Geometry;
 use request::Returned;
+use scan_found::contents::Copies;
 use scan_summary::Depth;
 use state::State;
 
@@ -62,11 +63,16 @@ fn scan_and_judge(
         return request::end(request::stop_answer(outcome), State::blank(2), b, allowed);
     };
     let found = scanned.found;
-    let answer = mount_judge::judge(found, g, &kinds, &logicals, &numbers);
+    let copies = Copies {
+        kinds: &kinds,
+        logicals: &logicals,
+        numbers: &numbers,
+    };
+    let answer = mount_judge::judge(found, g, &copies);
     if answer != 0 {
         return request::end(answer, State::blank(0), b, allowed);
     }
-    let state = mount_judge::mounted_state(found, g, &kinds, &logicals, &numbers);
+    let state = mount_judge::mounted_state(found, g, &copies);
     request::end(0, state, b, allowed)
 }
 

@@ -11,12 +11,13 @@ use Rattle.scan_found.specs.declared.Found.{Found}
 -- the answer: 4 no table, 5 wrong table, 6 clash, or 0
 unfoldable pub judged_by : Geometry → Found → Contents → ℕ
 judged_by g f c =
-    cond (eqb f.tables 0) 4
+    cond f.tables
     (cond (eqb f.right 1)
     (cond (never_both f.marked f.bits g.blocks)
     (cond (bit_at f.bits f.table) 5 (cond (some_below (clashing c f.bits g.logical) g.blocks) 6 0))
     5)
     5)
+    4
 
 -- the state that a mount answered 0 gives
 abbrev pub state_of : Geometry → Found → Contents → State

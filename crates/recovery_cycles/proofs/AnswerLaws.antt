@@ -9,6 +9,7 @@ use borrow.Author.Tests.{eqb-true, ltb-true, ltb-false}
 use borrow.Table.Steps.{cases}
 use lib.Dec.{eqb, ltb}
 use lib.ListN.{get_or}
+use Rattle.std.specs.Prelude.{Option, Some, None}
 use Rattle.bools.proofs.BoolLaws.{clash}
 use Rattle.bools.proofs.BoolLaws as bools
 use Rattle.geometry.specs.declared.Geometry.{Geometry}
@@ -17,8 +18,6 @@ use Rattle.bus_polling.specs.Outcomes.{is_passed, is_failed, is_silent, is_cut_o
 use Rattle.bus_polling.specs.declared.Outcome.{Outcome}
 use Rattle.bus_polling.specs.declared.Outcome.TheVariants.{Passed, Failed, Silent, Cut, Illegal, Protected}
 use Rattle.state_choose.specs.Choose.{chosen}
-use Rattle.state_choose.specs.declared.Choice.{Choice}
-use Rattle.state_choose.specs.declared.Choice.TheVariants.{Block, Worn}
 use Rattle.state.specs.State.{none, next_number, numbers_left, spent, held_bits, with_invalid}
 use Rattle.state.specs.declared.State.{State}
 use Rattle.progress.specs.Progress.{Progress, status_on}
@@ -86,10 +85,10 @@ status_told state p rest h =
     cases (is_passed p.outcome) (λ t. rw t (h t)) (λ f. rw f (status_stop p.outcome f))
 
 -- table fills
-worn_same : (s : Setting) (st : State) (p : Progress) (c : Choice) → eqb (try_block s st p c).worn 0 ≡ false → (try_block s st p c).progress ≡ p
+worn_same : (s : Setting) (st : State) (p : Progress) (c : Option ℕ) → eqb (try_block s st p c).worn 0 ≡ false → (try_block s st p c).progress ≡ p
 unfolding try_block
-worn_same s st p Worn h = refl
-worn_same s st p (Block b) h = clash refl h
+worn_same s st p None h = refl
+worn_same s st p (Some b) h = clash refl h
 
 module _ (s : Setting) where
   tables_told : (held : List ℕ) (n : ℕ) (st : State) (p : Progress) → is_passed p.outcome ≡ true → Told (tables_filled s held n st p).answer (tables_filled s held n st p).progress.outcome
@@ -109,11 +108,11 @@ module _ (s : Setting) where
   abbrev CopiedTold : Copied → Type 0
   CopiedTold c = Told c.answer c.progress.outcome × (c.answer ≡ 0 → is_passed c.progress.outcome ≡ true)
 
-  try_told : (u : Update) (st : State) (failed : Bool) (p : Progress) (more : State → Progress → Copied) (c : Choice) → is_passed p.outcome ≡ true → ((next : State) (q : Progress) → is_passed q.outcome ≡ true → CopiedTold (more next q))
+  try_told : (u : Update) (st : State) (failed : Bool) (p : Progress) (more : State → Progress → Copied) (c : Option ℕ) → is_passed p.outcome ≡ true → ((next : State) (q : Progress) → is_passed q.outcome ≡ true → CopiedTold (more next q))
       → CopiedTold (copy_tried s u st failed p more c)
   unfolding copy_tried after_try is_passed
-  try_told u st failed p more Worn t m = (told_passed 8 p.outcome t (λ e. omega (arith, e)), λ e. absurd (omega (arith, e)))
-  try_told u st failed p more (Block b) t m =
+  try_told u st failed p more None t m = (told_passed 8 p.outcome t (λ e. omega (arith, e)), λ e. absurd (omega (arith, e)))
+  try_told u st failed p more (Some b) t m =
       let q = copy_filled s u st b p in
       cases (is_passed q.outcome)
       (λ y. rw y (told_passed 0 q.outcome y (λ e. omega (arith, e)), λ e. y))
@@ -219,9 +218,9 @@ prepared-told g c st o h t =
     (λ y. rw y (ended-told 9 o (told_passed 9 o t (λ e. omega (arith, e)))))
     (λ y. rw y (on (choice_of g st)))
   where
-    on : (x : Choice) → RunTold (on_block c st x).cursor o
-    on Worn = ended-told 8 o (told_passed 8 o t (λ e. omega (arith, e)))
-    on (Block b) = going_told (filling b (next_number st) c) o h t
+    on : (x : Option ℕ) → RunTold (on_block c st x).cursor o
+    on None = ended-told 8 o (told_passed 8 o t (λ e. omega (arith, e)))
+    on (Some b) = going_told (filling b (next_number st) c) o h t
 
 after-told : (pages : ℕ) (c : Cursor) (o : Outcome) → c.phase < 2 → RunTold (after_action pages c o) (gone o)
 unfolding after_action filled_whole unfilled gone is_passed is_failed

@@ -11,6 +11,7 @@ use borrow.Table.Steps.{cases}
 use borrow.Author.Tests.{eqb-true, ltb-true}
 use lib.Dec.{eqb, ltb}
 use lib.ListN.{length}
+use Rattle.std.specs.Prelude.{Option, Some, None}
 use Rattle.geometry.specs.Limits.{Valid}
 use Rattle.geometry.specs.Sizes.{page_size, row_of}
 use Rattle.geometry.proofs.SizeLaws.{block_of_row}
@@ -28,8 +29,6 @@ use Rattle.progress.specs.Progress.{Progress, progress, read_on, reset_on, statu
 use Rattle.progress.specs.Steps.{erase_on, program_on, resumed}
 use Rattle.bitmaps.specs.Bitmap.{bit_at}
 use Rattle.state_choose.specs.Choose.{next_block, search_after, chosen}
-use Rattle.state_choose.specs.declared.Choice.{Choice}
-use Rattle.state_choose.specs.declared.Choice.TheVariants.{Block, Worn}
 use Rattle.state_choose.proofs.ChooseLaws.{next_below}
 use Rattle.state.specs.State.{next_number, numbers_left, taken, with_invalid, held_bits}
 use Rattle.state.specs.declared.State.{State}
@@ -55,9 +54,9 @@ use Rattle.recovery_cycles.proofs.TraceLaws.{format_traced}
 use Rattle.recovery_cycles.proofs.CycleLaws.{failed_traced, traces_each}
 
 -- a choice of a block of the chip
-abbrev Below : ℕ → Choice → Type 0
-Below blocks Worn = Unit {0}
-Below blocks (Block b) = b < blocks
+abbrev Below : ℕ → Option ℕ → Type 0
+Below blocks None = Unit {0}
+Below blocks (Some b) = b < blocks
 
 search_below : (test : ℕ → Bool) (blocks n b : ℕ) → b < blocks → Below blocks (search_after test blocks n b)
 unfolding search_after
@@ -155,10 +154,10 @@ module _ (s : Setting) (v : Valid s.geometry) where
       block_stays n (omega arith) marked (erased_to s marked n p).progress (round_stays marked n (omega arith) p h)
 
   -- table fills
-  choice_stays : (st : State) → st.last < s.geometry.blocks → (p : Progress) (c : Choice) → Below s.geometry.blocks c → Stays p → Stays (try_block s st p c).progress × ((try_block s st p c).state.last < s.geometry.blocks)
+  choice_stays : (st : State) → st.last < s.geometry.blocks → (p : Progress) (c : Option ℕ) → Below s.geometry.blocks c → Stays p → Stays (try_block s st p c).progress × ((try_block s st p c).state.last < s.geometry.blocks)
   unfolding try_block
-  choice_stays st l p Worn k h = (h, l)
-  choice_stays st l p (Block b) k h =
+  choice_stays st l p None k h = (h, l)
+  choice_stays st l p (Some b) k h =
       (filled_stays b k (table_copy (next_number st)) (table_source s.geometry st.invalid) p h, after_last s.geometry.blocks b _ (taken st) k l)
 
   try_stays : (held : List ℕ) (st : State) → st.last < s.geometry.blocks → (p : Progress) → Stays p → Stays (try_table s held st p).progress × ((try_table s held st p).state.last < s.geometry.blocks)

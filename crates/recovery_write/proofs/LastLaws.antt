@@ -9,6 +9,7 @@ use native.Mathlib.Omega.{arith}
 use borrow.Table.Steps.{cases}
 use borrow.Author.Tests.{eq-eqb, ne_eqb, eqb-true, eqb-false, lt-ltb, ltb-true, ltb-false}
 use lib.Dec.{eqb, ltb}
+use Rattle.std.specs.Prelude.{Option}
 use Rattle.geometry.specs.declared.Geometry.{Geometry}
 use Rattle.geometry.specs.Limits.{Valid}
 use Rattle.geometry.specs.Sizes.{row_of}
@@ -32,7 +33,6 @@ use Rattle.pages.proofs.LayoutLaws.{data_is}
 use Rattle.copies.specs.Blocks.{main_in, formed}
 use Rattle.state.specs.State.{next_number, spent, taken}
 use Rattle.state.specs.declared.State.{State}
-use Rattle.state_choose.specs.declared.Choice.{Choice}
 use Rattle.state_choose.proofs.ChooseLaws.{by_choice}
 use Rattle.progress.specs.Progress.{Progress, progress, read_on, reset_on}
 use Rattle.progress.specs.Steps.{erase_on, program_on}
@@ -217,8 +217,8 @@ prepared_phase g c st =
     (λ t. inr (rw t))
     (λ t.
     by_choice (choice_of g st)
-    (λ e. inr (rw t (ap (λ (x : Choice). (on_block c st x).cursor.phase) e)))
-    (λ b e. inl (rw t (ap (λ (x : Choice). (on_block c st x).cursor.phase) e))))
+    (λ e. inr (rw t (ap (λ (x : Option ℕ). (on_block c st x).cursor.phase) e)))
+    (λ b e. inl (rw t (ap (λ (x : Option ℕ). (on_block c st x).cursor.phase) e))))
 
 module _ (pages : ℕ) (c : Cursor) (o : Outcome) where
   goes_phase : is_passed o ≡ true → ltb (page_after c) pages ≡ true → (after_action pages c o).phase ≡ c.phase

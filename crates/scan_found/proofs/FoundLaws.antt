@@ -6,8 +6,8 @@ use mathlib.Core.Logic.{◌⊎◌, inl, inr, ⊎_elim}
 use mathlib.Core.Path.{◌≡◌, refl, sym, ap, ap₂, subst, ◌∙◌}
 use native.Mathlib.Omega.{arith}
 use borrow.Table.Steps.{cases}
-use borrow.Author.Tests.{eq-eqb, ne_eqb, ltb-true, ltb-false}
-use lib.Dec.{eqb, ltb}
+use borrow.Author.Tests.{ltb-true, ltb-false}
+use lib.Dec.{ltb}
 use lib.ListN.{drop}
 use Rattle.geometry.specs.declared.Geometry.{Geometry}
 use Rattle.bools.proofs.BoolLaws.{both}
@@ -17,7 +17,7 @@ use Rattle.cells.proofs.CellLaws.{bytes_drop}
 use Rattle.cells.proofs.PartLaws.{bytes_part}
 use Rattle.pages.specs.Layout.{is_table_kind, kind_of, label_of}
 use Rattle.pages.proofs.LayoutLaws.{number_of_fits}
-use Rattle.copies.specs.Blocks.{block_in, page_in, is_marked, is_complete, is_table, greatest}
+use Rattle.copies.specs.Blocks.{block_in, page_in, is_marked, is_complete, is_table}
 use Rattle.copies.specs.Current.{number_at}
 use Rattle.copies.specs.Pick.{nothing, at, better, pick}
 use Rattle.scan_summary.specs.Summary.{says_complete, says_number}
@@ -52,10 +52,6 @@ unfolding noted table_noted
 note-right b s right other bits f same =
     cases (says_complete s) (λ t. ap (λ (x : ℕ). noted b s x bits f) (same t)) (λ t. rw t)
 
-zero_test : (m : Bool) (x : Found) (y : Found) → cond (eqb (cond m 1 0) 0) x y ≡ cond m y x
-zero_test true x y = refl
-zero_test false x y = refl
-
 -- the field of either arm
 marked_arms : (m : Bool) (x y : Found) → (cond m x y).marked ≡ cond m x.marked y.marked
 marked_arms true x y = refl
@@ -70,11 +66,11 @@ module _ (depth : Depth) (g : Geometry) (three : 3 ≤ g.pages) (array : List �
       let s = summary_at depth g array n in
       table_keeps n s (right_at g array n) (bits_at g array n) (greatest_noted n s (mark_noted n s f)) (λ x. x.marked) refl
       ∙ greatest_keeps n s (right_at g array n) (bits_at g array n) (mark_noted n s f) (λ x. x.marked) refl
-      ∙ rw (says_marked g three (block_in g array n) depth, zero_test (is_marked g (block_in g array n)), marked_arms (is_marked g (block_in g array n)), found_marked n)
+      ∙ rw (says_marked g three (block_in g array n) depth, marked_arms (is_marked g (block_in g array n)), found_marked n)
 
 -- what is known of the greatest number
 pub record Most : Type 0 where
-  pub any : ℕ
+  pub any : Bool
   pub greatest : ℕ
   pub last : ℕ
 
@@ -84,13 +80,13 @@ most f = record { any = f.any; greatest = f.greatest; last = f.last }
 module _ (depth : Depth) (g : Geometry) (three : 3 ≤ g.pages) (array : List ℕ) where
   -- a number was found: the greatest, and the block picked for it
   pub record Numbered (n : ℕ) (m : Most) : Type 0 where
-    pub any_one : m.any ≡ 1
+    pub any_one : m.any ≡ true
     pub picked : pick (λ b. has_by depth g (block_in g array b)) (λ b. greatest_by depth g (block_in g array b)) n ≡ at m.last
     pub greatest_is : m.greatest ≡ greatest_by depth g (block_in g array m.last)
     pub greatest_below_fact : m.greatest ≡ below_by depth g array n
 
   pub record Unnumbered (n : ℕ) (m : Most) : Type 0 where
-    pub any_none : m.any ≡ 0
+    pub any_none : m.any ≡ false
     pub picked : pick (λ b. has_by depth g (block_in g array b)) (λ b. greatest_by depth g (block_in g array b)) n ≡ nothing
     pub greatest_none : m.greatest ≡ 0
     pub last_none : m.last ≡ 0
@@ -107,7 +103,7 @@ module _ (depth : Depth) (g : Geometry) (three : 3 ≤ g.pages) (array : List �
   -- block n has one
   module _ (n : ℕ) (t : has_by depth g (block_in g array n) ≡ true) (number : ℕ) (number-n : number ≡ greatest_by depth g (block_in g array n)) where
     abbrev newest : Most
-    newest = record { any = 1; greatest = number; last = n }
+    newest = record { any = true; greatest = number; last = n }
 
     -- by whether it is greater than the one before
     beyond : (m : Most) → Numbered n m → (b : Bool) → ltb m.greatest number ≡ b → Unnumbered (suc n) (cond b newest m) ⊎ Numbered (suc n) (cond b newest m)
@@ -129,13 +125,14 @@ module _ (depth : Depth) (g : Geometry) (three : 3 ≤ g.pages) (array : List �
           greatest_below_fact = omega (arith, below_next depth g array n, number-n, r.greatest_below_fact, ltb-false m.greatest number e);
         })
 
-    number_most : (m : Most) → Unnumbered n m ⊎ Numbered n m → Unnumbered (suc n) (cond (cond (eqb m.any 0) true (ltb m.greatest number)) newest m) ⊎ Numbered (suc n) (cond (cond (eqb m.any 0) true (ltb m.greatest number)) newest m)
+    number_most : (m : Most) → Unnumbered n m ⊎ Numbered n m → Unnumbered (suc n) (cond (cond m.any (ltb m.greatest number) true) newest m) ⊎ Numbered (suc n) (cond (cond m.any (ltb m.greatest number) true) newest m)
     unfolding pick better
     number_most m (inl u) =
-        rw (eq-eqb m.any 0 u.any_none)
+        let none : cond m.any (ltb m.greatest number) true ≡ true = rw u.any_none in
+        rw none
         (inr (record { any_one = refl; picked = rw t (ap (better (λ b. greatest_by depth g (block_in g array b)) n) u.picked); greatest_is = number-n; greatest_below_fact = omega (arith, below_next depth g array n, number-n, u.below_none) }))
     number_most m (inr r) =
-        let some : eqb m.any 0 ≡ false = ne_eqb m.any 0 (λ x. omega (arith, x, r.any_one)) in
+        let some : cond m.any (ltb m.greatest number) true ≡ ltb m.greatest number = rw r.any_one in
         rw some (beyond m r (ltb m.greatest number) refl)
 
   most_arms : (b : Bool) (x y : Found) → most (cond b x y) ≡ cond b (most x) (most y)
@@ -144,11 +141,11 @@ module _ (depth : Depth) (g : Geometry) (three : 3 ≤ g.pages) (array : List �
 
   mark_keeps : (n : ℕ) (s : Summary) (f : Found) → most (mark_noted n s f) ≡ most f
   unfolding mark_noted
-  mark_keeps n s f = arms most (most f) (eqb s.marked 0) f _ refl refl
+  mark_keeps n s f = arms most (most f) s.marked _ f refl refl
 
   -- a note of block n that has a number, and of one that has none
   most_noted : (n : ℕ) (s : Summary) (f : Found) → says_number s ≡ true
-      → most (greatest_noted n s f) ≡ cond (cond (eqb f.any 0) true (ltb f.greatest s.greatest)) (record { any = 1; greatest = s.greatest; last = n }) (most f)
+      → most (greatest_noted n s f) ≡ cond (cond f.any (ltb f.greatest s.greatest) true) (record { any = true; greatest = s.greatest; last = n }) (most f)
   unfolding greatest_noted
   most_noted n s f t = rw t (most_arms (is_greater s f) (with_greatest n s f) f)
 
@@ -185,7 +182,7 @@ module _ (depth : Depth) (g : Geometry) (three : 3 ≤ g.pages) (array : List �
 
 -- what is known of the current table
 pub record Kept : Type 0 where
-  pub tables : ℕ
+  pub tables : Bool
   pub table : ℕ
   pub number : ℕ
   pub right : ℕ
@@ -197,14 +194,14 @@ kept f = record { tables = f.tables; table = f.table; number = f.number; right =
 module _ (depth : Depth) (g : Geometry) (three : 3 ≤ g.pages) (array : List ℕ) where
   -- a complete table was found, and the one kept is the current one
   pub record Chosen (n : ℕ) (k : Kept) : Type 0 where
-    pub tables_one : k.tables ≡ 1
+    pub tables_one : k.tables ≡ true
     pub is_picked : pick (λ b. is_table g (block_in g array b)) (number_at g array) n ≡ at k.table
     pub number_is : k.number ≡ number_at g array k.table
     pub right_is : k.right ≡ right_at g array k.table
     pub bits_are : k.bits ≡ bits_at g array k.table
 
   pub record Missing (n : ℕ) (k : Kept) : Type 0 where
-    pub tables_none : k.tables ≡ 0
+    pub tables_none : k.tables ≡ false
     pub none_picked : pick (λ b. is_table g (block_in g array b)) (number_at g array) n ≡ nothing
 
   -- block n is no complete table
@@ -217,7 +214,7 @@ module _ (depth : Depth) (g : Geometry) (three : 3 ≤ g.pages) (array : List �
   -- block n is one, with this number, test and bitmap
   module _ (n : ℕ) (t : is_table g (block_in g array n) ≡ true) (number : ℕ) (number-n : number ≡ number_at g array n) where
     abbrev fresh : Kept
-    fresh = record { tables = 1; table = n; number = number; right = right_at g array n; bits = bits_at g array n }
+    fresh = record { tables = true; table = n; number = number; right = right_at g array n; bits = bits_at g array n }
 
     chosen_fresh : pick (λ b. is_table g (block_in g array b)) (number_at g array) (suc n) ≡ at n → Chosen (suc n) fresh
     chosen_fresh p = record { tables_one = refl; is_picked = p; number_is = number-n; right_is = refl; bits_are = refl }
@@ -232,19 +229,20 @@ module _ (depth : Depth) (g : Geometry) (three : 3 ≤ g.pages) (array : List �
         let less : ltb (number_at g array k.table) (number_at g array n) ≡ false = sym (ap₂ ltb c.number_is number-n) ∙ e in
         inr (record { tables_one = c.tables_one; is_picked = rw t (ap (better (number_at g array) n) c.is_picked ∙ rw less); number_is = c.number_is; right_is = c.right_is; bits_are = c.bits_are })
 
-    table_kept : (k : Kept) → Missing n k ⊎ Chosen n k → Missing (suc n) (cond (cond (eqb k.tables 0) true (ltb k.number number)) fresh k) ⊎ Chosen (suc n) (cond (cond (eqb k.tables 0) true (ltb k.number number)) fresh k)
+    table_kept : (k : Kept) → Missing n k ⊎ Chosen n k → Missing (suc n) (cond (cond k.tables (ltb k.number number) true) fresh k) ⊎ Chosen (suc n) (cond (cond k.tables (ltb k.number number) true) fresh k)
     unfolding pick better
     table_kept k (inl m) =
-        rw (eq-eqb k.tables 0 m.tables_none) (inr (chosen_fresh (rw t (ap (better (number_at g array) n) m.none_picked))))
+        let none : cond k.tables (ltb k.number number) true ≡ true = rw m.tables_none in
+        rw none (inr (chosen_fresh (rw t (ap (better (number_at g array) n) m.none_picked))))
     table_kept k (inr c) =
-        let some : eqb k.tables 0 ≡ false = ne_eqb k.tables 0 (λ x. omega (arith, x, c.tables_one)) in
+        let some : cond k.tables (ltb k.number number) true ≡ ltb k.number number = rw c.tables_one in
         rw some (against k c (ltb k.number number) refl)
 
   -- what the other notes leave of the table
   others_keep : (n : ℕ) (s : Summary) (f : Found) → kept (greatest_noted n s (mark_noted n s f)) ≡ kept f
   unfolding mark_noted
   others_keep n s f =
-      greatest_keeps n s (right_at g array n) (bits_at g array n) (mark_noted n s f) kept refl ∙ arms kept (kept f) (eqb s.marked 0) f _ refl refl
+      greatest_keeps n s (right_at g array n) (bits_at g array n) (mark_noted n s f) kept refl ∙ arms kept (kept f) s.marked _ f refl refl
 
   kept_arms : (b : Bool) (x y : Found) → kept (cond b x y) ≡ cond b (kept x) (kept y)
   kept_arms true x y = refl
@@ -253,7 +251,7 @@ module _ (depth : Depth) (g : Geometry) (three : 3 ≤ g.pages) (array : List �
   -- a note of block n that is a complete table
   kept_noted : (n : ℕ) (s : Summary) (f : Found) → says_complete s ≡ true → is_table_kind s.kind ≡ true
       → kept (table_noted n s (right_at g array n) (bits_at g array n) f)
-      ≡ cond (cond (eqb f.tables 0) true (ltb f.number s.number)) (record { tables = 1; table = n; number = s.number; right = right_at g array n; bits = bits_at g array n }) (kept f)
+      ≡ cond (cond f.tables (ltb f.number s.number) true) (record { tables = true; table = n; number = s.number; right = right_at g array n; bits = bits_at g array n }) (kept f)
   unfolding table_noted
   kept_noted n s f c k =
       rw (c, k) (kept_arms (is_newer s f) (with_table n s (right_at g array n) (bits_at g array n) f) f)
@@ -316,7 +314,7 @@ module _ (depth : Depth) (g : Geometry) (array : List ℕ) where
       let m = mark_noted n s f in
       let a = greatest_noted n s m in
       let less = table_small n (omega (arith, h)) in
-      let marked : m.table < 4096 = small_arms (eqb s.marked 0) f _ less less in
+      let marked : m.table < 4096 = small_arms s.marked _ f less less in
       let counted : a.table < 4096 = small_arms (says_number s) _ m (small_arms (is_greater s m) (with_greatest n s m) m marked marked) marked in
       small_arms (says_complete s) _ a
       (small_arms (is_table_kind s.kind) _ a (small_arms (is_newer s a) (with_table n s (right_at g array n) (bits_at g array n) a) a (omega (arith, h)) counted) counted)

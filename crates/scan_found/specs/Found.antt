@@ -1,5 +1,5 @@
 -- What the blocks scanned so far told: marks, complete copies, the current table, the greatest number.
-use Rattle.std.specs.Prelude.{ℕ, zero, suc, Bool, true, cond, List, eqb, ltb, replicate}
+use Rattle.std.specs.Prelude.{ℕ, zero, suc, Bool, true, false, cond, List, ltb, replicate}
 use Rattle.geometry.specs.declared.Geometry.{Geometry}
 use Rattle.bitmaps.specs.Bitmap.{with_bit}
 use Rattle.cells.specs.Part.{put}
@@ -14,32 +14,33 @@ use Rattle.scan_found.specs.declared.Found.{Found}
 
 abbrev pub blank_found : Found
 blank_found =
-    record { any = 0; greatest = 0; last = 0; tables = 0; table = 0; number = 0; right = 0; bits = replicate 512 0; marked = replicate 512 0 }
+    record { any = false; greatest = 0; last = 0; tables = false; table = 0; number = 0; right = 0; bits = replicate 512 0; marked = replicate 512 0 }
 
 -- a factory mark
 unfoldable pub mark_noted : ℕ → Summary → Found → Found
 mark_noted b s f =
-    cond (eqb s.marked 0) f
+    cond s.marked
     (record { any = f.any; greatest = f.greatest; last = f.last; tables = f.tables; table = f.table; number = f.number; right = f.right; bits = f.bits; marked = with_bit f.marked b })
+    f
 
 -- a number that is the first, or greater than those before
 abbrev pub is_greater : Summary → Found → Bool
-is_greater s f = cond (eqb f.any 0) true (ltb f.greatest s.greatest)
+is_greater s f = cond f.any (ltb f.greatest s.greatest) true
 
 abbrev pub with_greatest : ℕ → Summary → Found → Found
 with_greatest b s f =
-    record { any = 1; greatest = s.greatest; last = b; tables = f.tables; table = f.table; number = f.number; right = f.right; bits = f.bits; marked = f.marked }
+    record { any = true; greatest = s.greatest; last = b; tables = f.tables; table = f.table; number = f.number; right = f.right; bits = f.bits; marked = f.marked }
 
 unfoldable pub greatest_noted : ℕ → Summary → Found → Found
 greatest_noted b s f = cond (says_number s) (cond (is_greater s f) (with_greatest b s f) f) f
 
 -- a complete table that is the first, or has a greater number than the one before
 abbrev pub is_newer : Summary → Found → Bool
-is_newer s f = cond (eqb f.tables 0) true (ltb f.number s.number)
+is_newer s f = cond f.tables (ltb f.number s.number) true
 
 abbrev pub with_table : ℕ → Summary → ℕ → List ℕ → Found → Found
 with_table b s right bits f =
-    record { any = f.any; greatest = f.greatest; last = f.last; tables = 1; table = b; number = s.number; right = right; bits = bits; marked = f.marked }
+    record { any = f.any; greatest = f.greatest; last = f.last; tables = true; table = b; number = s.number; right = right; bits = bits; marked = f.marked }
 
 unfoldable pub table_noted : ℕ → Summary → ℕ → List ℕ → Found → Found
 table_noted b s right bits f =

@@ -6,19 +6,15 @@ ghost use Rattle.scan_found.specs.Contents.{contents, copy_noted, counted, bears
 
 use scan_summary::Summary;
 
-fn wide(x: u16) -> usize
-    ensures { result ≡ x }
-{
-    x as usize
+// What a scan noted of each block, kind 0 where it is not complete.
+#[derive(Clone, Copy)]
+pub struct Copies<'a> {
+    pub kinds: &'a [u8; 4096],
+    pub logicals: &'a [u16; 4096],
+    pub numbers: &'a [u64; 4096],
 }
 
-fn wide_byte(x: u8) -> usize
-    ensures { result ≡ x }
-{
-    x as usize
-}
-
-// Notes the kind, logical block and number of a complete block.
+// Notes the kind, logical block and number of a complete block, in three buffers that the caller lends to a whole scan.
 pub fn note_copy(
     summary: Summary,
     block: usize,
@@ -32,240 +28,139 @@ pub fn note_copy(
     requires block_in_bounds_3 { block < length numbers.old }
     ensures { contents kinds.new logicals.new numbers.new ≡ copy_noted block summary (contents kinds.old logicals.old numbers.old) }
 {
-    if !summary.is_complete() {
-        return;
+    if summary.is_complete() {
+        kinds[block] = summary.kind as u8;
+        logicals[block] = summary.logical as u16;
+        numbers[block] = summary.number;
     }
-    kinds[block] = summary.kind as u8;
-    logicals[block] = summary.logical as u16;
-    numbers[block] = summary.number;
 }
 
-// Whether a block is complete and not listed.
-fn is_counted(
-    kinds: &[u8; 4096],
-    logicals: &[u16; 4096],
-    numbers: &[u64; 4096],
-    bits: &[u8; 512],
-    block: usize,
-) -> bool
-    requires { block < 4096 }
-    ensures { result ≡ counted (contents kinds.now logicals.now numbers.now) bits.now block }
-{
-    if bitmaps::is_set(bits, block) {
-        return false;
-    }
-    if kinds[block] == 0 {
-        return false;
-    }
-    true
-}
+impl<'a> Copies<'a> {
+    ghost use Rattle.scan_found.specs.Told.{told};
 
-// Whether a counted block bears a number.
-fn does_bear(
-    kinds: &[u8; 4096],
-    logicals: &[u16; 4096],
-    numbers: &[u64; 4096],
-    bits: &[u8; 512],
-    number: u64,
-    block: usize,
-) -> bool
-    requires { block < 4096 }
-    ensures { result ≡ bears (contents kinds.now logicals.now numbers.now) bits.now number block }
-{
-    if is_counted(kinds, logicals, numbers, bits, block) {
-        return numbers[block] == number;
+    // Whether a block is complete and not listed.
+    fn is_counted(&self, bits: &[u8; 512], block: usize) -> bool
+        requires { block < 4096 }
+        ensures { result ≡ counted (told self.now) bits.now block }
+    {
+        !bitmaps::is_set(bits, block) && self.kinds[block] != 0
     }
-    false
-}
 
-// Whether a counted block below another bears a number.
-fn is_shared(
-    kinds: &[u8; 4096],
-    logicals: &[u16; 4096],
-    numbers: &[u64; 4096],
-    bits: &[u8; 512],
-    number: u64,
-    below: usize,
-) -> bool
-    requires { below ≤ 4096 }
-    ensures { result ≡ some_below (bears (contents kinds.now logicals.now numbers.now) bits.now number) below }
-{
-    let mut b = below;
-    while 0 < b {
-        b -= 1;
-        if does_bear(kinds, logicals, numbers, bits, number, b) {
-            return true;
+    // Whether a counted block bears a number.
+    fn does_bear(&self, bits: &[u8; 512], number: u64, block: usize) -> bool
+        requires { block < 4096 }
+        ensures { result ≡ bears (told self.now) bits.now number block }
+    {
+        self.is_counted(bits, block) && self.numbers[block] == number
+    }
+
+    // Whether a counted block below another bears a number.
+    fn is_shared(&self, bits: &[u8; 512], number: u64, below: usize) -> bool
+        requires { below ≤ 4096 }
+        ensures { result ≡ some_below (bears (told self.now) bits.now number) below }
+    {
+        for b in 0..below {
+            if self.does_bear(bits, number, b) {
+                return true;
+            }
+        }
+        false
+    }
+
+    // Whether a block is a data copy of a logical block past the last.
+    fn is_past_last(&self, logical: usize, block: usize) -> bool
+        requires { block < 4096 }
+        ensures { result ≡ past_last (told self.now) logical block }
+    {
+        pages::is_data(usize::from(self.kinds[block]))
+            && logical <= usize::from(self.logicals[block])
+    }
+
+    // Whether a counted block is such a copy, or bears the number of a counted one below it.
+    fn is_clashing(&self, bits: &[u8; 512], logical: usize, block: usize) -> bool
+        requires { block < 4096 }
+        ensures { result ≡ clashing (told self.now) bits.now logical block }
+    {
+        self.is_counted(bits, block)
+            && (self.is_past_last(logical, block)
+                || self.is_shared(bits, self.numbers[block], block))
+    }
+
+    // Whether one of the first blocks clashes.
+    pub fn is_clash(&self, bits: &[u8; 512], logical: usize, blocks: usize) -> bool
+        requires { blocks ≤ 4096 }
+        ensures { result ≡ some_below (clashing (told self.now) bits.now logical) blocks }
+    {
+        for b in 0..blocks {
+            if self.is_clashing(bits, logical, b) {
+                return true;
+            }
+        }
+        false
+    }
+
+    // Whether block b replaces the entry of the map for its logical block.
+    fn does_replace(&self, blocks: usize, old: usize, block: usize) -> bool
+        requires { (blocks ≤ 4096) × (block < 4096) }
+        ensures { result ≡ replaces (told self.now) blocks old block }
+    {
+        blocks <= old || self.numbers[old] < self.numbers[block]
+    }
+
+    // Whether a counted block is a data copy of one of the logical blocks.
+    fn is_candidate(&self, bits: &[u8; 512], logical: usize, block: usize) -> bool
+        requires { block < 4096 }
+        ensures { result ≡ is_candidate (told self.now) bits.now logical block }
+    {
+        self.is_counted(bits, block)
+            && pages::is_data(usize::from(self.kinds[block]))
+            && usize::from(self.logicals[block]) < logical
+    }
+
+    // Enters a block into the map.
+    fn note_entry(
+        &self,
+        bits: &[u8; 512],
+        blocks: usize,
+        logical: usize,
+        block: usize,
+        map: &mut [u16; 4096],
+    )
+        requires { (blocks ≤ 4096) × (logical ≤ 4096) × (block < 4096) }
+        ensures { map.new ≡ entry_noted (told self.now) bits.now blocks logical block map.old }
+    {
+        if self.is_candidate(bits, logical, block) {
+            let l = usize::from(self.logicals[block]);
+            if self.does_replace(blocks, usize::from(map[l]), block) {
+                map[l] = block as u16;
+            }
         }
     }
-    false
-}
 
-// Whether a block is a data copy of a logical block past the last.
-fn is_past_last(
-    kinds: &[u8; 4096],
-    logicals: &[u16; 4096],
-    numbers: &[u64; 4096],
-    logical: usize,
-    block: usize,
-) -> bool
-    requires { block < 4096 }
-    ensures { result ≡ past_last (contents kinds.now logicals.now numbers.now) logical block }
-{
-    if !pages::is_data(wide_byte(kinds[block])) {
-        return false;
-    }
-    logical <= wide(logicals[block])
-}
-
-// Whether a counted block is such a copy, or bears the number of a counted one below it.
-fn is_clashing(
-    kinds: &[u8; 4096],
-    logicals: &[u16; 4096],
-    numbers: &[u64; 4096],
-    bits: &[u8; 512],
-    logical: usize,
-    block: usize,
-) -> bool
-    requires { block < 4096 }
-    ensures { result ≡ clashing (contents kinds.now logicals.now numbers.now) bits.now logical block }
-{
-    if !is_counted(kinds, logicals, numbers, bits, block) {
-        return false;
-    }
-    if is_past_last(kinds, logicals, numbers, logical, block) {
-        return true;
-    }
-    is_shared(kinds, logicals, numbers, bits, numbers[block], block)
-}
-
-// Whether one of the first blocks clashes.
-pub fn is_clash(
-    kinds: &[u8; 4096],
-    logicals: &[u16; 4096],
-    numbers: &[u64; 4096],
-    bits: &[u8; 512],
-    logical: usize,
-    blocks: usize,
-) -> bool
-    requires { blocks ≤ 4096 }
-    ensures { result ≡ some_below (clashing (contents kinds.now logicals.now numbers.now) bits.now logical) blocks }
-{
-    let mut b = blocks;
-    while 0 < b {
-        b -= 1;
-        if is_clashing(kinds, logicals, numbers, bits, logical, b) {
-            return true;
+    // Enters the current copies into the map.
+    pub fn map_copies(&self, bits: &[u8; 512], blocks: usize, logical: usize, map: &mut [u16; 4096])
+        requires { (blocks ≤ 4096) × (logical ≤ 4096) }
+        ensures { map.new ≡ map_to (told self.now) bits.now blocks logical map.old blocks }
+    {
+        for b in 0..blocks {
+            self.note_entry(bits, blocks, logical, b, map);
         }
     }
-    false
-}
 
-// Whether block b replaces the entry of the map for its logical block.
-fn does_replace(
-    kinds: &[u8; 4096],
-    logicals: &[u16; 4096],
-    numbers: &[u64; 4096],
-    blocks: usize,
-    old: usize,
-    block: usize,
-) -> bool
-    requires { (blocks ≤ 4096) × (block < 4096) }
-    ensures { result ≡ replaces (contents kinds.now logicals.now numbers.now) blocks old block }
-{
-    if old < blocks {
-        return numbers[old] < numbers[block];
+    // The kind of an entry's block, 0 where the entry is empty.
+    fn kind_for(&self, entry: usize) -> u8
+        ensures { result ≡ kind_for (told self.now) entry }
+    {
+        if entry < 4096 { self.kinds[entry] } else { 0 }
     }
-    true
-}
 
-// Whether a counted block is a data copy of one of the logical blocks.
-fn is_candidate(
-    kinds: &[u8; 4096],
-    logicals: &[u16; 4096],
-    numbers: &[u64; 4096],
-    bits: &[u8; 512],
-    logical: usize,
-    block: usize,
-) -> bool
-    requires { block < 4096 }
-    ensures { result ≡ is_candidate (contents kinds.now logicals.now numbers.now) bits.now logical block }
-{
-    if is_counted(kinds, logicals, numbers, bits, block) {
-        if pages::is_data(wide_byte(kinds[block])) {
-            return wide(logicals[block]) < logical;
+    // Enters the kinds of the copies that the map has.
+    pub fn list_kinds(&self, logical: usize, map: &[u16; 4096], current: &mut [u8; 4096])
+        requires { logical ≤ 4096 }
+        ensures { current.new ≡ kinds_to (told self.now) map.now current.old logical }
+    {
+        for l in 0..logical {
+            current[l] = self.kind_for(usize::from(map[l]));
         }
-    }
-    false
-}
-
-// Enters a block into the map.
-fn note_entry(
-    kinds: &[u8; 4096],
-    logicals: &[u16; 4096],
-    numbers: &[u64; 4096],
-    bits: &[u8; 512],
-    blocks: usize,
-    logical: usize,
-    block: usize,
-    map: &mut [u16; 4096],
-)
-    requires { (blocks ≤ 4096) × (logical ≤ 4096) × (block < 4096) }
-    ensures { map.new ≡ entry_noted (contents kinds.now logicals.now numbers.now) bits.now blocks logical block map.old }
-{
-    if is_candidate(kinds, logicals, numbers, bits, logical, block) {
-        let l = wide(logicals[block]);
-        let old = wide(map[l]);
-        if does_replace(kinds, logicals, numbers, blocks, old, block) {
-            map[l] = block as u16;
-        }
-    }
-}
-
-// Enters the current copies into the map.
-pub fn map_copies(
-    kinds: &[u8; 4096],
-    logicals: &[u16; 4096],
-    numbers: &[u64; 4096],
-    bits: &[u8; 512],
-    blocks: usize,
-    logical: usize,
-    map: &mut [u16; 4096],
-)
-    requires { (blocks ≤ 4096) × (logical ≤ 4096) }
-    ensures { map.new ≡ map_to (contents kinds.now logicals.now numbers.now) bits.now blocks logical map.old blocks }
-{
-    let mut b = 0;
-    while b < blocks {
-        note_entry(kinds, logicals, numbers, bits, blocks, logical, b, map);
-        b += 1;
-    }
-}
-
-// The kind of an entry's block, 0 where the entry is empty.
-fn kind_for(kinds: &[u8; 4096], logicals: &[u16; 4096], numbers: &[u64; 4096], entry: usize) -> u8
-    ensures { result ≡ kind_for (contents kinds.now logicals.now numbers.now) entry }
-{
-    if entry < 4096 {
-        return kinds[entry];
-    }
-    0
-}
-
-// Enters the kinds of the copies that the map has.
-pub fn list_kinds(
-    kinds: &[u8; 4096],
-    logicals: &[u16; 4096],
-    numbers: &[u64; 4096],
-    logical: usize,
-    map: &[u16; 4096],
-    current: &mut [u8; 4096],
-)
-    requires { logical ≤ 4096 }
-    ensures { current.new ≡ kinds_to (contents kinds.now logicals.now numbers.now) map.now current.old logical }
-{
-    let mut l = 0;
-    while l < logical {
-        current[l] = kind_for(kinds, logicals, numbers, wide(map[l]));
-        l += 1;
     }
 }

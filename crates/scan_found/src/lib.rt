@@ -11,12 +11,14 @@ use scan_summary::Summary;
 // What the blocks scanned so far told, but for their copies.
 #[derive(Clone, Copy)]
 pub struct Found {
-    // 1 if a page was whole; the greatest number on one, 0 if none was, and the lowest block that holds it.
-    pub any: usize,
+    // Whether a page was whole; the greatest number on one, 0 if none was, and the lowest block that holds it. No Option of the
+    // two, since a mounted state has the 0 too.
+    pub any: bool,
     pub greatest: u64,
     pub last: usize,
-    // 1 if a complete table was found; the block and number of the current one, how its pages are laid out, its bitmap.
-    pub tables: usize,
+    // Whether a complete table was found; the block and number of the current one, how its pages are laid out (the number that
+    // `table::right_with` gives), its bitmap.
+    pub tables: bool,
     pub table: usize,
     pub number: u64,
     pub right: usize,
@@ -31,10 +33,10 @@ impl Found {
         ensures { result ≡ blank_found }
     {
         Self {
-            any: 0,
+            any: false,
             greatest: 0,
             last: 0,
-            tables: 0,
+            tables: false,
             table: 0,
             number: 0,
             right: 0,
@@ -48,13 +50,9 @@ impl Found {
         requires { block < 4096 }
         ensures { result ≡ mark_noted block summary self }
     {
-        let marked = summary.marked;
-        if marked == 0 {
-            return self;
+        if summary.marked {
+            bitmaps::set_bit(&mut self.marked, block);
         }
-        let mut bits = self.marked;
-        bitmaps::set_bit(&mut bits, block);
-        self.marked = bits;
         self
     }
 
@@ -62,28 +60,18 @@ impl Found {
     fn is_greater(self, summary: Summary) -> bool
         ensures { result ≡ is_greater summary self }
     {
-        let any = self.any;
-        if any == 0 {
-            return true;
-        }
-        let greatest = self.greatest;
-        let greater = summary.greatest;
-        greatest < greater
+        !self.any || self.greatest < summary.greatest
     }
 
     // After a block's greatest number.
     fn note_greatest(mut self, block: usize, summary: Summary) -> Self
         ensures { result ≡ greatest_noted block summary self }
     {
-        if !summary.has_number() {
-            return self;
+        if summary.has_number() && self.is_greater(summary) {
+            self.any = true;
+            self.greatest = summary.greatest;
+            self.last = block;
         }
-        if !self.is_greater(summary) {
-            return self;
-        }
-        self.any = 1;
-        self.greatest = summary.greatest;
-        self.last = block;
         self
     }
 
@@ -91,34 +79,20 @@ impl Found {
     fn is_newer(self, summary: Summary) -> bool
         ensures { result ≡ is_newer summary self }
     {
-        let tables = self.tables;
-        if tables == 0 {
-            return true;
-        }
-        let number = self.number;
-        let newer = summary.number;
-        number < newer
+        !self.tables || self.number < summary.number
     }
 
     // After a block that may be the current table; right and bits are those of its pages.
     fn note_table(mut self, block: usize, summary: Summary, right: usize, bits: [u8; 512]) -> Self
         ensures { result ≡ table_noted block summary right bits self }
     {
-        if !summary.is_complete() {
-            return self;
+        if summary.is_complete() && pages::is_table(summary.kind) && self.is_newer(summary) {
+            self.tables = true;
+            self.table = block;
+            self.number = summary.number;
+            self.right = right;
+            self.bits = bits;
         }
-        let kind = summary.kind;
-        if !pages::is_table(kind) {
-            return self;
-        }
-        if !self.is_newer(summary) {
-            return self;
-        }
-        self.tables = 1;
-        self.table = block;
-        self.number = summary.number;
-        self.right = right;
-        self.bits = bits;
         self
     }
 
@@ -127,8 +101,8 @@ impl Found {
         requires { block < 4096 }
         ensures { result ≡ noted block summary right bits self }
     {
-        let marked = self.note_mark(block, summary);
-        let counted = marked.note_greatest(block, summary);
-        counted.note_table(block, summary, right, bits)
+        self.note_mark(block, summary)
+            .note_greatest(block, summary)
+            .note_table(block, summary, right, bits)
     }
 }

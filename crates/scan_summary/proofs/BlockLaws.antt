@@ -17,9 +17,9 @@ use Rattle.scan_summary.specs.declared.Summary.{Summary}
 
 -- a summary of the first n pages, n at least 1
 pub record Sums (g : Geometry) (block : List ℕ) (n : ℕ) (s : Summary) : Type 0 where
-  pub any_is : s.any ≡ cond (any_to g block n) 1 0
+  pub any_is : s.any ≡ any_to g block n
   pub greatest_is : s.greatest ≡ greatest_to g block n
-  pub complete_is : s.complete ≡ cond (complete_to g block n) 1 0
+  pub complete_is : s.complete ≡ complete_to g block n
   pub kind_is : whole_in g block 0 ≡ true → s.kind ≡ (label_in g block 0).kind
   pub logical_is : whole_in g block 0 ≡ true → s.logical ≡ (label_in g block 0).logical
   pub number_is : whole_in g block 0 ≡ true → s.number ≡ (label_in g block 0).number
@@ -30,7 +30,7 @@ pub agrees_self : (l : Label) → agrees l 0 l ≡ eqb l.page 0
 unfolding agrees
 agrees_self l = rw (eq-eqb l.kind l.kind refl, eq-eqb l.logical l.logical refl, eq-eqb l.number l.number refl)
 
-cond_flag : (b : Bool) → ◌≡◌ {A = ℕ} (cond b 1 0) (cond (cond b true false) 1 0)
+pub cond_flag : (b : Bool) → b ≡ cond b true false
 cond_flag true = refl
 cond_flag false = refl
 
@@ -38,26 +38,10 @@ pub arms : (b : Bool) → cond b false false ≡ false
 arms true = refl
 arms false = refl
 
-pub nested : (a c : Bool) → ◌≡◌ {A = ℕ} (cond a (cond c 1 0) 0) (cond (cond a c false) 1 0)
-nested true c = refl
-nested false c = refl
-
-pub zeros : (a b : Bool) → ◌≡◌ {A = ℕ} (cond a 0 0) (cond (cond b false false) 1 0)
-zeros true true = refl
-zeros true false = refl
-zeros false true = refl
-zeros false false = refl
-
-pub two_tests : (a b : Bool) → ◌≡◌ {A = ℕ} (cond b (cond a 0 1) 1) (cond (cond a (cond b false true) true) 1 0)
-two_tests true true = refl
-two_tests true false = refl
+pub two_tests : (a b : Bool) → cond b (cond a false true) true ≡ cond a (cond b false true) true
+two_tests true b = refl
 two_tests false true = refl
 two_tests false false = refl
-
-pub flags : (m c : Bool) → cond (eqb (cond m 1 0) 0) (eqb (cond c 1 0) 1) false ≡ cond m false c
-flags true c = refl
-flags false true = refl
-flags false false = refl
 
 more_than_one : (n : ℕ) → 2 ≤ n → suc (suc (n - 2)) ≡ n
 more_than_one n h = omega arith
@@ -69,13 +53,12 @@ agrees_alike x y n l k b m = rw (k, b, m)
 
 module _ (g : Geometry) (block : List ℕ) where
   -- the label kept is that of page 0, wherever it counts
-  agreed : (n : ℕ) (s : Summary) → Sums g block n s → cond (agrees (label s.kind s.logical 0 s.number) n (label_in g block n)) s.complete 0 ≡ cond (cond (agrees (label_in g block 0) n (label_in g block n)) (complete_to g block n) false) 1 0
+  agreed : (n : ℕ) (s : Summary) → Sums g block n s → cond (agrees (label s.kind s.logical 0 s.number) n (label_in g block n)) s.complete false ≡ cond (agrees (label_in g block 0) n (label_in g block n)) (complete_to g block n) false
   agreed n s r =
       cases (whole_in g block 0)
-      (λ w. rw (agrees_alike (label s.kind s.logical 0 s.number) (label_in g block 0) n (label_in g block n) (r.kind_is w) (r.logical_is w) (r.number_is w), r.complete_is)
-      (nested (agrees (label_in g block 0) n (label_in g block n)) (complete_to g block n)))
+      (λ w. rw (agrees_alike (label s.kind s.logical 0 s.number) (label_in g block 0) n (label_in g block n) (r.kind_is w) (r.logical_is w) (r.number_is w), r.complete_is))
       (λ w. rw (r.complete_is, r.broken_is w)
-      (zeros (agrees (label s.kind s.logical 0 s.number) n (label_in g block n)) (agrees (label_in g block 0) n (label_in g block n))))
+      (arms (agrees (label s.kind s.logical 0 s.number) n (label_in g block n)) ∙ sym (arms (agrees (label_in g block 0) n (label_in g block n)))))
 
   unfoldable pub page : ℕ → Summary → Summary
   page n s = stepped g.main n (page_in g block n) s
@@ -159,14 +142,14 @@ module _ (g : Geometry) (block : List ℕ) where
       ∙ cases (eqb n 0) (λ z. rw z) (λ z. rw z))
       (λ t. ap (λ (x : Summary). x.marked) (page_broken n s t))
 
-  mark_two : (summed g block 2).marked ≡ cond (is_marked g block) 1 0
+  mark_two : (summed g block 2).marked ≡ is_marked g block
   unfolding summed page is_marked marked_by
   mark_two =
       page_mark 1 (summed g block 1)
-      ∙ ap (λ (m : ℕ). cond (eqb (mark_byte g block 1) 255) m 1) (page_mark 0 blank_summary)
+      ∙ ap (λ (m : Bool). cond (eqb (mark_byte g block 1) 255) m true) (page_mark 0 blank_summary)
       ∙ two_tests (eqb (mark_byte g block 0) 255) (eqb (mark_byte g block 1) 255)
 
-  pub marks : (n : ℕ) → (summed g block (suc (suc n))).marked ≡ cond (is_marked g block) 1 0
+  pub marks : (n : ℕ) → (summed g block (suc (suc n))).marked ≡ is_marked g block
   unfolding summed page marked_by
   marks zero = mark_two
   marks (suc n) =
@@ -175,19 +158,19 @@ module _ (g : Geometry) (block : List ℕ) where
 
   complete_after : (n : ℕ) → says_complete (summed g block (suc (suc n))) ≡ cond (is_marked g block) false (complete_to g block (suc (suc n)))
   complete_after n =
-      rw (marks n, (sums (suc n)).complete_is) (flags (is_marked g block) (complete_to g block (suc (suc n))))
+      rw (marks n, (sums (suc n)).complete_is)
 
   number_after : (n : ℕ) → says_number (summed g block (suc (suc n))) ≡ cond (is_marked g block) false (any_to g block (suc (suc n)))
-  number_after n = rw (marks n, (sums (suc n)).any_is) (flags (is_marked g block) (any_to g block (suc (suc n))))
+  number_after n = rw (marks n, (sums (suc n)).any_is)
 
   -- of all pages, whatever the marks
   pub summed_greatest : 2 ≤ g.pages → (summed g block g.pages).greatest ≡ greatest_to g block g.pages
   summed_greatest h =
       subst (λ (k : ℕ). (summed g block k).greatest ≡ greatest_to g block k) (more_than_one g.pages h) (sums (suc (g.pages - 2))).greatest_is
 
-  pub summed_any : 2 ≤ g.pages → (summed g block g.pages).any ≡ cond (any_to g block g.pages) 1 0
+  pub summed_any : 2 ≤ g.pages → (summed g block g.pages).any ≡ any_to g block g.pages
   summed_any h =
-      subst (λ (k : ℕ). (summed g block k).any ≡ cond (any_to g block k) 1 0) (more_than_one g.pages h) (sums (suc (g.pages - 2))).any_is
+      subst (λ (k : ℕ). (summed g block k).any ≡ any_to g block k) (more_than_one g.pages h) (sums (suc (g.pages - 2))).any_is
 
   -- a summary of all pages says what the definitions say
   pub says_complete_fact : 2 ≤ g.pages → says_complete (summed g block g.pages) ≡ is_complete g block
@@ -207,9 +190,9 @@ module _ (g : Geometry) (block : List ℕ) where
   unfolding has_number greatest
   says_greatest h t = summed_greatest h ∙ rw (unless (is_marked g block) _ t).0
 
-  pub says_marked : 2 ≤ g.pages → (summed g block g.pages).marked ≡ cond (is_marked g block) 1 0
+  pub says_marked : 2 ≤ g.pages → (summed g block g.pages).marked ≡ is_marked g block
   says_marked h =
-      subst (λ (k : ℕ). (summed g block k).marked ≡ cond (is_marked g block) 1 0) (more_than_one g.pages h) (marks (g.pages - 2))
+      subst (λ (k : ℕ). (summed g block k).marked ≡ is_marked g block) (more_than_one g.pages h) (marks (g.pages - 2))
 
   -- the summary of a complete block bears the label of its page 0, whose kind is one
   pub record Labelled (s : Summary) : Type 0 where

@@ -24,7 +24,7 @@ use Rattle.scan_summary.proofs.BlockLaws.{Labelled}
 use Rattle.scan_summary.proofs.QuickLaws.{quick_marked, quick_complete, quick_label, quick_has_fact, quick_greatest_fact}
 
 module _ (g : Geometry) (three : 3 ≤ g.pages) (x : List ℕ) where
-  pub says_marked : (k : Depth) → (summary_by k g x).marked ≡ cond (is_marked g x) 1 0
+  pub says_marked : (k : Depth) → (summary_by k g x).marked ≡ is_marked g x
   unfolding summary_by
   says_marked Full = block.says_marked g x (omega arith)
   says_marked Quick = quick_marked g x three

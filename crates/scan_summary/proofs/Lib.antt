@@ -2,4 +2,3 @@ pub mod BlockLaws
 pub mod VisitLaws
 pub mod QuickLaws
 pub mod DepthLaws
-pub mod SummaryLaws

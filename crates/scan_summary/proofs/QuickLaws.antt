@@ -16,13 +16,13 @@ use Rattle.scan_summary.specs.Quick.{marking, ends_summed, middle_summed, quick_
 use Rattle.scan_summary.specs.Summary.{blank_summary, marked_by, whole_step, says_complete, says_number}
 use Rattle.scan_summary.specs.declared.Summary.{Summary}
 use Rattle.scan_summary.proofs.VisitLaws.{all_to, visited, all_each, any_order}
-use Rattle.scan_summary.proofs.BlockLaws.{agrees_self, agrees_alike, arms, nested, zeros, two_tests, flags, page, page_whole, page_broken, page_mark, no_kind, Labelled}
+use Rattle.scan_summary.proofs.BlockLaws.{agrees_self, agrees_alike, cond_flag, arms, two_tests, page, page_whole, page_broken, page_mark, no_kind, Labelled}
 
 nest : (a b c : Bool) → cond a (cond b c false) false ≡ cond (cond a b false) c false
 nest true b c = refl
 nest false b c = refl
 
-either_flag : (a b : Bool) → ◌≡◌ {A = ℕ} (cond b 1 (cond a 1 0)) (cond (cond a true b) 1 0)
+either_flag : (a b : Bool) → cond b true (cond a true false) ≡ cond a true b
 either_flag true true = refl
 either_flag true false = refl
 either_flag false true = refl
@@ -38,7 +38,7 @@ module _ (g : Geometry) (block : List ℕ) where
 
   -- what the pages visited tell: all of them are so
   record Visits (all : Bool) (s : Summary) : Type 0 where
-    complete_is : s.complete ≡ cond all 1 0
+    complete_is : s.complete ≡ all
     kind_is : whole_in g block 0 ≡ true → s.kind ≡ (label_in g block 0).kind
     logical_is : whole_in g block 0 ≡ true → s.logical ≡ (label_in g block 0).logical
     number_is : whole_in g block 0 ≡ true → s.number ≡ (label_in g block 0).number
@@ -51,7 +51,7 @@ module _ (g : Geometry) (block : List ℕ) where
       (λ t.
       let e = page_whole g block 0 blank_summary t in
       record {
-        complete_is = ap (λ (s : Summary). s.complete) e ∙ rw (t, agrees_self (label_in g block 0)) (nested (eqb (label_in g block 0).page 0) true);
+        complete_is = ap (λ (s : Summary). s.complete) e ∙ rw (t, agrees_self (label_in g block 0)) (cond_flag (eqb (label_in g block 0).page 0));
         kind_is = λ w. ap (λ (s : Summary). s.kind) e;
         logical_is = λ w. ap (λ (s : Summary). s.logical) e;
         number_is = λ w. ap (λ (s : Summary). s.number) e;
@@ -67,13 +67,12 @@ module _ (g : Geometry) (block : List ℕ) where
         broken_is = λ w. rw t;
       })
 
-  agreed : (n : ℕ) (all : Bool) (s : Summary) → Visits all s → cond (agrees (label s.kind s.logical 0 s.number) n (label_in g block n)) s.complete 0 ≡ cond (cond (agrees (label_in g block 0) n (label_in g block n)) all false) 1 0
+  agreed : (n : ℕ) (all : Bool) (s : Summary) → Visits all s → cond (agrees (label s.kind s.logical 0 s.number) n (label_in g block n)) s.complete false ≡ cond (agrees (label_in g block 0) n (label_in g block n)) all false
   agreed n all s r =
       cases (whole_in g block 0)
-      (λ w. rw (agrees_alike (label s.kind s.logical 0 s.number) (label_in g block 0) n (label_in g block n) (r.kind_is w) (r.logical_is w) (r.number_is w), r.complete_is)
-      (nested (agrees (label_in g block 0) n (label_in g block n)) all))
+      (λ w. rw (agrees_alike (label s.kind s.logical 0 s.number) (label_in g block 0) n (label_in g block n) (r.kind_is w) (r.logical_is w) (r.number_is w), r.complete_is))
       (λ w. rw (r.complete_is, r.broken_is w)
-      (zeros (agrees (label s.kind s.logical 0 s.number) n (label_in g block n)) (agrees (label_in g block 0) n (label_in g block n))))
+      (arms (agrees (label s.kind s.logical 0 s.number) n (label_in g block n)) ∙ sym (arms (agrees (label_in g block 0) n (label_in g block n)))))
 
   visits_next : (n : ℕ) (all : Bool) (s : Summary) → 1 ≤ n → Visits all s → Visits (with n all) (page g block n s)
   unfolding whole_step
@@ -100,7 +99,7 @@ module _ (g : Geometry) (block : List ℕ) where
       })
 
   -- one page more: whether one was whole, and the greatest number
-  page_any : (n : ℕ) (s : Summary) → (page g block n s).any ≡ cond (whole_in g block n) 1 s.any
+  page_any : (n : ℕ) (s : Summary) → (page g block n s).any ≡ cond (whole_in g block n) true s.any
   unfolding whole_step
   page_any n s =
       cases (whole_in g block n)
@@ -139,14 +138,14 @@ module _ (g : Geometry) (block : List ℕ) where
     visits_middle (suc n) = visits_next (suc n) (visited test (last_page g) n) (middle_summed g block n) (omega arith) (visits_middle n)
 
     -- marks: page 0 by its first page, page 1 by its mark byte
-    marked_ends : (ends_summed g block).marked ≡ cond (is_marked g block) 1 0
+    marked_ends : (ends_summed g block).marked ≡ is_marked g block
     unfolding ends_summed marking page is_marked marked_by
     marked_ends =
-        ap (λ (m : ℕ). cond (eqb (mark_byte g block 1) 255) m 1)
+        ap (λ (m : Bool). cond (eqb (mark_byte g block 1) 255) m true)
         (page_mark g block (last_page g) (page g block 0 blank_summary) ∙ rw (le-ltb (last_page g) 2 (omega arith)) (page_mark g block 0 blank_summary))
         ∙ two_tests (eqb (mark_byte g block 0) 255) (eqb (mark_byte g block 1) 255)
 
-    again : (m : Bool) → is_marked g block ≡ m → ◌≡◌ {A = ℕ} (cond (eqb (mark_byte g block 1) 255) (cond m 1 0) 1) (cond m 1 0)
+    again : (m : Bool) → is_marked g block ≡ m → cond (eqb (mark_byte g block 1) 255) m true ≡ m
     unfolding is_marked
     again true e = cases (eqb (mark_byte g block 1) 255) (λ t. rw t) (λ t. rw t)
     again false e =
@@ -154,15 +153,15 @@ module _ (g : Geometry) (block : List ℕ) where
         (λ t. rw t)
         (λ t. cases (eqb (mark_byte g block 0) 255) (λ u. absurd (true≢false (rw (t, u) at e))) (λ u. absurd (true≢false (rw u at e))))
 
-    marked_middle : (n : ℕ) → (middle_summed g block n).marked ≡ cond (is_marked g block) 1 0
+    marked_middle : (n : ℕ) → (middle_summed g block n).marked ≡ is_marked g block
     unfolding middle_summed page marked_by
     marked_middle zero = marked_ends
     marked_middle (suc zero) =
-        page_mark g block 1 (middle_summed g block 0) ∙ ap (λ (m : ℕ). cond (eqb (mark_byte g block 1) 255) m 1) marked_ends ∙ again (is_marked g block) refl
+        page_mark g block 1 (middle_summed g block 0) ∙ ap (λ (m : Bool). cond (eqb (mark_byte g block 1) 255) m true) marked_ends ∙ again (is_marked g block) refl
     marked_middle (suc (suc n)) =
         page_mark g block (suc (suc n)) (middle_summed g block (suc n)) ∙ rw (le-ltb (suc (suc n)) 2 (omega arith)) (marked_middle (suc n))
 
-    pub quick_marked : (quick_summed g block).marked ≡ cond (is_marked g block) 1 0
+    pub quick_marked : (quick_summed g block).marked ≡ is_marked g block
     unfolding quick_summed
     quick_marked = cases (ends_whole g block) (λ t. rw t (marked_middle (g.pages - 2))) (λ t. rw t marked_ends)
 
@@ -192,8 +191,8 @@ module _ (g : Geometry) (block : List ℕ) where
     unfolding quick_summed is_complete
     quick_complete =
         cases (ends_whole g block)
-        (λ t. rw (t, marked_middle (g.pages - 2), (visits_middle (g.pages - 2)).complete_is, any_order test g.pages three, ← all_is g.pages) (flags (is_marked g block) (complete_to g block g.pages)))
-        (λ t. rw (t, marked_ends, visits_ends.complete_is, not_ends t, not_complete t) (flags (is_marked g block) false))
+        (λ t. rw (t, marked_middle (g.pages - 2), (visits_middle (g.pages - 2)).complete_is, any_order test g.pages three, ← all_is g.pages))
+        (λ t. rw (t, marked_ends, visits_ends.complete_is, not_ends t, not_complete t))
 
     -- the label of a complete block
     pub quick_label : is_complete g block ≡ true → Labelled g block (quick_summed g block)
@@ -207,14 +206,14 @@ module _ (g : Geometry) (block : List ℕ) where
         (λ t. absurd (false≢true (sym (not_complete t) ∙ all)))
 
     -- whether a page read is whole
-    any_ends : (ends_summed g block).any ≡ cond (cond (whole_in g block 0) true (whole_in g block (last_page g))) 1 0
+    any_ends : (ends_summed g block).any ≡ cond (whole_in g block 0) true (whole_in g block (last_page g))
     unfolding ends_summed marking page
     any_ends =
         page_any (last_page g) (page g block 0 blank_summary)
-        ∙ ap (λ (k : ℕ). cond (whole_in g block (last_page g)) 1 k) (page_any 0 blank_summary)
+        ∙ ap (λ (k : Bool). cond (whole_in g block (last_page g)) true k) (page_any 0 blank_summary)
         ∙ either_flag (whole_in g block 0) (whole_in g block (last_page g))
 
-    any_middle : (n : ℕ) → (ends_summed g block).any ≡ 1 → (middle_summed g block n).any ≡ 1
+    any_middle : (n : ℕ) → (ends_summed g block).any ≡ true → (middle_summed g block n).any ≡ true
     unfolding middle_summed page
     any_middle zero e = e
     any_middle (suc n) e =
@@ -225,7 +224,7 @@ module _ (g : Geometry) (block : List ℕ) where
     unfolding ends_whole
     whole_any t = rw (both (whole_in g block 0) _ t).0
 
-    any_is : (quick_summed g block).any ≡ cond (cond (whole_in g block 0) true (whole_in g block (last_page g))) 1 0
+    any_is : (quick_summed g block).any ≡ cond (whole_in g block 0) true (whole_in g block (last_page g))
     unfolding quick_summed
     any_is =
         cases (ends_whole g block)
@@ -234,7 +233,7 @@ module _ (g : Geometry) (block : List ℕ) where
 
     pub quick_has_fact : says_number (quick_summed g block) ≡ quick_has g block
     unfolding quick_has
-    quick_has_fact = rw (quick_marked, any_is) (flags (is_marked g block) (cond (whole_in g block 0) true (whole_in g block (last_page g))))
+    quick_has_fact = rw (quick_marked, any_is)
 
     -- the greatest number on a page read
     greatest_ends : (ends_summed g block).greatest ≡ max (number_on g block 0) (number_on g block (last_page g))

@@ -1,5 +1,5 @@
 -- What the pages tell that a quick mount reads of a block: the first, the last, the mark byte of page 1, and then the others where both are whole.
-use Rattle.std.specs.Prelude.{ℕ, zero, suc, ◌-◌, cond, List, eqb}
+use Rattle.std.specs.Prelude.{ℕ, zero, suc, ◌-◌, true, cond, List, eqb}
 use Rattle.geometry.specs.declared.Geometry.{Geometry}
 use Rattle.copies.specs.Blocks.{page_in, mark_byte}
 use Rattle.copies.specs.Quick.{last_page, ends_whole}
@@ -9,7 +9,7 @@ use Rattle.scan_summary.specs.declared.Summary.{Summary}
 -- after the mark byte of a page alone
 unfoldable pub marking : ℕ → Summary → Summary
 marking byte s =
-    record { marked = cond (eqb byte 255) s.marked 1; complete = s.complete; kind = s.kind; logical = s.logical; number = s.number; any = s.any; greatest = s.greatest }
+    record { marked = cond (eqb byte 255) s.marked true; complete = s.complete; kind = s.kind; logical = s.logical; number = s.number; any = s.any; greatest = s.greatest }
 
 unfoldable pub ends_summed : Geometry → List ℕ → Summary
 ends_summed g block =

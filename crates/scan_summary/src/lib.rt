@@ -15,36 +15,25 @@ pub enum Depth {
     Quick,
 }
 
-// What the pages of a block told so far. `marked` and `complete` are 1 or 0; kind, logical and number are those of page 0.
+// What the pages of a block told so far; kind, logical and number are those of page 0.
 #[derive(Clone, Copy)]
 pub struct Summary {
-    pub marked: usize,
-    pub complete: usize,
+    pub marked: bool,
+    pub complete: bool,
     pub kind: usize,
     pub logical: usize,
     pub number: u64,
-    // 1 if a page was whole, and the greatest number on one, 0 if none was.
-    pub any: usize,
+    // Whether a page was whole, and the greatest number on one, 0 if none was.
+    pub any: bool,
     pub greatest: u64,
 }
 
-fn wide(x: u8) -> usize
-    ensures { result ≡ x }
-{
-    x as usize
-}
-
 // Whether a page bears a factory mark, where it is one of the first two.
-fn marked_by(marked: usize, page: &[u8], main: usize, place: usize) -> usize
+fn marked_by(marked: bool, page: &[u8], main: usize, place: usize) -> bool
     requires { Sized main page.now }
     ensures { result ≡ marked_by main place page.now marked }
 {
-    if place < 2 {
-        if page[main] != 255 {
-            return 1;
-        }
-    }
-    marked
+    marked || (place < 2 && page[main] != 255)
 }
 
 impl Summary {
@@ -53,12 +42,12 @@ impl Summary {
         ensures { result ≡ blank_summary }
     {
         Self {
-            marked: 0,
-            complete: 0,
+            marked: false,
+            complete: false,
             kind: 0,
             logical: 0,
             number: 0,
-            any: 0,
+            any: false,
             greatest: 0,
         }
     }
@@ -68,64 +57,37 @@ impl Summary {
         requires { Sized main page.now }
         ensures { result ≡ agrees (label self.kind self.logical 0 self.number) place (label_of main page.now) }
     {
-        let kind = self.kind;
-        if wide(pages::kind_of(page, main)) != kind {
-            return false;
-        }
-        let logical = self.logical;
-        if pages::logical_of(page, main) != logical {
-            return false;
-        }
-        let number = self.number;
-        if pages::number_of(page, main) != number {
-            return false;
-        }
-        pages::place_of(page, main) == place
+        usize::from(pages::kind_of(page, main)) == self.kind
+            && pages::logical_of(page, main) == self.logical
+            && pages::number_of(page, main) == self.number
+            && pages::place_of(page, main) == place
     }
 
     // After a page that is not whole.
-    fn broken(mut self, marked: usize) -> Self
+    fn broken(mut self, marked: bool) -> Self
         ensures { result ≡ broken marked self }
     {
         self.marked = marked;
-        self.complete = 0;
+        self.complete = false;
         self
     }
 
-    // The greater of a number and the greatest so far.
-    fn greatest_with(self, number: u64) -> u64
-        ensures { result ≡ max self.greatest number }
-    {
-        let greatest = self.greatest;
-        if greatest < number {
-            return number;
-        }
-        greatest
-    }
-
     // After a whole page.
-    fn whole_step(mut self, marked: usize, page: &[u8], main: usize, place: usize) -> Self
+    fn whole_step(mut self, marked: bool, page: &[u8], main: usize, place: usize) -> Self
         requires { Sized main page.now }
         ensures { result ≡ whole_step marked place (label_of main page.now) self }
     {
         let number = pages::number_of(page, main);
-        let greatest = self.greatest_with(number);
-        let same = self.agrees(page, main, place);
         self.marked = marked;
-        self.any = 1;
-        self.greatest = greatest;
+        self.any = true;
+        self.greatest = self.greatest.max(number);
         if place == 0 {
-            self.kind = wide(pages::kind_of(page, main));
+            self.kind = usize::from(pages::kind_of(page, main));
             self.logical = pages::logical_of(page, main);
             self.number = number;
-            self.complete = 0;
-            if pages::place_of(page, main) == 0 {
-                self.complete = 1;
-            }
-            return self;
-        }
-        if !same {
-            self.complete = 0;
+            self.complete = pages::place_of(page, main) == 0;
+        } else if !self.agrees(page, main, place) {
+            self.complete = false;
         }
         self
     }
@@ -147,7 +109,7 @@ impl Summary {
         ensures { result ≡ marking byte self }
     {
         if byte != 255 {
-            self.marked = 1;
+            self.marked = true;
         }
         self
     }
@@ -156,23 +118,13 @@ impl Summary {
     pub fn is_complete(self) -> bool
         ensures { result ≡ says_complete self }
     {
-        let marked = self.marked;
-        if marked != 0 {
-            return false;
-        }
-        let complete = self.complete;
-        complete == 1
+        !self.marked && self.complete
     }
 
     // Whether a block with this summary of all pages has no factory mark and a whole page.
     pub fn has_number(self) -> bool
         ensures { result ≡ says_number self }
     {
-        let marked = self.marked;
-        if marked != 0 {
-            return false;
-        }
-        let any = self.any;
-        any == 1
+        !self.marked && self.any
     }
 }

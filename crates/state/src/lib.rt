@@ -6,15 +6,13 @@ ghost use Rattle.bitmaps.specs.Bitmap.{with_bit};
 ghost use Rattle.state_choose.specs.Choose.{chosen};
 ghost use Rattle.state.specs.State.{blank, mounted_with, next_number, number_end, spent, taken, with_invalid, with_copy, with_table, held_bits, empty_from, sound_block, sound_from, sound_entries, mounted, free_blocks};
 
-use state_choose::Choice;
-
 // The last sequence number: all 64 bits set.
-const LAST_NUMBER: u64 = 18446744073709551615;
+const LAST_NUMBER: u64 = u64::MAX;
 
 // What a mount found and the fills since changed. It goes in by value and comes back.
 #[derive(Clone, Copy)]
 pub struct State {
-    // 0 not mounted, 1 mounted, 2 stopped.
+    // 0 not mounted, 1 mounted, 2 stopped. A number, as programs in C hand in any: another is not mounted.
     pub status: usize,
     // The block of the current table.
     pub table: usize,
@@ -31,12 +29,6 @@ pub struct State {
     pub kinds: [u8; 4096],
 }
 
-fn wide(x: u16) -> usize
-    ensures { result ≡ x }
-{
-    x as usize
-}
-
 // Whether the entries past the last logical block are empty.
 fn is_empty_from(map: &[u16], logical: usize) -> bool
     requires logical_bound { logical ≤ 4096 }
@@ -44,14 +36,14 @@ fn is_empty_from(map: &[u16], logical: usize) -> bool
     ensures { result ≡ empty_from map.now logical (4096 - logical) }
 {
     let mut other: u16 = 0;
-    let mut l = logical;
-    while l < 4096 {
-        other = other | !map[l];
-        l += 1;
+    for l in logical..4096 {
+        other |= !map[l];
     }
     other == 0
 }
 
+// Methods copy a field to a local before they lend it, and read entries by index: where a field or a slice of it is lent, the whole
+// state is copied for the call, and the test for a mounted state takes more than twice as long.
 impl State {
     // A state that is 0 in all other fields.
     pub fn blank(status: usize) -> Self
@@ -98,16 +90,14 @@ impl State {
         requires { next_number self < number_end }
         ensures { result ≡ next_number self }
     {
-        let number = self.number;
-        number + 1
+        self.number + 1
     }
 
     // Whether no number is left.
     pub fn is_spent(self) -> bool
         ensures { result ≡ spent self }
     {
-        let number = self.number;
-        number == LAST_NUMBER
+        self.number == LAST_NUMBER
     }
 
     // The state after its next number was taken.
@@ -115,8 +105,7 @@ impl State {
         requires { next_number self < number_end }
         ensures { result ≡ taken self }
     {
-        let number = self.number;
-        self.number = number + 1;
+        self.number += 1;
         self
     }
 
@@ -125,9 +114,7 @@ impl State {
         requires { block < 4096 }
         ensures { result ≡ with_invalid block self }
     {
-        let mut invalid = self.invalid;
-        bitmaps::set_bit(&mut invalid, block);
-        self.invalid = invalid;
+        bitmaps::set_bit(&mut self.invalid, block);
         self
     }
 
@@ -143,14 +130,13 @@ impl State {
     }
 
     // The next block after the one filled last that may be filled; held has a bit for each block that holds something current.
-    pub fn choose_block(self, held: &[u8; 512], blocks: usize) -> Choice
+    pub fn choose_block(self, held: &[u8; 512], blocks: usize) -> Option<usize>
         requires { (self.last < blocks) × (blocks ≤ 4096) }
         ensures { result ≡ chosen self.marked self.invalid held.now blocks self.last }
     {
         let marked = self.marked;
         let invalid = self.invalid;
-        let last = self.last;
-        state_choose::choose(&marked, &invalid, held, blocks, last)
+        state_choose::choose(&marked, &invalid, held, blocks, self.last)
     }
 
     // The blocks that hold something current, one bit a block.
@@ -159,18 +145,15 @@ impl State {
         ensures { result ≡ held_bits self logical }
     {
         let map = self.map;
-        let table = self.table;
         let mut bits = [0u8; 512];
-        if table < 4096 {
-            bitmaps::set_bit(&mut bits, table);
+        if self.table < 4096 {
+            bitmaps::set_bit(&mut bits, self.table);
         }
-        let mut l = 0;
-        while l < logical {
-            let block = wide(map[l]);
+        for l in 0..logical {
+            let block = usize::from(map[l]);
             if block < 4096 {
                 bitmaps::set_bit(&mut bits, block);
             }
-            l += 1;
         }
         bits
     }
@@ -183,20 +166,18 @@ impl State {
         let marked = self.marked;
         let invalid = self.invalid;
         let map = self.map;
-        let table = self.table;
         let mut taken = bitmaps::flags(&marked, &invalid);
-        taken[table] = 1;
+        taken[self.table] = 1;
+        // No early end: an entry does not wait for the one before it.
         let mut unsound: u8 = 0;
-        let mut l = 0;
-        while l < logical {
-            let block = wide(map[l]);
+        for l in 0..logical {
+            let block = usize::from(map[l]);
             if block < blocks {
-                unsound = unsound | taken[block];
+                unsound |= taken[block];
                 taken[block] = 1;
             } else if block != 65535 {
                 unsound = 1;
             }
-            l += 1;
         }
         unsound == 0
     }
@@ -208,12 +189,8 @@ impl State {
     {
         let marked = self.marked;
         let invalid = self.invalid;
-        let table = self.table;
-        let named = [0u8; 512];
-        if blocks <= table {
-            return false;
-        }
-        state_choose::is_permitted(&marked, &invalid, &named, table)
+        self.table < blocks
+            && state_choose::is_permitted(&marked, &invalid, &[0u8; 512], self.table)
     }
 
     // Whether the map names sound blocks for the logical blocks and none past them, and the table's block is sound.
@@ -222,12 +199,9 @@ impl State {
         ensures { result ≡ sound_entries self blocks logical }
     {
         let map = self.map;
-        if is_empty_from(&map, logical) {
-            if self.has_sound_table(blocks) {
-                return self.has_sound_map(blocks, logical);
-            }
-        }
-        false
+        is_empty_from(&map, logical)
+            && self.has_sound_table(blocks)
+            && self.has_sound_map(blocks, logical)
     }
 
     // Whether the state counts as mounted, on any state whatever.
@@ -235,24 +209,14 @@ impl State {
         requires { (blocks ≤ 4096) × (logical ≤ 4096) }
         ensures { result ≡ mounted self blocks logical }
     {
-        let status = self.status;
-        if status != 1 {
-            return false;
-        }
-        let last = self.last;
-        if blocks <= last {
-            return false;
-        }
         let marked = self.marked;
         let invalid = self.invalid;
-        if bitmaps::is_clear_from(&marked, blocks, 4096) {
-            if bitmaps::is_clear_from(&invalid, blocks, 4096) {
-                if bitmaps::is_never_both(&marked, &invalid, 4096) {
-                    return self.has_sound_entries(blocks, logical);
-                }
-            }
-        }
-        false
+        self.status == 1
+            && self.last < blocks
+            && bitmaps::is_clear_from(&marked, blocks, 4096)
+            && bitmaps::is_clear_from(&invalid, blocks, 4096)
+            && bitmaps::is_never_both(&marked, &invalid, 4096)
+            && self.has_sound_entries(blocks, logical)
     }
 
     // The valid unmarked blocks that hold nothing current, 0 if the state is not mounted.
@@ -260,13 +224,13 @@ impl State {
         requires { (blocks ≤ 4096) × (logical ≤ 4096) }
         ensures { result ≡ free_blocks self blocks logical }
     {
-        if self.is_mounted(blocks, logical) {
-            let marked = self.marked;
-            let invalid = self.invalid;
-            let held = self.held(logical);
-            return state_choose::count_permitted(&marked, &invalid, &held, blocks);
+        if !self.is_mounted(blocks, logical) {
+            return 0;
         }
-        0
+        let marked = self.marked;
+        let invalid = self.invalid;
+        let held = self.held(logical);
+        state_choose::count_permitted(&marked, &invalid, &held, blocks)
     }
 
     // The state after a passed fill with a table.

@@ -10,13 +10,13 @@ use native.Mathlib.Omega.{arith}
 use borrow.Table.Steps.{cases}
 use borrow.Author.Tests.{eqb-true, eqb-false}
 use lib.Dec.{eqb}
+use Rattle.std.specs.Prelude.{Option, Some, None}
+use Rattle.std.proofs.lemmas.Option.{none-some, same_Some}
 use Rattle.state_choose.specs.Choose.{permitted, next_block, search_after, count_permitted}
-use Rattle.state_choose.specs.declared.Choice.TheVariants.{Block, Worn}
 use lib.ListN.{length}
 use Rattle.bools.proofs.BoolLaws.{unless}
 use Rattle.bitmaps.specs.Bitmap.{bit_at, with_bit}
 use Rattle.bitmaps.proofs.BitLaws.{bit-set, bit_kept}
-use Rattle.state_choose.specs.declared.Choice.{Choice}
 
 pub next_below : (blocks b : ℕ) → b < blocks → next_block blocks b < blocks
 next_below blocks b h =
@@ -24,7 +24,7 @@ next_below blocks b h =
 
 module _ (test : ℕ → Bool) (blocks : ℕ) where
   -- the next block is taken, or the search goes on after it
-  pub search_found : (m n b : ℕ) → n < m → test (next_block blocks b) ≡ true → Block (next_block blocks b) ≡ search_after test blocks (m - n) b
+  pub search_found : (m n b : ℕ) → n < m → test (next_block blocks b) ≡ true → Some (next_block blocks b) ≡ search_after test blocks (m - n) b
   unfolding search_after
   search_found m n b h t =
       let e : m - n ≡ suc (m - (n + 1)) = omega arith in
@@ -36,7 +36,7 @@ module _ (test : ℕ → Bool) (blocks : ℕ) where
       let e : m - n ≡ suc (m - (n + 1)) = omega arith in
       rw (e, t)
 
-  pub search_over : (m n b : ℕ) → m ≤ n → Worn ≡ search_after test blocks (m - n) b
+  pub search_over : (m n b : ℕ) → m ≤ n → None ≡ search_after test blocks (m - n) b
   unfolding search_after
   search_over m n b h =
       let e : m - n ≡ 0 = omega arith in
@@ -52,15 +52,6 @@ after_below blocks b k h = mod-lt (b + k) h
 
 add_suc-left : (b k : ℕ) → b + suc k ≡ b + 1 + k
 add_suc-left b k = omega arith
-
-not_worn : {c : ℕ} → Block c ≡ Worn → ⊥
-not_worn e = let z : ◌≡◌ {A = ℕ} 0 1 = cc in omega arith
-
-not_block : {c : ℕ} → Worn ≡ Block c → ⊥
-not_block e = let z : ◌≡◌ {A = ℕ} 0 1 = cc in omega arith
-
-same_block : {b c : ℕ} → Block b ≡ Block c → b ≡ c
-same_block e = cc
 
 next_is : (blocks b : ℕ) → b < blocks → next_block blocks b ≡ (b + 1) % blocks
 next_is blocks b h =
@@ -80,19 +71,19 @@ after_one blocks b h = sym (next_is blocks b h)
 
 module _ (test : ℕ → Bool) (blocks : ℕ) where
   -- where the search finds nothing, none of the n blocks after b passes the test
-  pub worn_none : (n b : ℕ) → b < blocks → search_after test blocks n b ≡ Worn → (k : ℕ) → k < n → test (after blocks b (suc k)) ≡ false
+  pub worn_none : (n b : ℕ) → b < blocks → search_after test blocks n b ≡ None → (k : ℕ) → k < n → test (after blocks b (suc k)) ≡ false
   unfolding search_after
   worn_none zero b h e k l = absurd (omega arith)
   worn_none (suc n) b h e k l =
       cases (test (next_block blocks b))
-      (λ t. absurd (not_worn {c = next_block blocks b} (sym (rw t) ∙ e)))
+      (λ t. absurd (none-some (next_block blocks b) (sym e ∙ rw t)))
       (λ t. go k l t (worn_none n (next_block blocks b) (next_below blocks b h) (sym (rw t) ∙ e)))
     where
       go : (k : ℕ) → k < suc n → test (next_block blocks b) ≡ false → ((j : ℕ) → j < n → test (after blocks (next_block blocks b) (suc j)) ≡ false) → test (after blocks b (suc k)) ≡ false
       go zero l t w = ap test (after_one blocks b h) ∙ t
       go (suc k) l t w = ap test (sym (after_next blocks b (suc k) h)) ∙ w k (omega arith)
 
-  pub none_worn : (n b : ℕ) → b < blocks → ((k : ℕ) → k < n → test (after blocks b (suc k)) ≡ false) → search_after test blocks n b ≡ Worn
+  pub none_worn : (n b : ℕ) → b < blocks → ((k : ℕ) → k < n → test (after blocks b (suc k)) ≡ false) → search_after test blocks n b ≡ None
   unfolding search_after
   none_worn zero b h f = refl
   none_worn (suc n) b h f =
@@ -107,13 +98,13 @@ module _ (test : ℕ → Bool) (blocks : ℕ) where
     pub passes : test c ≡ true
     pub first : (k : ℕ) → k < steps → test (after blocks b (suc k)) ≡ false
 
-  pub found : (n b c : ℕ) → b < blocks → search_after test blocks n b ≡ Block c → Found n b c
+  pub found : (n b c : ℕ) → b < blocks → search_after test blocks n b ≡ Some c → Found n b c
   unfolding search_after
-  found zero b c h e = absurd (not_block e)
+  found zero b c h e = absurd (none-some c e)
   found (suc n) b c h e =
       cases (test (next_block blocks b))
       (λ t.
-      let s : next_block blocks b ≡ c = same_block (sym (rw t) ∙ e) in
+      let s : next_block blocks b ≡ c = same_Some (next_block blocks b) c (sym (rw t) ∙ e) in
       record {
         steps = 0;
         within = omega arith;
@@ -148,7 +139,7 @@ met blocks b c hb hc =
     ∙ mod-eq_of_lt hc
 
 -- worn exactly where no block of the chip may be filled
-pub worn_exactly : (test : ℕ → Bool) (blocks last : ℕ) → last < blocks → (search_after test blocks blocks last ≡ Worn) ↔ ((c : ℕ) → c < blocks → test c ≡ false)
+pub worn_exactly : (test : ℕ → Bool) (blocks last : ℕ) → last < blocks → (search_after test blocks blocks last ≡ None) ↔ ((c : ℕ) → c < blocks → test c ≡ false)
 worn_exactly test blocks last h = (
   λ e c l. ap test (sym (met blocks last c h l)) ∙ worn_none test blocks blocks last h e ((c + blocks - last - 1) % blocks) (mod-lt (c + blocks - last - 1) (omega arith)),
   λ f. none_worn test blocks blocks last h (λ k l. f (after blocks last (suc k)) (after_below blocks last (suc k) (omega arith))),
@@ -165,9 +156,9 @@ module _ (marked invalid held : List ℕ) where
   count_refused n h = rw (add-one, h) (add-zero (count_permitted marked invalid held n))
 
 -- a choice is a block or none
-pub by_choice : {P : Type 0} (c : Choice) → (c ≡ Worn → P) → ((b : ℕ) → c ≡ Block b → P) → P
-by_choice Worn f g = f refl
-by_choice (Block b) f g = g b refl
+pub by_choice : {P : Type 0} (c : Option ℕ) → (c ≡ None → P) → ((b : ℕ) → c ≡ Some b → P) → P
+by_choice None f g = f refl
+by_choice (Some b) f g = g b refl
 
 pub permitted_parts : (marked invalid held : List ℕ) (b : ℕ) → permitted marked invalid held b ≡ true → (bit_at marked b ≡ false) × (bit_at invalid b ≡ false)
 unfolding permitted

@@ -5,30 +5,17 @@ ghost use Rattle.std.specs.Prelude.{◌≡◌, ◌*◌, ◌<◌, ◌≤◌, leng
 ghost use Rattle.bitmaps.specs.Bitmap.{byte_of};
 ghost use Rattle.state_choose.specs.Choose.{permitted, next_block, chosen, count_permitted};
 
-// A block to fill, or none ("worn").
-#[derive(Clone, Copy)]
-pub enum Choice {
-    Block(usize),
-    Worn,
-}
-
-// Whether a block is unmarked, not invalid and held by nothing.
+// Whether a block is unmarked, not invalid and held by nothing. The three bitmaps are no struct: callers have the first two in a
+// state of their own, and would build one for a single call.
 pub fn is_permitted(marked: &[u8], invalid: &[u8], held: &[u8], block: usize) -> bool
     requires block_in_bounds { byte_of block < length marked.now }
     requires block_in_bounds_2 { byte_of block < length invalid.now }
     requires block_in_bounds_3 { byte_of block < length held.now }
     ensures { result ≡ permitted marked.now invalid.now held.now block }
 {
-    if bitmaps::is_set(marked, block) {
-        return false;
-    }
-    if bitmaps::is_set(invalid, block) {
-        return false;
-    }
-    if bitmaps::is_set(held, block) {
-        return false;
-    }
-    true
+    !bitmaps::is_set(marked, block)
+        && !bitmaps::is_set(invalid, block)
+        && !bitmaps::is_set(held, block)
 }
 
 // The block after one, wrapping.
@@ -36,14 +23,17 @@ pub fn next_block(block: usize, blocks: usize) -> usize
     requires { block < blocks }
     ensures { result ≡ next_block blocks block }
 {
-    if block + 1 == blocks {
-        return 0;
-    }
-    block + 1
+    if block + 1 == blocks { 0 } else { block + 1 }
 }
 
-// The next block after the one filled last that may be filled.
-pub fn choose(marked: &[u8], invalid: &[u8], held: &[u8], blocks: usize, last: usize) -> Choice
+// The next block after the one filled last that may be filled, or none ("worn").
+pub fn choose(
+    marked: &[u8],
+    invalid: &[u8],
+    held: &[u8],
+    blocks: usize,
+    last: usize,
+) -> Option<usize>
     requires last_lt_blocks { last < blocks }
     requires blocks_bound { blocks ≤ 8 * length marked.now }
     requires blocks_bound_2 { blocks ≤ 8 * length invalid.now }
@@ -51,15 +41,13 @@ pub fn choose(marked: &[u8], invalid: &[u8], held: &[u8], blocks: usize, last: u
     ensures { result ≡ chosen marked.now invalid.now held.now blocks last }
 {
     let mut block = last;
-    let mut tried: usize = 0;
-    while tried < blocks {
+    for _ in 0..blocks {
         block = next_block(block, blocks);
         if is_permitted(marked, invalid, held, block) {
-            return Choice::Block(block);
+            return Some(block);
         }
-        tried += 1;
     }
-    Choice::Worn
+    None
 }
 
 // How many blocks may be filled.
@@ -73,12 +61,10 @@ pub fn count_permitted(
     ensures { result ≡ count_permitted marked.now invalid.now held.now blocks }
 {
     let mut count: usize = 0;
-    let mut b = 0;
-    while b < blocks {
+    for b in 0..blocks {
         if is_permitted(marked, invalid, held, b) {
             count += 1;
         }
-        b += 1;
     }
     count
 }

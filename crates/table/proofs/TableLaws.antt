@@ -1,12 +1,12 @@
 -- Laws of the table's page 0. Assumes nothing.
 use Prim.Native.Nat.{ℕ, zero, suc, ◌+◌, ◌-◌, ◌*◌, ◌/◌, ◌≤◌, ◌<◌}
 use mathlib.Core.Bool.{Bool, true, false, cond}
-use mathlib.Core.List.{List, ◌++◌, append-nil, append_assoc}
+use mathlib.Core.List.{List, ◌++◌, append_assoc}
 use mathlib.Core.Path.{◌≡◌, refl, sym, ap, ap₂, ◌∙◌}
 use native.Mathlib.Nat.{zero-add}
 use native.Mathlib.Omega.{arith}
 use borrow.Author.Tests.{eq-eqb, ne_eqb}
-use lib.ListN.{length, get_or, take, drop, replicate, length-append, length-take, length-drop, drop_of_length-le}
+use lib.ListN.{length, get_or, take, drop, replicate, length-append}
 use lib.Seq.{length-take-le, get_or-take, take_at, drop_at, drop-drop}
 use Rattle.geometry.specs.declared.Geometry.{Geometry}
 use Rattle.geometry.specs.Limits.{Valid}
@@ -15,61 +15,24 @@ use Rattle.bitmaps.specs.Bitmap.{bit_at, count_bits, clear_from, bitmap_bytes}
 use Rattle.pages.specs.Layout.{label_of, all_ones, bytes_of}
 use Rattle.pages.proofs.ByteLaws.{take_rest, put_next, take_put}
 use Rattle.pages.proofs.LayoutLaws.{length-bytes_of, number_of-bytes_of, all_ones-replicate}
-use Rattle.cells.specs.Cells.{over}
 use Rattle.cells.specs.Part.{put}
 use Rattle.cells.proofs.PartLaws.{put-lent, length_part, part-take}
-use Rattle.copies.specs.Table.{Roomy, field_of, bitmap_of, right_first, right_page, right_with, bits_with, table_page, with_logical}
+use Rattle.copies.specs.Table.{Roomy, field_of, bitmap_of, right_first, right_page, bits_with, table_page}
 
 module _ (blocks logical : ℕ) (main : List ℕ) where
-  pub wrong_blocks : (field_of main 0 ≡ blocks → ⊥) → false ≡ right_first blocks logical main
-  unfolding right_first
-  wrong_blocks b = rw (ne_eqb _ _ b)
-
-  pub wrong_logical : field_of main 0 ≡ blocks → (field_of main 2 ≡ logical → ⊥) → false ≡ right_first blocks logical main
-  unfolding right_first
-  wrong_logical b l = rw (eq-eqb _ _ b, ne_eqb _ _ l)
-
-  pub wrong_count : field_of main 0 ≡ blocks → field_of main 2 ≡ logical → (field_of main 4 ≡ count_bits (bitmap_of blocks main) blocks → ⊥) → false ≡ right_first blocks logical main
-  unfolding right_first
-  wrong_count b l n = rw (eq-eqb _ _ b, eq-eqb _ _ l, ne_eqb _ _ n)
-
-  pub wrong_offset : field_of main 0 ≡ blocks → field_of main 2 ≡ logical → field_of main 4 ≡ count_bits (bitmap_of blocks main) blocks → (field_of main 6 ≡ 8 → ⊥) → false ≡ right_first blocks logical main
-  unfolding right_first
-  wrong_offset b l n o = rw (eq-eqb _ _ b, eq-eqb _ _ l, eq-eqb _ _ n, ne_eqb _ _ o)
-
-  pub wrong_bits : field_of main 0 ≡ blocks → field_of main 2 ≡ logical → field_of main 4 ≡ count_bits (bitmap_of blocks main) blocks → field_of main 6 ≡ 8 → clear_from (bitmap_of blocks main) blocks (8 * bitmap_bytes blocks - blocks) ≡ false → false ≡ right_first blocks logical main
-  unfolding right_first
-  wrong_bits b l n o c = rw (eq-eqb _ _ b, eq-eqb _ _ l, eq-eqb _ _ n, eq-eqb _ _ o, c)
-
   pub right_rest : field_of main 0 ≡ blocks → field_of main 2 ≡ logical → field_of main 4 ≡ count_bits (bitmap_of blocks main) blocks → field_of main 6 ≡ 8 → clear_from (bitmap_of blocks main) blocks (8 * bitmap_bytes blocks - blocks) ≡ true → all_ones (drop (8 + bitmap_bytes blocks) main) ≡ right_first blocks logical main
   unfolding right_first
   right_rest b l n o c = rw (eq-eqb _ _ b, eq-eqb _ _ l, eq-eqb _ _ n, eq-eqb _ _ o, c)
 
--- the first n bytes as they are lent
-pub from_start : (n : ℕ) (page : List ℕ) → take (n - 0) (drop 0 page) ≡ take n page
-from_start n page =
-    let k : n - 0 ≡ n = omega arith in
-    ap (λ (m : ℕ). take m page) k
-
--- a page of a table: another than page 0, page 0 under another logical block, page 0
+-- a page of a table: another than page 0, page 0
 module _ (g : Geometry) (p : ℕ) (page : List ℕ) where
   pub later-page : (p ≡ 0 → ⊥) → all_ones (take g.main page) ≡ right_page g p page
   unfolding right_page
   later-page z = rw (ne_eqb p 0 z)
 
-  pub wrong_label : p ≡ 0 → ((label_of g.main page).logical ≡ 0 → ⊥) → false ≡ right_page g p page
-  unfolding right_page
-  wrong_label z l = rw (eq-eqb p 0 z, ne_eqb _ 0 l)
-
   pub first_page_fact : p ≡ 0 → (label_of g.main page).logical ≡ 0 → right_first g.blocks g.logical (take g.main page) ≡ right_page g p page
   unfolding right_page
   first_page_fact z l = rw (eq-eqb p 0 z, eq-eqb _ 0 l)
-
--- the layout where this page is not right for the geometry, by what it is for the number n that it names
-pub layout_named : (g : Geometry) (p : ℕ) (page : List ℕ) (right n : ℕ) (b : Bool) → (right ≡ 0 → ⊥) → right_page g p page ≡ false → n ≡ field_of (take g.main page) 2 → b ≡ right_page (with_logical n g) p page → cond b 2 0 ≡ right_with g p page right
-unfolding right_with
-layout_named g p page right n b z f e q =
-    rw (ne_eqb right 0 z, f) (ap (λ (x : Bool). cond x 2 0) (q ∙ ap (λ (k : ℕ). right_page (with_logical k g) p page) e))
 
 -- a valid geometry has room for header and bitmap
 pub valid_roomy : (g : Geometry) → Valid g → Roomy g.blocks g.main
@@ -93,13 +56,6 @@ rest_is blocks size main e = take_rest (8 + size) main ∙ ap (λ (k : ℕ). dro
 -- one field more
 pairs : (xs ys : List ℕ) (n : ℕ) → length xs ≡ n → length ys ≡ 2 → length (xs ++ ys) ≡ n + 2
 pairs xs ys n e f = length-append xs ys ∙ ap₂ ◌+◌ e f
-
--- the bitmap as it is copied: a lent part comes back with the bytes over it
-pub copied : (at k size : ℕ) (bits p y : List ℕ) → k ≡ size → length bits ≡ size → y ≡ over bits (take k (drop at p)) → take at p ++ (y ++ drop k (drop at p)) ≡ put at bits p
-copied at k size bits p y e l f =
-    let whole : y ≡ bits =
-    f ∙ rw (l, e, drop_of_length-le (take size (drop at p)) {i = size} (simp (length-take, length-drop) (omega arith)), append-nil) in
-    rw (whole, e) (put-lent at size bits p l)
 
 -- the bitmap lies in the main bytes
 pub bits_in_main : (g : Geometry) → Valid g → (size : ℕ) (page : List ℕ) → size ≡ bitmap_bytes g.blocks → take (8 + size - 8) (drop 8 page) ≡ bitmap_of g.blocks (take g.main page)
@@ -185,18 +141,11 @@ module _ (main blocks logical : ℕ) (bits : List ℕ) where
       ∙ all_ones-replicate (main - (8 + k))
 
 -- the bitmap of page 0 as it is copied to the start of a buffer
-module _ (g : Geometry) (p : ℕ) (page bits : List ℕ) where
-  pub no_bitmap : (p ≡ 0 → ⊥) → bits ≡ bits_with g p page bits
-  unfolding bits_with
-  no_bitmap z = rw (ne_eqb p 0 z)
-
-  pub bitmap_copied : Valid g → length page ≡ page_size g → (k size : ℕ) (y : List ℕ) → k ≡ size → p ≡ 0 → size ≡ bitmap_bytes g.blocks
-      → y ≡ over (take (8 + size - 8) (drop 8 page)) (take k (drop 0 bits)) → take 0 bits ++ (y ++ drop k (drop 0 bits)) ≡ bits_with g p page bits
-  unfolding bits_with
-  bitmap_copied v l k size y e z d f =
-      let same = bits_in_main g v size page d in
-      let bitmap = bitmap_of g.blocks (take g.main page) in
-      let long : length bitmap ≡ size =
-      sym (ap length same) ∙ length_part 8 (8 + size - 8) page (omega (arith, d, l, (valid_roomy g v).room)) ∙ omega arith in
-      rw (eq-eqb p 0 z)
-      (copied 0 k size bitmap bits y e long (f ∙ ap (λ (x : List ℕ). over x (take k (drop 0 bits))) same))
+pub bitmap_copied : (g : Geometry) (p : ℕ) (page bits : List ℕ) → Valid g → length page ≡ page_size g → (size : ℕ) (y : List ℕ) → p ≡ 0 → size ≡ bitmap_bytes g.blocks
+    → y ≡ take (8 + size - 8) (drop 8 page) → y ++ drop size bits ≡ bits_with g p page bits
+unfolding bits_with
+bitmap_copied g p page bits v l size y z d f =
+    let same = bits_in_main g v size page d in
+    let long : length (bitmap_of g.blocks (take g.main page)) ≡ size =
+    sym (ap length same) ∙ length_part 8 (8 + size - 8) page (omega (arith, d, l, (valid_roomy g v).room)) ∙ omega arith in
+    rw (eq-eqb p 0 z, f, same) (put-lent 0 size (bitmap_of g.blocks (take g.main page)) bits long)

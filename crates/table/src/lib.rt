@@ -15,7 +15,7 @@ pub fn bitmap_bytes(blocks: usize) -> usize
     requires { blocks ≤ 4096 }
     ensures { result ≡ bitmap_bytes blocks }
 {
-    (blocks + 7) >> 3
+    blocks.div_ceil(8)
 }
 
 // Whether the main bytes of page 0 have the layout, their counts and the given geometry.
@@ -23,25 +23,14 @@ pub fn is_right_first(main: &[u8], blocks: usize, logical: usize) -> bool
     requires { Roomy blocks (length main.now) }
     ensures { result ≡ right_first blocks logical main.now }
 {
-    if pages::pair_at(main, 0) != blocks {
-        return false;
-    }
-    if pages::pair_at(main, 2) != logical {
-        return false;
-    }
     let size = bitmap_bytes(blocks);
-    let end = 8 + size;
-    let bits = &main[8..end];
-    if pages::pair_at(main, 4) != bitmaps::count_set(bits, blocks) {
-        return false;
-    }
-    if pages::pair_at(main, 6) != 8 {
-        return false;
-    }
-    if bitmaps::is_clear_from(bits, blocks, 8 * size) {
-        return pages::all_ones(&main[end..]);
-    }
-    false
+    let bits = &main[8..8 + size];
+    pages::pair_at(main, 0) == blocks
+        && pages::pair_at(main, 2) == logical
+        && pages::pair_at(main, 4) == bitmaps::count_set(bits, blocks)
+        && pages::pair_at(main, 6) == 8
+        && bitmaps::is_clear_from(bits, blocks, 8 * size)
+        && pages::all_ones(&main[8 + size..])
 }
 
 // Whether a page of a table for so many logical blocks is right: page 0 under logical block 0, the others FFh.
@@ -50,18 +39,15 @@ fn is_right_page(page: &[u8], g: Geometry, logical: usize, place: usize) -> bool
     requires page_len { length page.now ≡ page_size g }
     ensures { result ≡ right_page (with_logical logical g) place page.now }
 {
-    let main = g.main;
+    let main = &page[..g.main];
     if place != 0 {
-        return pages::all_ones(&page[0..main]);
+        return pages::all_ones(main);
     }
-    if pages::logical_of(page, main) != 0 {
-        return false;
-    }
-    is_right_first(&page[0..main], g.blocks, logical)
+    pages::logical_of(page, g.main) == 0 && is_right_first(main, g.blocks, logical)
 }
 
 // The layout of a table's pages so far, and of this one: 1 right for the geometry, 2 right for the number of logical blocks
-// named in page 0 only, 0 neither.
+// named in page 0 only, 0 neither. A number, as the definition `right_with` of copies and the laws of scans have it.
 pub fn right_with(right: usize, page: &[u8], g: Geometry, place: usize) -> usize
     requires valid { Valid g }
     requires page_len { length page.now ≡ page_size g }
@@ -73,8 +59,7 @@ pub fn right_with(right: usize, page: &[u8], g: Geometry, place: usize) -> usize
     if is_right_page(page, g, g.logical, place) {
         return right;
     }
-    let main = g.main;
-    let named = pages::pair_at(&page[0..main], 2);
+    let named = pages::pair_at(&page[..g.main], 2);
     if is_right_page(page, g, named, place) {
         return 2;
     }
@@ -92,8 +77,7 @@ pub fn copy_bitmap(page: &[u8], g: Geometry, place: usize, bits: &mut [u8])
         return;
     }
     let size = bitmap_bytes(g.blocks);
-    let end = 8 + size;
-    cells::copy(&page[8..end], &mut bits[0..size]);
+    bits[..size].copy_from_slice(&page[8..8 + size]);
 }
 
 // Writes the main bytes of page 0 for these invalid blocks.
@@ -102,13 +86,11 @@ pub fn build_first(main: &mut [u8], blocks: usize, logical: usize, invalid: &[u8
     requires blocks_bound { blocks ≤ 8 * length invalid.now }
     ensures { main.new ≡ table_page (length main.old) blocks logical invalid.now }
 {
-    let count = bitmaps::count_set(invalid, blocks);
     let size = bitmap_bytes(blocks);
-    let end = 8 + size;
     pages::write_pair(main, 0, blocks);
     pages::write_pair(main, 2, logical);
-    pages::write_pair(main, 4, count);
+    pages::write_pair(main, 4, bitmaps::count_set(invalid, blocks));
     pages::write_pair(main, 6, 8);
-    cells::copy(&invalid[0..size], &mut main[8..end]);
-    pages::fill_ones(main, end);
+    main[8..8 + size].copy_from_slice(&invalid[..size]);
+    pages::fill_ones(main, 8 + size);
 }

@@ -4,12 +4,11 @@ use mathlib.Core.Bool.{Bool, true, false, cond}
 use mathlib.Core.List.{List}
 use mathlib.Core.Path.{◌≡◌, refl}
 use lib.Dec.{eqb}
+use Rattle.std.specs.Prelude.{Option, Some, None}
 use Rattle.chip_array.specs.Device.{Device, Setting}
 use Rattle.bus_polling.specs.Outcomes.{is_passed, is_failed}
 use Rattle.pages.specs.Layout.{data_kind}
 use Rattle.state_choose.specs.Choose.{chosen}
-use Rattle.state_choose.specs.declared.Choice.{Choice}
-use Rattle.state_choose.specs.declared.Choice.TheVariants.{Block, Worn}
 use Rattle.state.specs.State.{next_number, numbers_left, held_bits}
 use Rattle.state.specs.declared.State.{State}
 use Rattle.progress.specs.Progress.{Progress}
@@ -30,11 +29,11 @@ module _ (s : Setting) (P : Progress → Type 0) (k : Kept s P) where
   tabled_arms true x y h i = h
   tabled_arms false x y h i = i
 
-  try_keeps : (u : Update) (st : State) (failed : Bool) (p : Progress) (more : State → Progress → Copied) (c : Choice) → P p → ((next : State) (q : Progress) → P q → P (more next q).progress)
+  try_keeps : (u : Update) (st : State) (failed : Bool) (p : Progress) (more : State → Progress → Copied) (c : Option ℕ) → P p → ((next : State) (q : Progress) → P q → P (more next q).progress)
       → P (copy_tried s u st failed p more c).progress
   unfolding copy_tried after_try
-  try_keeps u st failed p more Worn h m = h
-  try_keeps u st failed p more (Block b) h m =
+  try_keeps u st failed p more None h m = h
+  try_keeps u st failed p more (Some b) h m =
       let q = copy_filled s u st b p in
       let here = filled_keeps s P k b (copy data_kind u.logical (next_number st)) (update_source s.geometry st u) p h in
       copied_arms (is_passed q.outcome) _ _ (λ t. here) (copied_arms (is_failed q.outcome) _ _ (λ f. m _ _ (k.resume q f here)) here)

@@ -1,13 +1,11 @@
 -- A write of one page and an erase of one logical block: data fills until one passes, then a table fill if any block failed.
-use Rattle.std.specs.Prelude.{ℕ, zero, suc, Bool, true, false, cond, List, [], eqb, get_or}
+use Rattle.std.specs.Prelude.{ℕ, zero, suc, Bool, true, false, cond, List, [], eqb, get_or, Option, Some, None}
 use Rattle.geometry.specs.declared.Geometry.{Geometry}
 use Rattle.chip_array.specs.Device.{Device, Setting}
 use Rattle.bus_polling.specs.Outcomes.{is_passed, is_failed}
 use Rattle.bus_polling.specs.declared.Outcome.TheVariants.{Passed}
 use Rattle.pages.specs.Layout.{data_kind}
 use Rattle.state_choose.specs.Choose.{chosen}
-use Rattle.state_choose.specs.declared.Choice.{Choice}
-use Rattle.state_choose.specs.declared.Choice.TheVariants.{Block, Worn}
 use Rattle.state.specs.State.{blank, none, next_number, numbers_left, taken, with_invalid, with_copy, held_bits, form_of}
 use Rattle.state.specs.declared.State.{State}
 use Rattle.progress.specs.Progress.{Progress, progress, status_on}
@@ -64,9 +62,9 @@ after_try u st b failed q more =
     (cond (is_failed q.outcome) more (stopped_at q))
 
 -- the block chosen, or none is left
-unfoldable pub copy_tried : Setting → Update → State → Bool → Progress → (State → Progress → Copied) → Choice → Copied
-copy_tried s u st failed p more Worn = copied p 8 (blank 2) failed
-copy_tried s u st failed p more (Block b) =
+unfoldable pub copy_tried : Setting → Update → State → Bool → Progress → (State → Progress → Copied) → Option ℕ → Copied
+copy_tried s u st failed p more None = copied p 8 (blank 2) failed
+copy_tried s u st failed p more (Some b) =
     let q = copy_filled s u st b p in
     let again = more (with_invalid b (taken st)) (resumed q) in
     after_try u st b failed q again

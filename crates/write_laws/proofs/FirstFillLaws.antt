@@ -9,6 +9,7 @@ use native.Mathlib.Omega.{arith}
 use borrow.Table.Steps.{cases}
 use borrow.Author.Tests.{ne_eqb}
 use lib.Dec.{eqb}
+use Rattle.std.specs.Prelude.{Option, Some, None}
 use Rattle.geometry.specs.Sizes.{row_of}
 use Rattle.bools.proofs.BoolLaws.{clash}
 use Rattle.chip_interface.specs.Interface.{erase_code}
@@ -25,8 +26,6 @@ use Rattle.operations.specs.Ends.{End, Lent, end_of, unready_line, unready_end}
 use Rattle.operations.specs.Trace.{ArrayOperation}
 use Rattle.operations.proofs.UnreadyLaws.{unready_ends, unready_unanswered, erase_unready_line, erase_unanswered, erase_unready_sends, erase_unready_starts}
 use Rattle.state_choose.specs.Choose.{chosen}
-use Rattle.state_choose.specs.declared.Choice.{Choice}
-use Rattle.state_choose.specs.declared.Choice.TheVariants.{Block, Worn}
 use Rattle.state_choose.proofs.ChooseLaws.{by_choice}
 use Rattle.state.specs.State.{blank, next_number, number_end, numbers_left, held_bits}
 use Rattle.state.specs.declared.State.{State}
@@ -70,7 +69,7 @@ module _ (s : Setting) (st : State) (u : Update) (last_below : st.last < s.geome
   abbrev held : List ℕ
   held = held_bits st s.geometry.logical
 
-  abbrev choice : Choice
+  abbrev choice : Option ℕ
   choice = chosen st.marked st.invalid held s.geometry.blocks st.last
 
   pub spent_run : number_end ≤ next_number st → change_run s st u first ≡ tabled first 9 (blank 2)
@@ -86,7 +85,7 @@ module _ (s : Setting) (st : State) (u : Update) (last_below : st.last < s.geome
     more : State → Progress → Copied
     more = copies_filled s held u (numbers_left st - 1) true
 
-    tried_is : (c : Choice) → choice ≡ c → copies_filled s held u (numbers_left st) false st first ≡ copy_tried s u st false first more c
+    tried_is : (c : Option ℕ) → choice ≡ c → copies_filled s held u (numbers_left st) false st first ≡ copy_tried s u st false first more c
     unfolding copies_filled more
     tried_is c e = ap (λ (k : ℕ). copies_filled s held u k false st first) some_left ∙ ap (copy_tried s u st false first more) e
 
@@ -94,13 +93,13 @@ module _ (s : Setting) (st : State) (u : Update) (last_below : st.last < s.geome
     unfolding then_table copy_tried
     worn_run none =
         by_choice choice
-        (λ e. ap (then_table s) (tried_is Worn e))
+        (λ e. ap (then_table s) (tried_is None e))
         (λ b e.
         let f = chosen_permitted st.marked st.invalid held s.geometry.blocks st.last last_below b e in
         absurd (none b f.0 f.1))
 
     -- a block is left, and the chip does not take the first cycle of its erase
-    module _ (passed : is_passed first.outcome ≡ true) (lent : Lent s first.line) (unready : 2 < first.line.chip.interface.phase) (b : ℕ) (e : choice ≡ Block b) where
+    module _ (passed : is_passed first.outcome ≡ true) (lent : Lent s first.line) (unready : 2 < first.line.chip.interface.phase) (b : ℕ) (e : choice ≡ Some b) where
       abbrev row : ℕ
       row = row_of s.geometry b 0
 
@@ -141,21 +140,21 @@ module _ (s : Setting) (st : State) (u : Update) (last_below : st.last < s.geome
           ap (λ (k : ℕ). pages_filled s b (copy data_kind u.logical (next_number st)) (update_source s.geometry st u) k x) (sym (add-zero s.geometry.pages))
           ∙ fill_stopped s b (copy data_kind u.logical (next_number st)) (update_source s.geometry st u) 0 x unpassed s.geometry.pages
 
-      stops : copy_tried s u st false first more (Block b) ≡ stopped_at x
+      stops : copy_tried s u st false first more (Some b) ≡ stopped_at x
       unfolding copy_tried after_try
       stops = rw (fill_is, unpassed, unfailed)
 
       pub refused_run : change_run s st u first ≡ tabled x (stop_answer x.outcome) (blank 2)
       unfolding then_table
       refused_run =
-          ap (then_table s) (tried_is (Block b) e ∙ stops)
+          ap (then_table s) (tried_is (Some b) e ∙ stops)
           ∙ rw (ne_eqb (stop_answer x.outcome) 0 (λ z. omega (arith, z, stop_least x.outcome)))
 
       pub refused_told : stop_answer x.outcome ≡ cond (eqb first.line.left 0) 11 255
       refused_told = ap stop_answer refused_outcome ∙ stop_is first.line
 
   -- where some block may be filled, one is chosen
-  pub some_chosen : {P : Type 0} (b : ℕ) → b < s.geometry.blocks → may_fill s st b → ((c : ℕ) → choice ≡ Block c → P) → P
+  pub some_chosen : {P : Type 0} (b : ℕ) → b < s.geometry.blocks → may_fill s st b → ((c : ℕ) → choice ≡ Some c → P) → P
   some_chosen b h t f =
       by_choice choice
       (λ e. clash t (none_permitted st.marked st.invalid held s.geometry.blocks st.last last_below e b h))

@@ -4,5 +4,5 @@ use Rattle.c_state.proofs.load.Goals as goal
 
 pub returns : goal.returns
 returns c =
-    loaded c.args.bytes.now c.number_at-status.ensures c.number_at-table.ensures c.number_at-last.ensures c.number_at-number.ensures
-    c.bits_at-marked.ensures c.bits_at-invalid.ensures c.read_map.ensures c.kinds_of-kinds.ensures
+    loaded c.args.bytes.now c.number_at.ensures c.number_at-2.ensures c.number_at-3.ensures c.number_at-4.ensures
+    c.bits_at.ensures c.bits_at-2.ensures c.read_map.ensures c.kinds_of.ensures

@@ -1,5 +1,5 @@
 -- `c_state::read_map` meets its contract. Assumes nothing.
-use Prim.Native.Nat.{◌+◌, ◌-◌, ◌*◌, ◌<◌}
+use Prim.Native.Nat.{◌+◌, ◌*◌, ◌<◌}
 use native.Mathlib.Omega.{arith}
 use Rattle.pages.proofs.ByteLaws.{pair_lt}
 use Rattle.c_state.proofs.PieceLaws.{loaded_none, loaded_more, loaded_all}
@@ -17,9 +17,6 @@ overflow_cast-map c =
 
 pub loop-l-preserved : goal.loop-l-preserved
 loop-l-preserved c = loaded_more c.pair_at.result c.loop-l.invariant c.loop-l-test.true c.requires.map_len c.pair_at.ensures
-
-pub shape_of-map : goal.shape_of-map
-shape_of-map c = c.loop-l.invariant.same
 
 pub returns : goal.returns
 returns c = loaded_all c.loop-l.invariant (omega arith) c.requires.map_len

@@ -1,10 +1,6 @@
 -- `c_state::read_map` meets its contract. Assumes nothing.
-use Prim.Native.Nat.{◌-◌}
 use Rattle.c_state.proofs.PieceLaws.{Loaded}
 use Rattle.c_state.proofs.read_map.Given as goal
 
 abbrev pub invariant-loop-l : goal.invariant-loop-l
 invariant-loop-l l = Loaded l.bytes l.initial.map l.map l.l
-
-abbrev pub decreases-loop-l : goal.decreases-loop-l
-decreases-loop-l l = 4096 - l.l

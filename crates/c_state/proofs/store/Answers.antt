@@ -1,20 +1,9 @@
 -- `c_state::store` meets its contract. Assumes nothing.
-use mathlib.Core.Path.{◌≡◌, sym}
+use mathlib.Core.Path.{◌≡◌}
 use lib.ListN.{length}
-use native.Mathlib.Omega.{arith}
 use Rattle.c_state.proofs.PieceLaws.{stored}
 use borrow.Author.Rules.{rules}
 use Rattle.c_state.proofs.store.Goals as goal
-
-pub slice_bounds-write_map-end : goal.slice_bounds-write_map-end
-slice_bounds-write_map-end c =
-    let map_long : length c.args.state.map ≡ 4096 = search rules in
-    sym (map_long)
-
-pub write_map-requires : goal.write_map-requires
-write_map-requires c =
-    let map_long : length c.args.state.map ≡ 4096 = search rules in
-    record { bytes_len = omega arith; map_len = map_long }
 
 pub returns : goal.returns
 returns c =

@@ -1,10 +1,6 @@
 -- `c_state::write_map` meets its contract. Assumes nothing.
-use Prim.Native.Nat.{◌-◌}
 use Rattle.c_state.proofs.PieceLaws.{Stored}
 use Rattle.c_state.proofs.write_map.Given as goal
 
 abbrev pub invariant-loop-l : goal.invariant-loop-l
 invariant-loop-l l = Stored l.initial.bytes l.map l.bytes l.l
-
-abbrev pub decreases-loop-l : goal.decreases-loop-l
-decreases-loop-l l = 4096 - l.l

@@ -1,5 +1,4 @@
 -- `format_erase::erase_all` meets its contract: after each block the round is on its way as RoundLaws tells. Assumes nothing.
-use Prim.Native.Nat.{◌-◌}
 use mathlib.Core.Path.{refl, ◌∙◌}
 use native.Mathlib.Omega.{arith}
 use borrow.Author.Rules.{rules}

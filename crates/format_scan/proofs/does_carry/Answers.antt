@@ -1,16 +1,19 @@
 -- `format_scan::does_carry` meets its contract. Assumes nothing.
-use mathlib.Core.Path.{◌≡◌, sym, ◌∙◌}
+use mathlib.Core.Path.{◌≡◌}
 use native.Mathlib.Omega.{arith}
 use lib.ListN.{length}
-use Rattle.format_scan.proofs.SurveyLaws.{no_table, wrong_pages, marked_listed, own_listed, all_right}
 use borrow.Author.Rules.{rules}
+use Rattle.std.proofs.lemmas.Grind.{common_steps}
+use Rattle.format_scan.specs.Survey.{carries}
 use Rattle.format_scan.proofs.does_carry.Goals as goal
 
-pub returns-then-tables-eq0 : goal.returns-then-tables-eq0
-returns-then-tables-eq0 c = no_table c.args.g c.args.found c.if-tables-eq0.true
+pub returns-then-not-found : goal.returns-then-not-found
+unfolding carries
+returns-then-not-found c = grind (arith, common_steps)
 
 pub returns-then-right-eq0 : goal.returns-then-right-eq0
-returns-then-right-eq0 c = wrong_pages c.args.g c.args.found c.if-tables-eq0.false c.if-right-eq0.true
+unfolding carries
+returns-then-right-eq0 c = grind (arith, common_steps)
 
 pub is_never_both-requires : goal.is_never_both-requires
 is_never_both-requires c =
@@ -18,8 +21,8 @@ is_never_both-requires c =
     let k : length c.args.found.bits ≡ 512 = search rules in record { blocks_bound = omega (arith, h, c.requires.valid.blocks_most); blocks_bound_2 = omega (arith, k, c.requires.valid.blocks_most) }
 
 pub returns-then-not-is_never_both : goal.returns-then-not-is_never_both
-returns-then-not-is_never_both c =
-    marked_listed c.args.g c.args.found c.if-tables-eq0.false c.if-right-eq0.false (sym c.is_never_both.ensures ∙ c.if-not-is_never_both.true)
+unfolding carries
+returns-then-not-is_never_both c = grind (arith, common_steps)
 
 pub is_set-requires : goal.is_set-requires
 is_set-requires c =
@@ -27,9 +30,9 @@ is_set-requires c =
     omega (arith, k, c.requires.table_bound)
 
 pub returns-then-is_set : goal.returns-then-is_set
-returns-then-is_set c =
-    own_listed c.args.g c.args.found c.if-tables-eq0.false c.if-right-eq0.false (sym c.is_never_both.ensures ∙ c.if-not-is_never_both.false) (sym c.is_set.ensures ∙ c.if-is_set.true)
+unfolding carries
+returns-then-is_set c = grind (arith, common_steps)
 
 pub returns : goal.returns
-returns c =
-    all_right c.args.g c.args.found c.if-tables-eq0.false c.if-right-eq0.false (sym c.is_never_both.ensures ∙ c.if-not-is_never_both.false) (sym c.is_set.ensures ∙ c.if-is_set.false)
+unfolding carries
+returns c = grind (arith, common_steps)

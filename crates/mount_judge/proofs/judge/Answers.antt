@@ -1,40 +1,21 @@
 -- `mount_judge::judge` meets its contract. Assumes nothing.
-use mathlib.Core.Path.{◌≡◌, sym, ◌∙◌}
-use native.Mathlib.Omega.{arith}
-use lib.ListN.{length}
-use Rattle.scan_found.specs.Contents.{contents}
-use Rattle.mount_judge.proofs.JudgeLaws.{no_table, wrong_pages, marked_listed, own_listed, clash_found, all_right}
-use borrow.Author.Rules.{rules}
+use Rattle.std.proofs.Common.{arith}
+use Rattle.std.proofs.lemmas.Grind.{common_steps}
+use Rattle.mount_judge.specs.Judging.{judged_by}
 use Rattle.mount_judge.proofs.judge.Goals as goal
 
-pub returns-then-tables-eq0 : goal.returns-then-tables-eq0
-returns-then-tables-eq0 c =
-    no_table c.args.g c.args.found (contents c.args.kinds.now c.args.logicals.now c.args.numbers.now) c.if-tables-eq0.true
+pub returns-then-not-found : goal.returns-then-not-found
+unfolding judged_by
+returns-then-not-found c = grind (arith, common_steps)
 
-pub returns-then-right-ne1 : goal.returns-then-right-ne1
-returns-then-right-ne1 c =
-    wrong_pages c.args.g c.args.found (contents c.args.kinds.now c.args.logicals.now c.args.numbers.now) c.if-tables-eq0.false c.if-right-ne1.true
-
-pub is_never_both-requires : goal.is_never_both-requires
-is_never_both-requires c = let h : length c.args.found.marked ≡ 512 = search rules in
-    let k : length c.args.found.bits ≡ 512 = search rules in record { blocks_bound = omega (arith, h, c.requires.valid.blocks_most); blocks_bound_2 = omega (arith, k, c.requires.valid.blocks_most) }
-
-pub returns-then-not-is_never_both : goal.returns-then-not-is_never_both
-returns-then-not-is_never_both c =
-    marked_listed c.args.g c.args.found (contents c.args.kinds.now c.args.logicals.now c.args.numbers.now) c.if-tables-eq0.false c.if-right-ne1.false (sym c.is_never_both.ensures ∙ c.if-not-is_never_both.true)
-
-pub is_set-requires : goal.is_set-requires
-is_set-requires c = let k : length c.args.found.bits ≡ 512 = search rules in
-    omega (arith, k, c.requires.table_bound)
-
-pub returns-then-is_set : goal.returns-then-is_set
-returns-then-is_set c =
-    own_listed c.args.g c.args.found (contents c.args.kinds.now c.args.logicals.now c.args.numbers.now) c.if-tables-eq0.false c.if-right-ne1.false (sym c.is_never_both.ensures ∙ c.if-not-is_never_both.false) (sym c.is_set.ensures ∙ c.if-is_set.true)
+pub returns-then-found-ne1 : goal.returns-then-found-ne1
+unfolding judged_by
+returns-then-found-ne1 c = grind (arith, common_steps)
 
 pub returns-then-is_clash : goal.returns-then-is_clash
-returns-then-is_clash c =
-    clash_found c.args.g c.args.found (contents c.args.kinds.now c.args.logicals.now c.args.numbers.now) c.if-tables-eq0.false c.if-right-ne1.false (sym c.is_never_both.ensures ∙ c.if-not-is_never_both.false) (sym c.is_set.ensures ∙ c.if-is_set.false) (sym c.is_clash.ensures ∙ c.if-is_clash.true)
+unfolding judged_by
+returns-then-is_clash c = grind (arith, common_steps)
 
 pub returns : goal.returns
-returns c =
-    all_right c.args.g c.args.found (contents c.args.kinds.now c.args.logicals.now c.args.numbers.now) c.if-tables-eq0.false c.if-right-ne1.false (sym c.is_never_both.ensures ∙ c.if-not-is_never_both.false) (sym c.is_set.ensures ∙ c.if-is_set.false) (sym c.is_clash.ensures ∙ c.if-is_clash.false)
+unfolding judged_by
+returns c = grind (arith, common_steps)

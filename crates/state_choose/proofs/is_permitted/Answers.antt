@@ -1,20 +1,13 @@
 -- `state_choose::is_permitted` meets its contract. Assumes nothing.
+use Rattle.std.proofs.Common.{arith}
+use Rattle.std.proofs.lemmas.Grind.{common_steps}
 use Rattle.state_choose.specs.Choose.{permitted}
-use mathlib.Core.Path.{sym, ◌∙◌}
 use Rattle.state_choose.proofs.is_permitted.Goals as goal
 
-pub returns-then-is_set : goal.returns-then-is_set
+pub returns-then-not-is_set-2 : goal.returns-then-not-is_set-2
 unfolding permitted
-returns-then-is_set c = rw (sym c.is_set.ensures ∙ c.if-is_set.true)
+returns-then-not-is_set-2 c = grind (arith, common_steps)
 
-pub returns-then-is_set-2 : goal.returns-then-is_set-2
+pub returns-else-not-is_set-2 : goal.returns-else-not-is_set-2
 unfolding permitted
-returns-then-is_set-2 c = rw (sym c.is_set.ensures ∙ c.if-is_set.false, sym c.is_set-2.ensures ∙ c.if-is_set-2.true)
-
-pub returns-then-is_set-3 : goal.returns-then-is_set-3
-unfolding permitted
-returns-then-is_set-3 c = rw (sym c.is_set.ensures ∙ c.if-is_set.false, sym c.is_set-2.ensures ∙ c.if-is_set-2.false, sym c.is_set-3.ensures ∙ c.if-is_set-3.true)
-
-pub returns : goal.returns
-unfolding permitted
-returns c = rw (sym c.is_set.ensures ∙ c.if-is_set.false, sym c.is_set-2.ensures ∙ c.if-is_set-2.false, sym c.is_set-3.ensures ∙ c.if-is_set-3.false)
+returns-else-not-is_set-2 c = grind (arith, common_steps)

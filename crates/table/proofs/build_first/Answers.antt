@@ -2,20 +2,26 @@
 use borrow.Author.Rules.{rules}
 use native.Mathlib.Omega.{arith}
 use Prim.Native.Nat.{◌+◌, ◌-◌, ◌≤◌}
-use lib.ListN.{length, take}
+use lib.ListN.{length, take, drop}
 use lib.Seq.{length-take-le}
-use mathlib.Core.Path.{sym, ◌∙◌}
-use native.Mathlib.Nat.{sub-zero}
-use Rattle.table.proofs.TableLaws.{built, copied}
+use mathlib.Core.List.{◌++◌}
+use mathlib.Core.Path.{◌≡◌, sym, ◌∙◌}
+use Rattle.table.proofs.TableLaws.{built}
+use Rattle.cells.specs.Part.{put}
+use Rattle.cells.proofs.PartLaws.{put-lent}
 use Rattle.table.proofs.build_first.Goals as goal
 
 pub returns : goal.returns
 returns c =
-    let bits : c.bitmap_bytes-size.result ≤ length c.args.invalid.now = rw c.bitmap_bytes-size.ensures (omega (arith, c.requires.blocks_bound)) in
-    let over-bits = copied 8 (8 + c.bitmap_bytes-size.result - 8) c.bitmap_bytes-size.result (take c.bitmap_bytes-size.result c.args.invalid.now) c.write_pair-4.new.bytes c.copy.new.into (omega arith) (length-take-le c.bitmap_bytes-size.result c.args.invalid.now bits) (c.copy.ensures ∙ rw sub-zero) in
+    let size = c.bitmap_bytes-size.result in
+    let bits = take size c.args.invalid.now in
+    let room : size ≤ length c.args.invalid.now = rw c.bitmap_bytes-size.ensures (omega (arith, c.requires.blocks_bound)) in
+    let before = c.write_pair-4.new.bytes in
+    let over-bits : take 8 before ++ (c.copy_from_slice.new.self ++ drop (8 + size - 8) (drop 8 before)) ≡ put 8 bits before =
+    rw c.copy_from_slice.ensures.after (put-lent 8 (8 + size - 8) bits before (length-take-le size c.args.invalid.now room ∙ omega arith)) in
     let kept = sym c.fill_ones.auto.bytes ∙ (search rules) in
-    built c.args.main.now c.write_pair.new.bytes c.write_pair-2.new.bytes c.write_pair-3.new.bytes c.write_pair-4.new.bytes _ c.fill_ones.new.bytes
-    c.args.invalid.now c.args.blocks c.args.logical c.count_set-count.result c.bitmap_bytes-size.result
-    bits c.bitmap_bytes-size.ensures c.count_set-count.ensures
+    built c.args.main.now c.write_pair.new.bytes c.write_pair-2.new.bytes c.write_pair-3.new.bytes before _ c.fill_ones.new.bytes
+    c.args.invalid.now c.args.blocks c.args.logical c.count_set.result size
+    room c.bitmap_bytes-size.ensures c.count_set.ensures
     c.write_pair.ensures c.write_pair-2.ensures c.write_pair-3.ensures c.write_pair-4.ensures
     over-bits kept c.fill_ones.ensures
