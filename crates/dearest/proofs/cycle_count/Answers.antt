@@ -36,11 +36,7 @@ pub overflow_add-result : goal.overflow_add-result
 overflow_add-result c =
     rw c.page_size.ensures (omega (arith, programs-most c.args.g c.requires.valid))
 
-pub overflow_add-result-2 : goal.overflow_add-result-2
-overflow_add-result-2 c =
-    rw c.page_size.ensures (omega (arith, copies_most c.args.g c.requires.valid c.args.failed c.requires.failed_bound, programs-most c.args.g c.requires.valid))
-
-pub returns : goal.returns
+pub returns-else-failed-eq0 : goal.returns-else-failed-eq0
 unfolding dearest_cycles
-returns c =
+returns-else-failed-eq0 c =
     rw (c.page_size.ensures, ne_eqb c.args.failed 0 c.if-failed-eq0.false)

@@ -12,9 +12,6 @@ pub returns-then-failed-eq0 : goal.returns-then-failed-eq0
 unfolding dearest_length
 returns-then-failed-eq0 c = rw (eq-eqb c.args.failed 0 c.if-failed-eq0.true) (omega arith)
 
-pub overflow_add-result-2 : goal.overflow_add-result-2
-overflow_add-result-2 c = omega (arith, words_most c.args.g c.requires.valid c.args.failed c.requires.failed_bound)
-
-pub returns : goal.returns
+pub returns-else-failed-eq0 : goal.returns-else-failed-eq0
 unfolding dearest_length
-returns c = rw (ne_eqb c.args.failed 0 c.if-failed-eq0.false)
+returns-else-failed-eq0 c = rw (ne_eqb c.args.failed 0 c.if-failed-eq0.false)

@@ -9,10 +9,10 @@ use Rattle.dearest.proofs.write_words.Goals as goal
 
 pub fail_last-requires : goal.fail_last-requires
 fail_last-requires c =
-    let long = ap length c.slow_all.ensures ∙ length-replicate _ _ ∙ c.requires.fates_len in record { each_nonzero = omega (arith, c.requires.valid.pages_least); each_in_bounds = omega (arith, long, words-room c.args.g c.args.failed) }
+    let long = ap length (c.fill.ensures.after (λ y e. e)) ∙ length-replicate _ _ ∙ c.requires.fates_len in record { each_nonzero = omega (arith, c.requires.valid.pages_least); each_in_bounds = omega (arith, long, words-room c.args.g c.args.failed) }
 
 pub returns : goal.returns
 unfolding dearest_fates
 returns c =
     c.fail_last.ensures
-    ∙ ap (failing_to (copy_operations c.args.g) c.args.failed) (c.slow_all.ensures ∙ ap (λ (n : ℕ). replicate n slow_word) c.requires.fates_len)
+    ∙ ap (failing_to (copy_operations c.args.g) c.args.failed) (c.fill.ensures.after (λ y e. e) ∙ ap (λ (n : ℕ). replicate n slow_word) c.requires.fates_len)
