@@ -1,7 +1,8 @@
 // A test load that can be repeated: draws from a 32-bit seed, and the requests that they make.
 #![tactic(auto)]
 
-ghost use Rattle.std.specs.Prelude.{◌≡◌, ◌<◌};
+ghost use Rattle.std.specs.Prelude.{◌≡◌, ◌<◌, true};
+ghost use Rattle.geometry.specs.Limits.{page_count};
 ghost use Rattle.test_load.specs.Draws.{drawn};
 ghost use Rattle.test_load.specs.Requests.{request_from};
 
@@ -36,7 +37,7 @@ pub fn draw(last: u32) -> u32
 #[tactic(auto, unfolding(crate::specs::Requests::request_from))]
 pub fn choose(last: u32, logical: usize, pages: usize) -> Chosen
     requires logical_nonzero { 0 < logical }
-    requires pages_nonzero { 0 < pages }
+    requires pages_value { page_count pages ≡ true }
     ensures { result ≡ request_from last logical pages }
 {
     let kind = draw(last);
@@ -49,7 +50,8 @@ pub fn choose(last: u32, logical: usize, pages: usize) -> Chosen
         };
     }
     let third = draw(place);
-    let page = third as usize % pages;
+    // A mask is faster than the remainder by a power of two that the code does not know.
+    let page = third as usize & (pages - 1);
     let byte = (third >> 24) as u8;
     let request = if kind % 8 < 4 {
         Request::Read(block, page)
