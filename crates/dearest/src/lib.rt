@@ -37,33 +37,49 @@ const SLOW: u32 = 255;
 
 const FAIL: u32 = 65791;
 
-// How many words there are.
-fn word_count(g: Geometry, failed: usize) -> usize
-    requires valid { Valid g }
-    requires failed_bound { failed ≤ g.blocks - 3 }
-    ensures { result ≡ dearest_length g failed }
-{
-    let copies = (failed + 1) * (2 * g.pages);
-    if failed == 0 {
-        copies
-    } else {
-        copies + (1 + g.pages)
-    }
+// A geometry within the limits, and so many failed fills as its permitted blocks can bear.
+#[derive(Clone, Copy)]
+struct Bearable {
+    g: Geometry,
+    failed: usize,
+    ghost within: { Valid g },
+    ghost few: { failed ≤ g.blocks - 3 },
 }
 
-// How many cycles the write sends.
-fn cycle_count(g: Geometry, failed: usize) -> usize
-    requires valid { Valid g }
-    requires failed_bound { failed ≤ g.blocks - 3 }
-    ensures { result ≡ dearest_cycles g failed }
-{
-    let reads = (g.pages - 1) * (265 + g.main);
-    let programs = g.pages * (264 + geometry::page_size(g));
-    let copies = 2 + (failed + 1) * (262 + (reads + programs));
-    if failed == 0 {
-        copies
-    } else {
-        copies + (262 + programs)
+impl Bearable {
+    // How many words there are.
+    fn word_count(self) -> usize
+        ensures { result ≡ dearest_length self.g self.failed }
+    {
+        let copies = (self.failed + 1) * (2 * self.g.pages);
+        if self.failed == 0 {
+            copies
+        } else {
+            copies + (1 + self.g.pages)
+        }
+    }
+
+    // How many cycles the write sends.
+    fn cycle_count(self) -> usize
+        ensures { result ≡ dearest_cycles self.g self.failed }
+    {
+        let reads = (self.g.pages - 1) * (265 + self.g.main);
+        let programs = self.g.pages * (264 + geometry::page_size(self.g));
+        let copies = 2 + (self.failed + 1) * (262 + (reads + programs));
+        if self.failed == 0 {
+            copies
+        } else {
+            copies + (262 + programs)
+        }
+    }
+
+    // The words of the write.
+    fn write_words(self, fates: &mut [u32])
+        requires { length fates.old ≡ dearest_length self.g self.failed }
+        ensures { fates.new ≡ dearest_fates self.g self.failed }
+    {
+        fates.fill(SLOW);
+        fail_last(fates, 2 * self.g.pages, self.failed);
     }
 }
 
@@ -78,17 +94,6 @@ fn fail_last(fates: &mut [u32], each: usize, failed: usize)
     }
 }
 
-// The words of the write.
-fn write_words(g: Geometry, failed: usize, fates: &mut [u32])
-    requires valid { Valid g }
-    requires failed_bound { failed ≤ g.blocks - 3 }
-    requires fates_len { length fates.old ≡ dearest_length g failed }
-    ensures { fates.new ≡ dearest_fates g failed }
-{
-    fates.fill(SLOW);
-    fail_last(fates, 2 * g.pages, failed);
-}
-
 // The dearest write with so many failed fills: its cycles; its words go into the slice.
 pub fn dearest_write(g: Geometry, failed: usize, fates: &mut [u32]) -> Result<usize, Refusal>
     ensures { told_by result fates.new ≡ dearest_told g failed fates.old }
@@ -99,9 +104,10 @@ pub fn dearest_write(g: Geometry, failed: usize, fates: &mut [u32]) -> Result<us
     if g.blocks - 3 < failed {
         return Err(Refusal::TooManyFailures);
     }
-    if fates.len() != word_count(g, failed) {
+    let bearable = Bearable { g, failed };
+    if fates.len() != bearable.word_count() {
         return Err(Refusal::WrongLength);
     }
-    write_words(g, failed, fates);
-    Ok(cycle_count(g, failed))
+    bearable.write_words(fates);
+    Ok(bearable.cycle_count())
 }
