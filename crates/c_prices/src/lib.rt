@@ -14,9 +14,16 @@ pub fn check(first: &[u8], last: &[u8], price: &[u32], fault: &mut [usize]) -> u
     if fault.len() != 1 {
         return BAD_BUFFER;
     }
-    let checked = price_rules::check(first, last, price);
-    fault[0] = checked.fault;
-    checked.answer
+    match price_rules::check(first, last, price) {
+        Ok(()) => {
+            fault[0] = 0;
+            0
+        }
+        Err(refusal) => {
+            fault[0] = refusal.selection();
+            refusal.number()
+        }
+    }
 }
 
 // Writes the price of a selection, in a table that the check accepts.
@@ -32,7 +39,14 @@ pub fn price_of(
     if found.len() != 1 {
         return BAD_BUFFER;
     }
-    let priced = price_rules::price_of(first, last, price, selection);
-    found[0] = priced.price;
-    priced.answer
+    match price_rules::price_of(first, last, price, selection) {
+        Ok(price) => {
+            found[0] = price;
+            0
+        }
+        Err(refusal) => {
+            found[0] = 0;
+            refusal.number()
+        }
+    }
 }

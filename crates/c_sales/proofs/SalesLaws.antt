@@ -6,18 +6,10 @@ use native.Mathlib.Omega.{arith}
 use borrow.Author.Tests.{eq-eqb, ne_eqb}
 use lib.IntN.{ℤ}
 use lib.ListN.{length, set}
-use Rattle.reconcile.specs.Totals.{reconciled}
-use Rattle.reconcile.specs.declared.Reconciled.{Reconciled}
+use Rattle.reconcile.specs.Totals.{Reconciled, reconciled}
 use Rattle.c_sales.specs.Sales.{sales_handed, sales_out, reconciling_lent}
 
--- every element stored
-three-stored : (xs : List ℕ) (a b c : ℕ) → length xs ≡ 3 → set (set (set xs 0 a) 1 b) 2 c ≡ a ∷ b ∷ c ∷ []
-three-stored [] a b c e = absurd (omega arith)
-three-stored (x ∷ []) a b c e = absurd (omega arith)
-three-stored (x ∷ (y ∷ [])) a b c e = absurd (omega arith)
-three-stored (x ∷ (y ∷ (z ∷ []))) a b c e = refl
-three-stored (x ∷ (y ∷ (z ∷ (w ∷ rest)))) a b c e = absurd (omega arith)
-
+-- an element stored
 one_stored : (ys : List ℤ) (d : ℤ) → length ys ≡ 1 → set ys 0 d ≡ d ∷ []
 one_stored [] d e = absurd (omega arith)
 one_stored (y ∷ []) d e = refl
@@ -33,8 +25,8 @@ module _ (bn ba mn ma totals : List ℕ) (difference : List ℤ) where
   difference_refused e f = rw (eq-eqb (length totals) 3 e, ne_eqb (length difference) 1 f)
 
   pub sales_stored : length totals ≡ 3 → length difference ≡ 1 → (r : Reconciled) → r ≡ reconciled bn ba mn ma
-      → sales_handed r.answer (set (set (set totals 0 r.agreed) 1 r.only_box) 2 r.only_mechanism) (set difference 0 r.difference) ≡ reconciling_lent bn ba mn ma totals difference
+      → sales_handed r.answer (r.agreed ∷ r.only_box ∷ r.only_mechanism ∷ []) (set difference 0 r.difference) ≡ reconciling_lent bn ba mn ma totals difference
   unfolding reconciling_lent
   sales_stored e f r q =
-      rw (eq-eqb (length totals) 3 e, eq-eqb (length difference) 1 f, three-stored totals r.agreed r.only_box r.only_mechanism e, one_stored difference r.difference f)
+      rw (eq-eqb (length totals) 3 e, eq-eqb (length difference) 1 f, one_stored difference r.difference f)
       (ap sales_out q)

@@ -1,7 +1,6 @@
 -- The box's sales against the coin mechanism's as a program in C asks for them: lists in, an answer, three totals and a difference out.
 use Rattle.std.specs.Prelude.{ℕ, cond, List, [], ◌∷◌, eqb, ℤ, length}
-use Rattle.reconcile.specs.Totals.{reconciled}
-use Rattle.reconcile.specs.declared.Reconciled.{Reconciled}
+use Rattle.reconcile.specs.Totals.{Reconciled, reconciled}
 
 -- the answer, and the two lent buffers as they are left
 pub record SalesHanded : Type 0 where

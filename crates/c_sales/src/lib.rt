@@ -18,22 +18,25 @@ pub fn reconcile(
 ) -> usize
     ensures { sales_handed result totals.new difference.new ≡ reconciling_lent box_numbers.now box_amounts.now mechanism_numbers.now mechanism_amounts.now totals.old difference.old }
 {
-    if totals.len() != 3 {
+    if totals.len() != 3 || difference.len() != 1 {
         return BAD_BUFFER;
     }
-    if difference.len() != 1 {
-        return BAD_BUFFER;
-    }
-    let r = reconcile::reconcile(
+    let reconciled = reconcile::reconcile(
         box_numbers,
         box_amounts,
         mechanism_numbers,
         mechanism_amounts,
     );
-    let signed = r.difference;
-    totals[0] = r.agreed;
-    totals[1] = r.only_box;
-    totals[2] = r.only_mechanism;
-    difference[0] = signed;
-    r.answer
+    match reconciled {
+        Ok(r) => {
+            totals.copy_from_slice(&[r.agreed, r.only_box, r.only_mechanism]);
+            difference[0] = r.difference;
+            0
+        }
+        Err(refused) => {
+            totals.fill(0);
+            difference[0] = 0;
+            refused.number()
+        }
+    }
 }

@@ -1,10 +1,11 @@
 -- The dearest page write over an old copy that is acknowledged after so many failed fills: its fate words, its cycles, and the call that
 -- tells them.
-use Rattle.std.specs.Prelude.{ℕ, zero, suc, ◌+◌, ◌-◌, ◌*◌, cond, List, eqb, leb, length, set, replicate}
+use Rattle.std.specs.Prelude.{ℕ, zero, suc, ◌+◌, ◌-◌, ◌*◌, cond, List, eqb, leb, length, set, replicate, Result, Ok, Err}
 use Rattle.geometry.specs.declared.Geometry.{Geometry}
 use Rattle.geometry.specs.Limits.{valid}
 use Rattle.geometry.specs.Sizes.{page_size}
-use Rattle.dearest.specs.declared.Dearest.{Dearest}
+use Rattle.dearest.specs.declared.Refusal.{Refusal}
+use Rattle.dearest.specs.declared.Refusal.TheVariants.{InvalidGeometry, TooManyFailures, WrongLength}
 
 -- busy as often as an operation can be and still be heard; and with bit 16, which says fail
 abbrev pub slow_word : ℕ
@@ -54,8 +55,16 @@ pub record Told : Type 0 where
 abbrev pub told : ℕ → ℕ → List ℕ → Told
 told answer cycles fates = record { answer = answer; cycles = cycles; fates = fates }
 
-abbrev pub told_by : Dearest → List ℕ → Told
-told_by r fates = told r.answer r.cycles fates
+-- the paper's number of a refusal
+abbrev pub number_of : Refusal → ℕ
+number_of InvalidGeometry = 1
+number_of TooManyFailures = 2
+number_of WrongLength = 3
+
+-- 0 and the cycles, or the refusal's number and 0
+abbrev pub told_by : Result ℕ Refusal → List ℕ → Told
+told_by (Ok cycles) fates = told 0 cycles fates
+told_by (Err r) fates = told (number_of r) 0 fates
 
 -- 1 for a geometry that the limits refuse, 2 for more failed fills than the permitted blocks can bear, 3 for another length of the slice
 unfoldable pub dearest_told : Geometry → ℕ → List ℕ → Told

@@ -2,17 +2,34 @@
 // failed fills, and those cycles.
 #![tactic(auto)]
 
-ghost use Rattle.std.specs.Prelude.{◌≡◌, ◌-◌, ◌*◌, ◌<◌, ◌≤◌, length, replicate};
+ghost use Rattle.std.specs.Prelude.{◌≡◌, ◌-◌, ◌*◌, ◌<◌, ◌≤◌, length};
 ghost use Rattle.geometry.specs.Limits.{Valid};
-ghost use Rattle.dearest.specs.Dearest.{slow_word, fail_word, dearest_length, failing_to, dearest_fates, dearest_cycles, told_by, dearest_told};
+ghost use Rattle.dearest.specs.Dearest.{dearest_length, failing_to, dearest_fates, dearest_cycles, number_of, told_by, dearest_told};
 
 use geometry::Geometry;
 
-// The answer, and the cycles: 0 with a refusal.
-#[derive(Clone, Copy)]
-pub struct Dearest {
-    pub answer: usize,
-    pub cycles: usize,
+// Why no words are told.
+#[derive(Clone, Copy, Debug, PartialEq, Eq)]
+pub enum Refusal {
+    // The limits refuse the geometry.
+    InvalidGeometry,
+    // More failed fills than the permitted blocks can bear.
+    TooManyFailures,
+    // The slice has not as many words as there are.
+    WrongLength,
+}
+
+impl Refusal {
+    // The paper's number.
+    pub fn number(self) -> usize
+        ensures { result ≡ number_of self }
+    {
+        match self {
+            Refusal::InvalidGeometry => 1,
+            Refusal::TooManyFailures => 2,
+            Refusal::WrongLength => 3,
+        }
+    }
 }
 
 // Busy as often as an operation can be and still be heard; the second fails besides.
@@ -20,43 +37,49 @@ const SLOW: u32 = 255;
 
 const FAIL: u32 = 65791;
 
-// How many words there are.
-fn word_count(g: Geometry, failed: usize) -> usize
-    requires valid { Valid g }
-    requires failed_bound { failed ≤ g.blocks - 3 }
-    ensures { result ≡ dearest_length g failed }
-{
-    let copies = (failed + 1) * (2 * g.pages);
-    if failed == 0 {
-        return copies;
-    }
-    copies + (1 + g.pages)
+// A geometry within the limits, and so many failed fills as its permitted blocks can bear.
+#[derive(Clone, Copy)]
+struct Bearable {
+    g: Geometry,
+    failed: usize,
+    ghost within: { Valid g },
+    ghost few: { failed ≤ g.blocks - 3 },
 }
 
-// How many cycles the write sends.
-fn cycle_count(g: Geometry, failed: usize) -> usize
-    requires valid { Valid g }
-    requires failed_bound { failed ≤ g.blocks - 3 }
-    ensures { result ≡ dearest_cycles g failed }
-{
-    let pages = g.pages;
-    let reads = (pages - 1) * (265 + g.main);
-    let programs = pages * (264 + geometry::page_size(g));
-    let copies = 2 + (failed + 1) * (262 + (reads + programs));
-    if failed == 0 {
-        return copies;
+impl Bearable {
+    // How many words there are.
+    fn word_count(self) -> usize
+        ensures { result ≡ dearest_length self.g self.failed }
+    {
+        let copies = (self.failed + 1) * (2 * self.g.pages);
+        if self.failed == 0 {
+            copies
+        } else {
+            copies + (1 + self.g.pages)
+        }
     }
-    copies + (262 + programs)
-}
 
-// Every word slow.
-fn slow_all(fates: &mut [u32])
-    ensures { fates.new ≡ replicate (length fates.old) slow_word }
-{
-    let mut i = 0;
-    while i < fates.len() {
-        fates[i] = SLOW;
-        i += 1;
+    // How many cycles the write sends.
+    fn cycle_count(self) -> usize
+        ensures { result ≡ dearest_cycles self.g self.failed }
+    {
+        let reads = (self.g.pages - 1) * (265 + self.g.main);
+        let programs = self.g.pages * (264 + geometry::page_size(self.g));
+        let copies = 2 + (self.failed + 1) * (262 + (reads + programs));
+        if self.failed == 0 {
+            copies
+        } else {
+            copies + (262 + programs)
+        }
+    }
+
+    // The words of the write.
+    fn write_words(self, fates: &mut [u32])
+        requires { length fates.old ≡ dearest_length self.g self.failed }
+        ensures { fates.new ≡ dearest_fates self.g self.failed }
+    {
+        fates.fill(SLOW);
+        fail_last(fates, 2 * self.g.pages, self.failed);
     }
 }
 
@@ -66,49 +89,25 @@ fn fail_last(fates: &mut [u32], each: usize, failed: usize)
     requires each_in_bounds { failed * each ≤ length fates.old }
     ensures { fates.new ≡ failing_to each failed fates.old }
 {
-    let mut n = 0;
-    while n < failed {
+    for n in 0..failed {
         fates[n * each + (each - 1)] = FAIL;
-        n += 1;
     }
 }
 
-// The words of the write.
-fn write_words(g: Geometry, failed: usize, fates: &mut [u32])
-    requires valid { Valid g }
-    requires failed_bound { failed ≤ g.blocks - 3 }
-    requires fates_len { length fates.old ≡ dearest_length g failed }
-    ensures { fates.new ≡ dearest_fates g failed }
-{
-    slow_all(fates);
-    fail_last(fates, 2 * g.pages, failed);
-}
-
-// The dearest write with so many failed fills; its words go into the slice.
-pub fn dearest_write(g: Geometry, failed: usize, fates: &mut [u32]) -> Dearest
+// The dearest write with so many failed fills: its cycles; its words go into the slice.
+pub fn dearest_write(g: Geometry, failed: usize, fates: &mut [u32]) -> Result<usize, Refusal>
     ensures { told_by result fates.new ≡ dearest_told g failed fates.old }
 {
     if !geometry::is_valid(g) {
-        return Dearest {
-            answer: 1,
-            cycles: 0,
-        };
+        return Err(Refusal::InvalidGeometry);
     }
     if g.blocks - 3 < failed {
-        return Dearest {
-            answer: 2,
-            cycles: 0,
-        };
+        return Err(Refusal::TooManyFailures);
     }
-    if fates.len() != word_count(g, failed) {
-        return Dearest {
-            answer: 3,
-            cycles: 0,
-        };
+    let bearable = Bearable { g, failed };
+    if fates.len() != bearable.word_count() {
+        return Err(Refusal::WrongLength);
     }
-    write_words(g, failed, fates);
-    Dearest {
-        answer: 0,
-        cycles: cycle_count(g, failed),
-    }
+    bearable.write_words(fates);
+    Ok(bearable.cycle_count())
 }

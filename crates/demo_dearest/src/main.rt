@@ -34,12 +34,11 @@ fn ask(
     words: &mut [u32],
 ) -> io::Result<()> {
     let told = dearest::dearest_write(small(blocks), failed, words);
-    println!(rt;
-        "{label} {failed} {} {} {}",
-        told.answer,
-        words.len(),
-        told.cycles
-    )?;
+    let count = words.len();
+    match told {
+        Ok(cycles) => println!(rt; "{label} {failed} 0 {count} {cycles}")?,
+        Err(refusal) => println!(rt; "{label} {failed} {} {count} 0", refusal.number())?,
+    }
     print_words(rt, words)
 }
 
@@ -58,10 +57,10 @@ fn write_over(rt: &impl Print, words: &[u32], page: usize) -> io::Result<()> {
 }
 
 fn write_pages(rt: &impl Print, words: &[u32]) -> io::Result<()> {
-    write_over(rt, words, 0)?;
-    write_over(rt, words, 1)?;
-    write_over(rt, words, 2)?;
-    write_over(rt, words, 3)
+    for page in 0..4 {
+        write_over(rt, words, page)?;
+    }
+    Ok(())
 }
 
 fn show_none(rt: &impl Print) -> io::Result<()> {

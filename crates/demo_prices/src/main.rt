@@ -10,8 +10,10 @@ fn show_check(
     last: &[u8],
     price: &[u32],
 ) -> io::Result<()> {
-    let checked = price_rules::check(first, last, price);
-    println!(rt; "{label} {} {}", checked.answer, checked.fault)
+    match price_rules::check(first, last, price) {
+        Ok(()) => println!(rt; "{label} 0 0"),
+        Err(refusal) => println!(rt; "{label} {} {}", refusal.number(), refusal.selection()),
+    }
 }
 
 fn show_price(
@@ -22,8 +24,10 @@ fn show_price(
     price: &[u32],
     selection: usize,
 ) -> io::Result<()> {
-    let priced = price_rules::price_of(first, last, price, selection);
-    println!(rt; "{label} {} {}", priced.answer, priced.price)
+    match price_rules::price_of(first, last, price, selection) {
+        Ok(price) => println!(rt; "{label} 0 {price}"),
+        Err(refusal) => println!(rt; "{label} {} 0", refusal.number()),
+    }
 }
 
 // Tables of one, two and three rules: the first and last selection of each.
@@ -149,8 +153,8 @@ fn show_shape_prices(rt: &impl Print) -> io::Result<()> {
 // The selections from 1 to 99.
 fn one_each() -> [u8; 99] {
     let mut each = [0u8; 99];
-    for s in 0..99u8 {
-        each[s as usize] = s + 1;
+    for (place, s) in each.iter_mut().zip(1..=99u8) {
+        *place = s;
     }
     each
 }

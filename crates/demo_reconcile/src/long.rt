@@ -4,8 +4,8 @@ use std::io;
 
 // Numbers from 0 on.
 fn fill_rising(numbers: &mut [u32]) {
-    for (i, number) in numbers.iter_mut().enumerate() {
-        *number = (i % 65536) as u32;
+    for (number, n) in numbers.iter_mut().zip(0..) {
+        *number = n;
     }
 }
 

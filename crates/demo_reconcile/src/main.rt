@@ -14,16 +14,19 @@ pub(crate) fn show(
     mechanism_numbers: &[u32],
     mechanism_amounts: &[u32],
 ) -> io::Result<()> {
-    let r = reconcile::reconcile(
+    let reconciled = reconcile::reconcile(
         box_numbers,
         box_amounts,
         mechanism_numbers,
         mechanism_amounts,
     );
-    println!(rt;
-        "{label} {} {} {} {} {}",
-        r.answer, r.agreed, r.only_box, r.only_mechanism, r.difference
-    )
+    match reconciled {
+        Ok(r) => println!(rt;
+            "{label} 0 {} {} {} {}",
+            r.agreed, r.only_box, r.only_mechanism, r.difference
+        ),
+        Err(refused) => println!(rt; "{label} {} 0 0 0 0", refused.number()),
+    }
 }
 
 // The same sales, and none of the other's.

@@ -30,7 +30,14 @@ pub extern "C" fn flash_store_dearest_write(
         blocks,
         logical,
     };
-    let told = dearest::dearest_write(g, failed, words);
-    cycles[0] = told.cycles;
-    told.answer
+    match dearest::dearest_write(g, failed, words) {
+        Ok(sent) => {
+            cycles[0] = sent;
+            0
+        }
+        Err(refusal) => {
+            cycles[0] = 0;
+            refusal.number()
+        }
+    }
 }

@@ -10,9 +10,8 @@ use borrow.Author.Tests.{eq-eqb, le-leb, ltb-true, ltb-false}
 use lib.Dec.{ltb}
 use lib.ListN.{length, get_or}
 use Rattle.bools.proofs.BoolLaws.{clash}
-use Rattle.price_rules.specs.declared.Checked.{Checked}
 use Rattle.price_rules.specs.Rules.{selectable, wrong, fault_of}
-use Rattle.price_rules.specs.Faults.{refusal_at, found, fault_from, shaped, checking}
+use Rattle.price_rules.specs.Faults.{Checked, refusal_at, found, fault_from, shaped, checking}
 use Rattle.price_rules.specs.Meaning.{Shaped, Right, Clear, Smallest, Sound, Uncovered, Disputed}
 use Rattle.price_rules.proofs.FaultLaws.{shaped_facts, checked_shaped, checked_unshaped}
 use Rattle.price_rules.proofs.CountLaws.{selectable_so, right_so, right_not, one_not_two, gap_not_one}

@@ -2,16 +2,19 @@
 use Prim.Native.Nat.{ℕ, suc, ◌+◌, ◌-◌, ◌≤◌}
 use mathlib.Core.Bool.{true, false}
 use mathlib.Core.List.{List}
-use mathlib.Core.Path.{◌≡◌, sym, ◌∙◌}
+use mathlib.Core.Path.{◌≡◌, sym, ap, ◌∙◌}
 use native.Mathlib.Omega.{arith}
 use borrow.Table.Steps.{cases}
-use borrow.Author.Tests.{eq-eqb, ne_eqb, eqb-true, leb-true}
+use borrow.Author.Tests.{eq-eqb, ne_eqb, eqb-true, eqb-false, leb-true}
 use lib.Dec.{eqb, leb}
 use lib.ListN.{length}
 use Rattle.bools.proofs.BoolLaws.{both}
 use Rattle.price_rules.specs.Rules.{selectable, price_among}
 use Rattle.price_rules.specs.Meaning.{Shaped}
-use Rattle.price_rules.specs.Faults.{refusal_at, found, fault_from, shaped, checking, sold, pricing}
+use Rattle.price_rules.specs.Told.{number_of, refused}
+use Rattle.price_rules.specs.declared.Refusal.{Refusal}
+use Rattle.price_rules.specs.declared.Refusal.TheVariants.{OutOfRange, Uncovered, Disputed}
+use Rattle.price_rules.specs.Faults.{Checked, refusal_at, found, fault_from, shaped, checking, sold, pricing}
 
 -- the search from s up to 99
 module _ (first last : List ℕ) (s : ℕ) where
@@ -32,6 +35,28 @@ module _ (first last : List ℕ) (s : ℕ) where
   fault_over h =
       let e : 100 - s ≡ 0 = omega arith in
       rw e
+
+-- no refusal has the number 0
+number_some : (r : Refusal) → number_of r ≡ 0 → ⊥
+number_some OutOfRange e = omega arith
+number_some (Uncovered s) e = omega arith
+number_some (Disputed s) e = omega arith
+
+-- what the search of s alone says of the search from s up to 99
+module _ (first last : List ℕ) (s : ℕ) where
+  pub none_at : found 0 0 ≡ fault_from first last s 1 → refusal_at first last s ≡ 0
+  unfolding fault_from
+  none_at h =
+      cases (eqb (refusal_at first last s) 0)
+      (λ t. eqb-true (refusal_at first last s) 0 t)
+      (λ t. sym (ap (λ (c : Checked). c.answer) (rw t at h)))
+
+  pub fault_at : (r : Refusal) → s ≤ 99 → refused r ≡ fault_from first last s 1 → refused r ≡ fault_from first last s (100 - s)
+  unfolding fault_from
+  fault_at r l h =
+      cases (eqb (refusal_at first last s) 0)
+      (λ t. absurd (number_some r (ap (λ (c : Checked). c.answer) (rw t at h))))
+      (λ t. rw t at h ∙ fault_here first last s l (eqb-false (refusal_at first last s) 0 t))
 
 pub shaped_facts : (firsts lasts prices : ℕ) → shaped firsts lasts prices ≡ true → Shaped firsts lasts prices
 unfolding shaped
@@ -72,3 +97,9 @@ module _ (first last price : List ℕ) where
     pub price_found : selectable s ≡ true → (checking first last price).answer ≡ 0 → sold 0 (price_among first last price s (length first)) ≡ pricing first last price s
     unfolding pricing
     price_found h k = rw (h, eq-eqb (checking first last price).answer 0 k)
+
+    -- the same of what the check returns
+    pub price_refused_by : selectable s ≡ true → (r : Refusal) → refused r ≡ checking first last price → sold (number_of r) 0 ≡ pricing first last price s
+    price_refused_by h r e =
+        let told : number_of r ≡ (checking first last price).answer = ap (λ (c : Checked). c.answer) e in
+        ap (λ (k : ℕ). sold k 0) told ∙ price_refused h (λ z. number_some r (told ∙ z))

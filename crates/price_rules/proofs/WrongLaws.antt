@@ -9,9 +9,8 @@ use borrow.Author.Tests.{eqb-true, eqb-false}
 use lib.Dec.{eqb, leb}
 use lib.ListN.{length, get_or}
 use Rattle.bools.proofs.BoolLaws.{clash}
-use Rattle.price_rules.specs.declared.Checked.{Checked}
 use Rattle.price_rules.specs.Rules.{selectable, within, wrong, fault_of, falls, covering, any_faulted}
-use Rattle.price_rules.specs.Faults.{refusal_at, found, fault_from}
+use Rattle.price_rules.specs.Faults.{Checked, refusal_at, found, fault_from}
 use Rattle.price_rules.proofs.RuleLaws.{wrong_here, any_at, refused_wrong}
 use Rattle.price_rules.proofs.CountLaws.{within_so}
 use Rattle.price_rules.proofs.CheckLaws.{fault_in}

@@ -1,8 +1,16 @@
 -- What the check of a table of price rules answers, and the price of a selection.
 use Rattle.std.specs.Prelude.{ℕ, zero, suc, ◌+◌, Bool, true, false, cond, List, eqb, leb, length}
 use Rattle.price_rules.specs.Rules.{selectable, covering, any_faulted, price_among}
-use Rattle.price_rules.specs.declared.Checked.{Checked}
-use Rattle.price_rules.specs.declared.Priced.{Priced}
+
+-- what the check of a table answers, and the smallest selection at fault, or 0
+pub record Checked : Type 0 where
+  pub answer : ℕ
+  pub fault : ℕ
+
+-- what a request for a price answers, and the price, or 0
+pub record Priced : Type 0 where
+  pub answer : ℕ
+  pub price : ℕ
 
 -- no rule covers s
 abbrev pub uncovered : List ℕ → List ℕ → ℕ → Bool

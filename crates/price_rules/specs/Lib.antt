@@ -1,3 +1,4 @@
 pub mod Rules
 pub mod Faults
+pub mod Told
 pub mod Meaning

@@ -7,19 +7,18 @@ use mathlib.Core.Path.{◌≡◌, refl, sym, ap, ◌∙◌}
 use native.Mathlib.Omega.{arith}
 use borrow.Table.Steps.{cases}
 use borrow.Author.Count.{below_more}
-use borrow.Author.Tests.{ltb-true, ltb-false, lt-ltb, le-ltb}
+use borrow.Author.Tests.{ltb-true, ltb-false, lt-ltb, le-ltb, eq-eqb, ne_eqb}
 use lib.Dec.{ltb}
 use lib.IntN.{ℤ, pos, sub_ℕ, nat_abs, ◌+ℤ◌, +ℤ_idr}
 use lib.ListN.{length, get_or, take}
 use lib.Seq.{take_all, length-take-le}
-use mir.Syntax.{w64}
-use mir.Val.{SFits}
-use Rattle.reconcile.specs.Sales.{Sale, sales, rises, amount_of}
+use mir.Syntax.{w32, w64}
+use mir.Val.{Fits, SFits}
+use Rattle.reconcile.specs.Sales.{Sale, sales, rises, accepted, amount_of}
 use Rattle.reconcile.specs.Next.{number_at}
-use Rattle.reconcile.specs.Totals.{if_agreed, if_missing, if_both, sum_over, agreed, only_in, difference, totals}
-use Rattle.reconcile.specs.declared.Reconciled.{Reconciled}
+use Rattle.reconcile.specs.Totals.{Reconciled, if_agreed, if_missing, if_both, sum_over, agreed, only_in, difference, totals}
 use Rattle.reconcile.proofs.SignedLaws.{mag_abs}
-use Rattle.reconcile.proofs.SaleLaws.{Accepted, rises-all, amount_none, amount_at}
+use Rattle.reconcile.proofs.SaleLaws.{Accepted, accepted_parts, rises-all, amount_none, amount_at}
 use Rattle.reconcile.proofs.SumLaws.{sales-length, sum_next, difference_next, Small, sales-small, take-small, sum_bound, difference_bound}
 
 -- entries of 32 bits
@@ -240,3 +239,33 @@ module _ (bn ba mn ma : List ℕ) (box : Accepted bn ba) (mechanism : Accepted m
 
         all_mechanism : take j (sales mn ma) ≡ sales mn ma
         all_mechanism = take_all j (sales mn ma) (omega (arith, over, r.box_in, sales-length mn ma mechanism.paired))
+
+-- what is known of both lists: they are accepted, and their entries have 32 bits
+pub record Lists (bn ba mn ma : List ℕ) : Type 0 where
+  pub box : Accepted bn ba
+  pub mechanism : Accepted mn ma
+  pub narrow_box : Narrow bn
+  pub narrow_mechanism : Narrow mn
+  pub narrow_paid : Narrow ba
+  pub narrow_counted : Narrow ma
+
+abbrev Held : List ℕ → Type 0
+Held entries = (k : ℕ) → Fits w32 (get_or entries k 0)
+
+pub lists_of : (bn ba mn ma : List ℕ) → accepted bn ba ≡ true → accepted mn ma ≡ true → Held bn → Held mn → Held ba → Held ma → Lists bn ba mn ma
+lists_of bn ba mn ma t u f g h k =
+    record {
+      box = accepted_parts bn ba t;
+      mechanism = accepted_parts mn ma u;
+      narrow_box = λ i. (f i).fits;
+      narrow_mechanism = λ i. (g i).fits;
+      narrow_paid = λ i. (h i).fits;
+      narrow_counted = λ i. (k i).fits;
+    }
+
+-- an amount that both lists have is agreed if it is the same
+pub agreed_same : (a b : ℕ) → a ≡ b → if_agreed (some b) a ≡ a
+agreed_same a b h = rw (eq-eqb a b h)
+
+pub agreed_other : (a b : ℕ) → (a ≡ b → ⊥) → if_agreed (some b) a ≡ 0
+agreed_other a b h = rw (ne_eqb a b h)

@@ -9,9 +9,8 @@ use borrow.Table.Steps.{cases}
 use lib.IntN.{sub_ℕ, nat_abs, ◌+ℤ◌}
 use lib.ListN.{length, get_or}
 use Rattle.reconcile.specs.Sales.{sales, accepted}
-use Rattle.reconcile.specs.Totals.{if_agreed, if_missing, totals, refused, reconciled}
+use Rattle.reconcile.specs.Totals.{Reconciled, if_agreed, if_missing, totals, refused, reconciled}
 use Rattle.reconcile.specs.Balance.{sum}
-use Rattle.reconcile.specs.declared.Reconciled.{Reconciled}
 use Rattle.reconcile.proofs.SaleLaws.{Accepted, accepted_parts, parts_accepted, rises-all, all-rises}
 use Rattle.reconcile.proofs.SumLaws.{sales-length, sales-small, sum_bound, difference_bound, agreed-at-most, missing_at-most}
 use Rattle.reconcile.proofs.PassLaws.{Narrow}

@@ -8,10 +8,10 @@ use mathlib.Core.Path.{◌≡◌, refl, sym, ap, ◌∙◌}
 use native.Mathlib.Numerals.{add-one}
 use native.Mathlib.Omega.{arith}
 use borrow.Table.Steps.{cases}
-use borrow.Author.Tests.{ltb-true, lt-ltb, le-ltb, eqb-true, eq-eqb, ne_eqb, leb-true, le-leb}
+use borrow.Author.Tests.{ltb-true, lt-ltb, eqb-true, eq-eqb, ne_eqb, leb-true, le-leb}
 use lib.Dec.{ltb, eqb, leb}
-use lib.ListN.{length, get_or, drop}
-use lib.Seq.{drop-cons, drop-nil}
+use lib.ListN.{length, get_or}
+use Rattle.std.specs.List.{IsAllAdjacentAnswer}
 use Rattle.reconcile.specs.Sales.{sales, rises, accepted, amount_of}
 
 false_true : {P : Type 0} → ◌≡◌ {A = Bool} false true → P
@@ -71,26 +71,13 @@ all-rises [] f = refl
 all-rises (n ∷ []) f = refl
 all-rises (n ∷ (m ∷ rest)) f = rw (lt-ltb n m (f 0 (omega arith))) (all-rises (m ∷ rest) (λ i l. f (suc i) (omega arith)))
 
--- the walk of the test: on from a place whose number is below the next, stopped at one whose is not, over at the last
-pub rises_on : (numbers : List ℕ) (i : ℕ) → i + 1 < length numbers → get_or numbers i 0 < get_or numbers (i + 1) 0 → rises (drop (i + 1) numbers) ≡ rises (drop i numbers)
-unfolding rises
-rises_on numbers i l h =
-    let up : get_or numbers i 0 < get_or numbers (suc i) 0 = rw (add-one i) at h in
-    rw (add-one i, drop-cons numbers i 0 (omega arith), drop-cons numbers (suc i) 0 (omega arith), lt-ltb _ _ up)
-
-pub falls_at : (numbers : List ℕ) (i : ℕ) → i + 1 < length numbers → get_or numbers (i + 1) 0 ≤ get_or numbers i 0 → false ≡ rises (drop i numbers)
-unfolding rises
-falls_at numbers i l h =
-    let down : get_or numbers (suc i) 0 ≤ get_or numbers i 0 = rw (add-one i) at h in
-    rw (drop-cons numbers i 0 (omega arith), drop-cons numbers (suc i) 0 (omega arith), le-ltb _ _ down)
-
-pub rises-over : (numbers : List ℕ) (i : ℕ) → length numbers ≤ i + 1 → true ≡ rises (drop i numbers)
-unfolding rises
-rises-over [] i l = rw (drop-nil {A = ℕ} i)
-rises-over (n ∷ []) zero l = refl
-rises-over (n ∷ []) (suc i) l = rw (drop-nil {A = ℕ} i)
-rises-over (n ∷ (m ∷ rest)) zero l = absurd (omega arith)
-rises-over (n ∷ (m ∷ rest)) (suc i) l = rises-over (m ∷ rest) i (omega arith)
+-- what std's test of a list's neighbours answers
+pub rises-from_sorted : (numbers : List ℕ) (r : Bool) → IsAllAdjacentAnswer (λ x y b. b ≡ ltb x y) numbers r → r ≡ rises numbers
+rises-from_sorted numbers true h = sym (all-rises numbers (λ i l. rw (← add-one i) (ltb-true _ _ (sym (h i 0 (omega arith))))))
+rises-from_sorted numbers false h =
+    cases (rises numbers)
+    (λ t. false_true (h.2 0 ∙ lt-ltb _ _ (rises-all numbers t h.0 (h.0 + 1) (omega arith) h.1)))
+    (λ t. sym t)
 
 -- no entry has the number
 pub amount_none : (numbers amounts : List ℕ) (n : ℕ) → ((k : ℕ) → k < length numbers → get_or numbers k 0 ≡ n → ⊥) → amount_of (sales numbers amounts) n ≡ none

@@ -8,8 +8,8 @@ use lib.Dec.{ltb}
 use lib.IntN.{ℤ, pos, negsuc, sub_ℕ, nat_abs, neg_ℤ, ◌+ℤ◌, ◌-ℤ◌, +ℤ_assoc, +ℤ_comm, neg_ℤ-+ℤ, pos-ne-negsuc}
 use lib.Signed.{mag}
 use mir.Syntax.{w64}
-use mir.Val.{SFits, to_z}
-use mir.Facts.{to_z_pos}
+use mir.Val.{SFits, of_z, to_z}
+use mir.Facts.{to_z-of_z}
 
 pub sub_below : (a b : ℕ) → a < b → sub_ℕ a b ≡ negsuc (b - suc a)
 sub_below a b h = rw (lt-ltb a b h)
@@ -70,12 +70,12 @@ pub mag_abs : (x : ℤ) → mag x ≤ nat_abs x
 mag_abs (pos a) = omega arith
 mag_abs (negsuc a) = omega arith
 
--- two amounts of 32 bits, as the machine subtracts them
-pub amounts_minus : (a b : ℕ) → a < 2 ^ 32 → b < 2 ^ 32 → to_z w64 a -ℤ to_z w64 b ≡ sub_ℕ a b
-amounts_minus a b ha hb = rw (to_z_pos w64 {n = a} (omega arith), to_z_pos w64 {n = b} (omega arith)) (minus_is a b)
-
 pub sub_fits : (a b : ℕ) → a < 2 ^ 32 → b < 2 ^ 32 → SFits w64 (sub_ℕ a b)
 sub_fits a b ha hb = record { sfits = omega (arith, mag_abs (sub_ℕ a b), sub_abs a b 4294967295 (omega arith) (omega arith)) }
 
-pub amounts_fit : (a b : ℕ) → a < 2 ^ 32 → b < 2 ^ 32 → SFits w64 (to_z w64 a -ℤ to_z w64 b)
-amounts_fit a b ha hb = rw (amounts_minus a b ha hb) (sub_fits a b ha hb)
+pos_held : (x : ℤ) (a : ℕ) → x ≡ pos a → a < 2 ^ 32 → to_z w64 (of_z w64 x) ≡ pos a
+pos_held x a e h = rw e (to_z-of_z {w = w64} (record { sfits = omega arith }))
+
+-- two amounts of 32 bits, as the machine subtracts them
+pub amounts_minus : (x y : ℤ) (a b : ℕ) → x ≡ pos a → y ≡ pos b → a < 2 ^ 32 → b < 2 ^ 32 → to_z w64 (of_z w64 (to_z w64 (of_z w64 x) -ℤ to_z w64 (of_z w64 y))) ≡ sub_ℕ a b
+amounts_minus x y a b p q ha hb = rw (pos_held x a p ha, pos_held y b q hb, minus_is a b) (to_z-of_z (sub_fits a b ha hb))

@@ -3,7 +3,6 @@ use Rattle.std.specs.Prelude.{ℕ, ◌+◌, cond, List, [], ◌∷◌, eqb, ℤ,
 use Rattle.std.proofs.Math.Option.{Option, none, some}
 use Rattle.std.proofs.Math.IntN.{sub_ℕ}
 use Rattle.reconcile.specs.Sales.{Sale, sales, accepted, amount_of}
-use Rattle.reconcile.specs.declared.Reconciled.{Reconciled}
 
 -- what a sale of amount a counts, where the other list has this for its number: if the amounts are equal
 abbrev pub if_agreed : Option ℕ → ℕ → ℕ
@@ -37,6 +36,14 @@ only_in sold other = sum_over if_missing sold other
 unfoldable pub difference : List Sale → List Sale → ℤ
 difference [] other = pos 0
 difference (s ∷ rest) other = if_both (amount_of other s.number) s.amount +ℤ difference rest other
+
+-- the answer, 0 or 2, and the four totals
+pub record Reconciled : Type 0 where
+  pub answer : ℕ
+  pub agreed : ℕ
+  pub only_box : ℕ
+  pub only_mechanism : ℕ
+  pub difference : ℤ
 
 abbrev pub totals : List Sale → List Sale → Reconciled
 totals box mechanism =

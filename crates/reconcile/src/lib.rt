@@ -1,27 +1,35 @@
 // The box's sales against the coin mechanism's: four totals in one pass over both lists.
 #![tactic(auto)]
 
-ghost use Rattle.std.specs.Prelude.{◌≡◌, true, cond, eqb, ◌+ℤ◌};
-ghost use Rattle.std.proofs.Math.IntN.{sub_ℕ};
-ghost use Rattle.std.specs.Int.{w64};
-ghost use Rattle.std.proofs.Common.{SFits};
+ghost use Rattle.std.specs.Prelude.{◌≡◌, true};
 ghost use Rattle.reconcile.specs.Sales.{sales, rises, accepted};
 ghost use Rattle.reconcile.specs.Next.{number_at};
 ghost use Rattle.reconcile.specs.Totals.{totals, reconciled};
+ghost use Rattle.reconcile.specs.Told.{reconciled_as, reconciled_by};
 
-// What both lists come to; the answer is 0, or 2 for a list that is refused, with four zeros.
-#[derive(Clone, Copy)]
-pub struct Reconciled {
-    pub answer: usize,
+// What two lists come to.
+#[derive(Clone, Copy, Debug, PartialEq, Eq)]
+pub struct Totals {
     pub agreed: u64,
     pub only_box: u64,
     pub only_mechanism: u64,
     pub difference: i64,
 }
 
-const MOST_SALES: usize = 65535;
+// A list is too long, has not as many amounts as numbers, or does not rise.
+#[derive(Clone, Copy, Debug, PartialEq, Eq)]
+pub struct Refused;
 
-const REFUSED: usize = 2;
+impl Refused {
+    // The paper's number.
+    pub fn number(self) -> usize
+        ensures { result ≡ 2 }
+    {
+        2
+    }
+}
+
+const MOST_SALES: usize = 65535;
 
 const PAST_THE_END: u64 = 0x1_0000_0000;
 
@@ -29,82 +37,34 @@ const PAST_THE_END: u64 = 0x1_0000_0000;
 pub fn is_rising(numbers: &[u32]) -> bool
     ensures { result ≡ rises numbers.now }
 {
-    let mut i = 0;
-    while i + 1 < numbers.len() {
-        if numbers[i + 1] <= numbers[i] {
-            return false;
-        }
-        i += 1;
-    }
-    true
+    numbers.is_sorted_by(|a, b| a < b)
 }
 
 // Whether a list is short enough, has as many amounts as numbers, and rises.
 pub fn is_accepted(numbers: &[u32], amounts: &[u32]) -> bool
     ensures { result ≡ accepted numbers.now amounts.now }
 {
-    if MOST_SALES < numbers.len() {
-        return false;
-    }
-    if amounts.len() != numbers.len() {
-        return false;
-    }
-    is_rising(numbers)
+    numbers.len() <= MOST_SALES && amounts.len() == numbers.len() && is_rising(numbers)
 }
 
 // The number at a place; past the end one that is above every number.
 fn number_at(numbers: &[u32], i: usize) -> u64
     ensures { result ≡ number_at numbers.now i }
 {
-    if i < numbers.len() {
-        return numbers[i] as u64;
-    }
-    PAST_THE_END
-}
-
-// A number of 32 bits in 64.
-fn wide(x: u32) -> u64
-    ensures { result ≡ x }
-{
-    x as u64
-}
-
-// One amount minus another.
-fn minus(a: u32, b: u32) -> i64
-    ensures { result ≡ sub_ℕ a b }
-{
-    a as i64 - b as i64
-}
-
-// The sum of two differences.
-fn plus(x: i64, y: i64) -> i64
-    requires { SFits w64 (x +ℤ y) }
-    ensures { result ≡ x +ℤ y }
-{
-    x + y
-}
-
-// An amount that both lists have, 0 if they differ.
-fn if_agreed(a: u32, b: u32) -> u64
-    ensures { result ≡ cond (eqb a b) a 0 }
-{
-    if a == b {
-        return a as u64;
-    }
-    0
+    numbers.get(i).map_or(PAST_THE_END, |&n| u64::from(n))
 }
 
 // The totals of two accepted lists. Each turn takes the sale with the lower of the two next numbers, or both sales if the
-// numbers are equal.
+// numbers are equal: the two places move on apart, so that no one iterator counts them.
 fn gather(
     box_numbers: &[u32],
     box_amounts: &[u32],
     mechanism_numbers: &[u32],
     mechanism_amounts: &[u32],
-) -> Reconciled
+) -> Totals
     requires box_amounts_value { accepted box_numbers.now box_amounts.now ≡ true }
     requires mechanism_amounts_value { accepted mechanism_numbers.now mechanism_amounts.now ≡ true }
-    ensures { result ≡ totals (sales box_numbers.now box_amounts.now) (sales mechanism_numbers.now mechanism_amounts.now) }
+    ensures { reconciled_as result ≡ totals (sales box_numbers.now box_amounts.now) (sales mechanism_numbers.now mechanism_amounts.now) }
 {
     let mut agreed: u64 = 0;
     let mut only_box: u64 = 0;
@@ -116,24 +76,25 @@ fn gather(
         let number = number_at(box_numbers, i);
         let other = number_at(mechanism_numbers, j);
         if number < other {
-            only_box += wide(box_amounts[i]);
+            only_box += u64::from(box_amounts[i]);
             i += 1;
             continue;
         }
         if other < number {
-            only_mechanism += wide(mechanism_amounts[j]);
+            only_mechanism += u64::from(mechanism_amounts[j]);
             j += 1;
             continue;
         }
         let amount = box_amounts[i];
         let counted = mechanism_amounts[j];
-        agreed += if_agreed(amount, counted);
-        difference = plus(difference, minus(amount, counted));
+        if amount == counted {
+            agreed += u64::from(amount);
+        }
+        difference += i64::from(amount) - i64::from(counted);
         i += 1;
         j += 1;
     }
-    Reconciled {
-        answer: 0,
+    Totals {
         agreed,
         only_box,
         only_mechanism,
@@ -141,32 +102,24 @@ fn gather(
     }
 }
 
-// The box's list against the mechanism's.
+// The box's list against the mechanism's. Numbers and amounts come from C as arrays of their own.
 pub fn reconcile(
     box_numbers: &[u32],
     box_amounts: &[u32],
     mechanism_numbers: &[u32],
     mechanism_amounts: &[u32],
-) -> Reconciled
-    ensures { result ≡ reconciled box_numbers.now box_amounts.now mechanism_numbers.now mechanism_amounts.now }
+) -> Result<Totals, Refused>
+    ensures { reconciled_by result ≡ reconciled box_numbers.now box_amounts.now mechanism_numbers.now mechanism_amounts.now }
 {
-    let refused = Reconciled {
-        answer: REFUSED,
-        agreed: 0,
-        only_box: 0,
-        only_mechanism: 0,
-        difference: 0,
-    };
-    if !is_accepted(box_numbers, box_amounts) {
-        return refused;
+    if !is_accepted(box_numbers, box_amounts)
+        || !is_accepted(mechanism_numbers, mechanism_amounts)
+    {
+        return Err(Refused);
     }
-    if !is_accepted(mechanism_numbers, mechanism_amounts) {
-        return refused;
-    }
-    gather(
+    Ok(gather(
         box_numbers,
         box_amounts,
         mechanism_numbers,
         mechanism_amounts,
-    )
+    ))
 }

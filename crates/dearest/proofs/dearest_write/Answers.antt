@@ -19,8 +19,8 @@ pub returns-then-g-failed : goal.returns-then-g-failed
 returns-then-g-failed c =
     told_many c.args.g c.args.failed c.args.fates.now (sym c.is_valid.ensures ∙ c.if-not-is_valid.false) c.if-g-failed.true
 
-pub word_count-requires : goal.word_count-requires
-word_count-requires c = record { valid = limits c.args.g (sym c.is_valid.ensures ∙ c.if-not-is_valid.false); failed_bound = c.if-g-failed.false }
+pub invariant_of-bearable : goal.invariant_of-bearable
+invariant_of-bearable c = record { within = limits c.args.g (sym c.is_valid.ensures ∙ c.if-not-is_valid.false); few = c.if-g-failed.false }
 
 pub returns-then-fates-word_count : goal.returns-then-fates-word_count
 returns-then-fates-word_count c =
@@ -28,10 +28,7 @@ returns-then-fates-word_count c =
     (λ e. c.if-fates-word_count.true (e ∙ sym c.word_count.ensures))
 
 pub write_words-requires : goal.write_words-requires
-write_words-requires c = record { valid = limits c.args.g (sym c.is_valid.ensures ∙ c.if-not-is_valid.false); failed_bound = c.if-g-failed.false; fates_len = c.if-fates-word_count.false ∙ c.word_count.ensures }
-
-pub cycle_count-requires : goal.cycle_count-requires
-cycle_count-requires c = record { valid = limits c.args.g (sym c.is_valid.ensures ∙ c.if-not-is_valid.false); failed_bound = c.if-g-failed.false }
+write_words-requires c = c.if-fates-word_count.false ∙ c.word_count.ensures
 
 pub returns : goal.returns
 returns c =
