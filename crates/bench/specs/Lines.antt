@@ -1,57 +1,56 @@
 -- What a line of the bench's input says: a letter and its fields, and nothing else.
-use Rattle.std.specs.Prelude.{ℕ, cond, List, eqb, ltb, get_or, length}
-use Rattle.line_input.specs.declared.Field.{Field}
-use Rattle.line_input.specs.declared.Field.TheVariants.{Number, Missing}
-use Rattle.bench.specs.declared.lines.Line.{Line}
-use Rattle.bench.specs.declared.lines.Line.TheVariants.{Request as Says, Malformed, End, Unread as Failed}
+use Rattle.std.specs.Prelude.{ℕ, cond, List, eqb, ltb, get_or, length, take, Option, Some, None, Result, Ok, Err, option_and_then}
+use Rattle.line_input.specs.declared.lines.LineError.{LineError}
+use Rattle.line_input.specs.declared.lines.InputError.{InputError}
+use Rattle.line_input.specs.declared.lines.InputError.TheVariants.{Malformed}
+use Rattle.line_input.specs.Input.{input_error}
+use Rattle.line_input.specs.Fields.{field_at}
 use Rattle.bench_requests.specs.declared.Request.{Request}
 use Rattle.bench_requests.specs.declared.Request.TheVariants.{Format, Write, Read, Erase}
-use Rattle.line_input.specs.declared.lines.Ending.{Ending}
-use Rattle.line_input.specs.declared.lines.Ending.TheVariants.{Whole, Long, Nothing, Unread}
-use Rattle.line_input.specs.Fields.{field_at}
+
+infixl 10 ◌>>=◌
+abbrev pub ◌>>=◌ : {A B : Type 0} → Option A → (A → Option B) → Option B
+o >>= f = option_and_then f o
 
 -- a request whose last field ends the line
-abbrev pub ending : List ℕ → ℕ → Request → Line
-ending line end request = cond (eqb end (length line)) (Says request) Malformed
+abbrev pub ending : List ℕ → ℕ → Request → Option Request
+ending line end request = cond (eqb end (length line)) (Some request) None
 
-abbrev pub erasing : List ℕ → Field → Line
-erasing line (Number block end) = ending line end (Erase block)
-erasing line Missing = Malformed
+unfoldable pub erasing : List ℕ → Option Request
+erasing line = do
+  block ← field_at line 1 10
+  ending line block.end (Erase block.value)
 
-abbrev pub reading_of : List ℕ → ℕ → Field → Line
-reading_of line block (Number page end) = ending line end (Read block page)
-reading_of line block Missing = Malformed
+unfoldable pub reading : List ℕ → Option Request
+reading line = do
+  block ← field_at line 1 10
+  page ← field_at line block.end 10
+  ending line page.end (Read block.value page.value)
 
-abbrev pub reading : List ℕ → Field → Line
-reading line (Number block end) = reading_of line block (field_at line end 10)
-reading line Missing = Malformed
-
-abbrev pub writing_to : List ℕ → ℕ → ℕ → Field → Line
-writing_to line block page (Number byte end) = cond (ltb 255 byte) Malformed (ending line end (Write block page byte))
-writing_to line block page Missing = Malformed
-
-abbrev pub writing_of : List ℕ → ℕ → Field → Line
-writing_of line block (Number page end) = writing_to line block page (field_at line end 16)
-writing_of line block Missing = Malformed
-
-abbrev pub writing : List ℕ → Field → Line
-writing line (Number block end) = writing_of line block (field_at line end 10)
-writing line Missing = Malformed
+unfoldable pub writing : List ℕ → Option Request
+writing line = do
+  block ← field_at line 1 10
+  page ← field_at line block.end 10
+  byte ← field_at line page.end 16
+  cond (ltb 255 byte.value) None (ending line byte.end (Write block.value page.value byte.value))
 
 -- by the letter: F, W, R, E
-unfoldable pub by_letter : List ℕ → ℕ → Line
+unfoldable pub by_letter : List ℕ → ℕ → Option Request
 by_letter line letter =
     cond
     (eqb letter 70)
     (ending line 1 Format)
-    (cond (eqb letter 87) (writing line (field_at line 1 10)) (cond (eqb letter 82) (reading line (field_at line 1 10)) (cond (eqb letter 69) (erasing line (field_at line 1 10)) Malformed)))
+    (cond (eqb letter 87) (writing line) (cond (eqb letter 82) (reading line) (cond (eqb letter 69) (erasing line) None)))
 
-unfoldable pub parsed : List ℕ → Line
-parsed line = cond (eqb (length line) 0) Malformed (by_letter line (get_or line 0 0))
+unfoldable pub parsed : List ℕ → Option Request
+parsed line = cond (eqb (length line) 0) None (by_letter line (get_or line 0 0))
 
--- by how the line ended: only a whole one is taken
-abbrev pub line_of : Ending → List ℕ → Line
-line_of Whole line = parsed line
-line_of Long line = Malformed
-line_of Nothing line = End
-line_of Unread line = Failed
+abbrev pub said : Option Request → Result (Option Request) InputError
+said (Some request) = Ok (Some request)
+said None = Err Malformed
+
+-- what a line says that is so many bytes long, or whose reading failed: only a whole line is taken
+abbrev pub line_of : Result (Option ℕ) LineError → List ℕ → Result (Option Request) InputError
+line_of (Ok (Some n)) bytes = said (parsed (take n bytes))
+line_of (Ok None) bytes = Ok None
+line_of (Err error) bytes = Err (input_error error)

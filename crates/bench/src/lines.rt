@@ -1,115 +1,85 @@
 // The lines of the bench's input.
-ghost use Rattle.std.specs.Prelude.{◌≡◌};
+ghost use Rattle.std.specs.Prelude.{◌≡◌, ◌≤◌, length, IfOk, IfSome};
 ghost use Rattle.bench.specs.Lines.{ending, erasing, reading, writing, parsed, line_of};
-ghost use Rattle.line_input.specs.Fields.{field_at};
 
 use bench_requests::Request;
-use line_input::{Ending, Field};
+use line_input::{InputError, LineError};
 use std::io::Read;
 
-#[derive(Clone, Copy)]
-pub enum Line {
-    Request(Request),
-    Malformed,
-    End,
-    // The input could not be read.
-    Unread,
-}
-
 // The request, if its last field ends the line.
-fn end_line(line: &[u8], end: usize, request: Request) -> Line
+fn end_line(line: &[u8], end: usize, request: Request) -> Option<Request>
     ensures { result ≡ ending line.now end request }
 {
-    if end == line.len() {
-        return Line::Request(request);
-    }
-    Line::Malformed
+    (end == line.len()).then_some(request)
 }
 
-fn parse_erase(line: &[u8]) -> Line
-    ensures { result ≡ erasing line.now (field_at line.now 1 10) }
+#[tactic(auto, unfolding(crate::specs::Lines::erasing))]
+fn parse_erase(line: &[u8]) -> Option<Request>
+    ensures { result ≡ erasing line.now }
 {
-    let block_field = line_input::field_at(line, 1, 10);
-    let Field::Number(block, end) = block_field else {
-        return Line::Malformed;
-    };
-    end_line(line, end, Request::Erase(block))
+    let block = line_input::field_at(line, 1, 10)?;
+    end_line(line, block.end, Request::Erase(block.value))
 }
 
-fn parse_read(line: &[u8]) -> Line
-    ensures { result ≡ reading line.now (field_at line.now 1 10) }
+#[tactic(auto, unfolding(crate::specs::Lines::reading))]
+fn parse_read(line: &[u8]) -> Option<Request>
+    ensures { result ≡ reading line.now }
 {
-    let block_field = line_input::field_at(line, 1, 10);
-    let Field::Number(block, second) = block_field else {
-        return Line::Malformed;
-    };
-    let page_field = line_input::field_at(line, second, 10);
-    let Field::Number(page, end) = page_field else {
-        return Line::Malformed;
-    };
-    end_line(line, end, Request::Read(block, page))
+    let block = line_input::field_at(line, 1, 10)?;
+    let page = line_input::field_at(line, block.end, 10)?;
+    end_line(line, page.end, Request::Read(block.value, page.value))
 }
 
-fn parse_write(line: &[u8]) -> Line
-    ensures { result ≡ writing line.now (field_at line.now 1 10) }
+#[tactic(auto, unfolding(crate::specs::Lines::writing))]
+fn parse_write(line: &[u8]) -> Option<Request>
+    ensures { result ≡ writing line.now }
 {
-    let block_field = line_input::field_at(line, 1, 10);
-    let Field::Number(block, second) = block_field else {
-        return Line::Malformed;
-    };
-    let page_field = line_input::field_at(line, second, 10);
-    let Field::Number(page, third) = page_field else {
-        return Line::Malformed;
-    };
-    let byte_field = line_input::field_at(line, third, 16);
-    let Field::Number(byte, end) = byte_field else {
-        return Line::Malformed;
-    };
-    if 255 < byte {
-        return Line::Malformed;
-    }
-    end_line(line, end, Request::Write(block, page, byte as u8))
+    let block = line_input::field_at(line, 1, 10)?;
+    let page = line_input::field_at(line, block.end, 10)?;
+    let byte = line_input::field_at(line, page.end, 16)?;
+    let filling = u8::try_from(byte.value).ok()?;
+    end_line(
+        line,
+        byte.end,
+        Request::Write(block.value, page.value, filling),
+    )
 }
 
 // A request is its letter and its fields, each after one space, and nothing else. Block and page are decimal, the byte
 // is hexadecimal. Any other line is malformed, and ends the run.
 #[tactic(auto, unfolding(crate::specs::Lines::parsed, crate::specs::Lines::by_letter))]
-fn parse(line: &[u8]) -> Line
+fn parse(line: &[u8]) -> Option<Request>
     ensures { result ≡ parsed line.now }
 {
-    if line.len() == 0 {
-        return Line::Malformed;
+    match line.first()? {
+        b'F' => end_line(line, 1, Request::Format),
+        b'W' => parse_write(line),
+        b'R' => parse_read(line),
+        b'E' => parse_erase(line),
+        _ => None,
     }
-    let letter = line[0];
-    if letter == b'F' {
-        return end_line(line, 1, Request::Format);
-    }
-    if letter == b'W' {
-        return parse_write(line);
-    }
-    if letter == b'R' {
-        return parse_read(line);
-    }
-    if letter == b'E' {
-        return parse_erase(line);
-    }
-    Line::Malformed
 }
 
-// What a line says that ended so.
-fn line_of(ending: Ending, line: &[u8]) -> Line
-    ensures { result ≡ line_of ending line.now }
+// What a read says that gave a line in these bytes so.
+fn line_of(
+    read: Result<Option<usize>, LineError>,
+    bytes: &[u8],
+) -> Result<Option<Request>, InputError>
+    requires { IfOk read (λ given. IfSome given (λ n. n ≤ length bytes.now)) }
+    ensures { result ≡ line_of read bytes.now }
 {
-    match ending {
-        Ending::Whole => parse(line),
-        Ending::Long => Line::Malformed,
-        Ending::Nothing => Line::End,
-        Ending::Unread => Line::Unread,
+    match read? {
+        Some(length) => match parse(&bytes[..length]) {
+            Some(request) => Ok(Some(request)),
+            None => Err(InputError::Malformed),
+        },
+        None => Ok(None),
     }
 }
 
-pub(crate) fn next_line(reader: &mut impl Read) -> Line {
+// The next request, none at the end of the input.
+pub(crate) fn next_request(reader: &mut impl Read) -> Result<Option<Request>, InputError> {
     let mut bytes = [0u8; 64];
     let read = line_input::read_line(reader, &mut bytes);
-    line_of(read.ending, &bytes[..read.length])
+    line_of(read, &bytes)
 }

@@ -8,7 +8,6 @@ ghost use Rattle.bench_requests.specs.Requests.{performed, figures_of};
 
 use bench_requests::{Figures, Request};
 use demo_store::Store;
-use lines::Line;
 use std::io;
 use std::io::Read;
 
@@ -21,22 +20,21 @@ fn show(rt: &impl Print, before: Store, request: Request, figures: Figures) -> i
 }
 
 // The next request, if there is one, and a message if the run ends before the end of the input.
-fn next_request(rt: &impl Eprint, reader: &mut impl Read) -> io::Result<Line> {
-    let line = lines::next_line(reader);
-    if let Line::Malformed = line {
-        eprintln!(rt; "bench: malformed line")?;
+fn next_request(rt: &impl Eprint, reader: &mut impl Read) -> io::Result<Option<Request>> {
+    match lines::next_request(reader) {
+        Ok(request) => Ok(request),
+        Err(error) => {
+            eprintln!(rt; "bench: {error}")?;
+            Ok(None)
+        }
     }
-    if let Line::Unread = line {
-        eprintln!(rt; "bench: the input cannot be read")?;
-    }
-    Ok(line)
 }
 
 // Performs requests to the end of the input. Nothing says that it ends, so turns are counted to a number that no run comes to.
 fn serve(rt: &(impl Print + Eprint), reader: &mut impl Read) -> io::Result<()> {
-    let mut store = demo_store::new_store(2);
+    let mut store = Store::new(2);
     for _ in 0..u64::MAX {
-        let Line::Request(request) = next_request(rt, reader)? else {
+        let Some(request) = next_request(rt, reader)? else {
             return Ok(());
         };
         let ended = bench_requests::perform(store, request);

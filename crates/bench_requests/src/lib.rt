@@ -3,12 +3,11 @@
 
 ghost use Rattle.std.specs.Prelude.{◌≡◌, IfOk};
 ghost use Rattle.bench_requests.specs.Requests.{performed, figures_of};
-ghost use Rattle.bench_requests.specs.declared.Request.TheVariants.{Read};
 
 use demo_store::{Ended, Store, UNCUT};
 use std::io;
 
-#[derive(Clone, Copy)]
+#[derive(Clone, Copy, Debug, PartialEq, Eq)]
 pub enum Request {
     Format,
     // Logical block, page, and the byte that fills the page.
@@ -20,33 +19,27 @@ pub enum Request {
 }
 
 // Answer, cycles sent, and the valid unmarked blocks that hold nothing current.
-#[derive(Clone, Copy)]
+#[derive(Clone, Copy, Debug, PartialEq, Eq)]
 pub struct Figures {
     pub answer: usize,
     pub sent: usize,
     pub free: usize,
 }
 
-fn read(store: Store, block: usize, page: usize) -> Ended
-    ensures { result ≡ performed store (Read block page) }
-{
-    let ended = demo_store::read(store, &[0u8; 192], &[0u32; 0], UNCUT, block, page);
-    ended.ended
-}
+// No bit of an operation that is cut takes effect, and every operation passes without a busy status read.
+const MASK: [u8; 192] = [0; 192];
+
+const FATES: [u32; 0] = [];
 
 // Makes a request.
 pub fn perform(store: Store, request: Request) -> Ended
     ensures { result ≡ performed store request }
 {
-    let mask = [0u8; 192];
-    let fates = [0u32; 0];
     match request {
-        Request::Format => demo_store::format(store, &mask, &fates, UNCUT),
-        Request::Write(block, page, byte) => {
-            demo_store::write(store, &mask, &fates, UNCUT, block, page, byte)
-        }
-        Request::Read(block, page) => read(store, block, page),
-        Request::Erase(block) => demo_store::erase(store, &mask, &fates, UNCUT, block),
+        Request::Format => store.format(&MASK, &FATES, UNCUT),
+        Request::Write(block, page, byte) => store.write(&MASK, &FATES, UNCUT, block, page, byte),
+        Request::Read(block, page) => store.read(&MASK, &FATES, UNCUT, block, page).ended,
+        Request::Erase(block) => store.erase(&MASK, &FATES, UNCUT, block),
     }
 }
 
@@ -54,12 +47,10 @@ pub fn perform(store: Store, request: Request) -> Ended
 pub fn figures_of(ended: Ended) -> Figures
     ensures { result ≡ figures_of ended }
 {
-    let store = ended.store;
-    let state = store.state;
     Figures {
         answer: ended.answer,
         sent: ended.sent,
-        free: state.free_blocks(4, 2),
+        free: ended.store.state.free_blocks(4, 2),
     }
 }
 

@@ -1,18 +1,23 @@
 -- The i-th cycle of a list that is put together of others. Assumes nothing.
 use Prim.Native.Nat.{ℕ, zero, suc, ◌+◌, ◌-◌, ◌<◌, ◌≤◌}
+use mathlib.Core.Bool.{Bool, true, false}
 use mathlib.Core.List.{List, [], ◌∷◌, ◌++◌, map, append_assoc}
 use mathlib.Core.Path.{◌≡◌, refl, ◌∙◌}
 use native.Mathlib.Omega.{arith}
+use borrow.Author.Tests.{ltb-true, ltb-false}
+use lib.Dec.{ltb}
 use lib.ListN.{length, get_or, replicate, length-replicate, length-map}
+use Rattle.std.proofs.Common.{Some, None}
+use Rattle.std.specs.Bool.{then_some}
 use Rattle.chip.specs.Chip.{Cycle}
 use Rattle.chip.specs.Chip.Cycle.{command, data_in, data_out, status}
 use Rattle.chip_interface.specs.Interface.{read_code, program_code, erase_code, read_confirm, program_confirm, erase_confirm}
 use Rattle.bus_sequences.specs.Cycles.{address_cycles, row_cycles, read_address, program_data, erase_address, confirm_cycles}
-use Rattle.capture.specs.declared.Captured.TheVariants.{DataIn, DataOut, Status, Past}
+use Rattle.capture.specs.declared.Captured.TheVariants.{DataIn, DataOut, Status}
 use Rattle.capture.specs.Capture.{seen, cycle_at, polled_cycles, output_cycles, confirmed_capture, fetch_capture, read_capture, program_capture, erase_capture}
 
 -- past the end
-pub at_past : (cs : List Cycle) (i : ℕ) → length cs ≤ i → cycle_at cs i ≡ Past
+pub at_past : (cs : List Cycle) (i : ℕ) → length cs ≤ i → cycle_at cs i ≡ None
 unfolding cycle_at
 at_past [] i h = refl
 at_past (c ∷ cs) zero h = absurd (omega arith)
@@ -43,38 +48,37 @@ at_back (c ∷ cs) ds (suc i) h =
     let e : suc i - suc (length cs) ≡ i - length cs = omega arith in
     rw e (at_back cs ds i (omega arith))
 
--- among equal cycles
-pub at_repeat : (c : Cycle) (n i : ℕ) → i < n → cycle_at (replicate n c) i ≡ seen c
+-- among equal cycles, and past them
+pub at_repeat : (c : Cycle) (n i : ℕ) → i < n → cycle_at (replicate n c) i ≡ Some (seen c)
 unfolding cycle_at
 at_repeat c zero i h = absurd (omega arith)
 at_repeat c (suc n) zero h = refl
 at_repeat c (suc n) (suc i) h = at_repeat c n i (omega arith)
 
-pub at_repeat_past : (c : Cycle) (n i : ℕ) → n ≤ i → cycle_at (replicate n c) i ≡ Past
+pub at_repeat_past : (c : Cycle) (n i : ℕ) → n ≤ i → cycle_at (replicate n c) i ≡ None
 at_repeat_past c n i h = at_past (replicate n c) i (rw length-replicate h)
 
+at_counted_by : (b : Bool) (c : Cycle) (n i : ℕ) → ltb i n ≡ b → cycle_at (replicate n c) i ≡ then_some b (seen c)
+at_counted_by true c n i e = at_repeat c n i (ltb-true i n e)
+at_counted_by false c n i e = at_repeat_past c n i (ltb-false i n e)
+
+pub at_counted : (c : Cycle) (n i : ℕ) → cycle_at (replicate n c) i ≡ then_some (ltb i n) (seen c)
+at_counted c n i = at_counted_by (ltb i n) c n i refl
+
 -- among data input cycles
-pub at_data : (bytes : List ℕ) (i : ℕ) → i < length bytes → cycle_at (map data_in bytes) i ≡ DataIn (get_or bytes i 0)
+pub at_data : (bytes : List ℕ) (i : ℕ) → i < length bytes → cycle_at (map data_in bytes) i ≡ Some (DataIn (get_or bytes i 0))
 unfolding cycle_at
 at_data [] i h = absurd (omega arith)
 at_data (b ∷ bytes) zero h = refl
 at_data (b ∷ bytes) (suc i) h = at_data bytes i (omega arith)
 
 -- among the status reads, and past them
-module _ (code polls i : ℕ) (h : 2 ≤ i) where
-  pub polled_status : i - 2 < polls → cycle_at (polled_cycles code polls) i ≡ Status
-  polled_status k = at_back (confirm_cycles code) (replicate polls status) i h ∙ at_repeat status polls (i - 2) k
-
-  pub polled_past : polls ≤ i - 2 → cycle_at (polled_cycles code polls) i ≡ Past
-  polled_past k = at_back (confirm_cycles code) (replicate polls status) i h ∙ at_repeat_past status polls (i - 2) k
+pub at_status : (code polls i : ℕ) → 2 ≤ i → cycle_at (polled_cycles code polls) i ≡ then_some (ltb (i - 2) polls) Status
+at_status code polls i h = at_back (confirm_cycles code) (replicate polls status) i h ∙ at_counted status polls (i - 2)
 
 -- among the bytes out, and past them
-module _ (moved i : ℕ) (h : 0 < i) where
-  pub output_byte : i - 1 < moved → cycle_at (output_cycles moved) i ≡ DataOut
-  output_byte k = at_rest (command read_code) (replicate moved data_out) i h ∙ at_repeat data_out moved (i - 1) k
-
-  pub output_past : moved ≤ i - 1 → cycle_at (output_cycles moved) i ≡ Past
-  output_past k = at_rest (command read_code) (replicate moved data_out) i h ∙ at_repeat_past data_out moved (i - 1) k
+pub at_output : (moved i : ℕ) → 0 < i → cycle_at (output_cycles moved) i ≡ then_some (ltb (i - 1) moved) DataOut
+at_output moved i h = at_rest (command read_code) (replicate moved data_out) i h ∙ at_counted data_out moved (i - 1)
 
 -- the first cycles of an operation, and what follows them
 module _ (first : List Cycle) (code polls i : ℕ) where
@@ -102,7 +106,7 @@ module _ (row : ℕ) (bytes : List ℕ) (polls i : ℕ) where
       ∙ at_rest (command program_code) (address_cycles 0 row ++ map data_in bytes) i g
       ∙ at_front (address_cycles 0 row) (map data_in bytes) (i - 1) (omega arith)
 
-  pub program_byte : 6 ≤ i → i - 6 < length bytes → cycle_at (program_capture row bytes polls) i ≡ DataIn (get_or bytes (i - 6) 0)
+  pub program_byte : 6 ≤ i → i - 6 < length bytes → cycle_at (program_capture row bytes polls) i ≡ Some (DataIn (get_or bytes (i - 6) 0))
   program_byte g h =
       at_first (program_data row bytes) program_confirm polls i (omega (arith, length_first))
       ∙ at_back (command program_code ∷ address_cycles 0 row) (map data_in bytes) i g
@@ -127,10 +131,6 @@ module _ (row column polls i : ℕ) where
   module _ (moved : ℕ) where
     pub read_fetch : i < 8 + polls → cycle_at (read_capture row column moved polls) i ≡ cycle_at (fetch_capture row column polls) i
     read_fetch h = at_front (fetch_capture row column polls) (output_cycles moved) i (omega (arith, length_fetch))
-
-    pub read_status : 8 ≤ i → i - 8 < polls → cycle_at (read_capture row column moved polls) i ≡ Status
-    read_status g h =
-        read_fetch (omega arith) ∙ fetch_polled (omega arith) ∙ polled_status read_confirm polls (i - 6) (omega arith) (omega arith)
 
     pub read_output : 8 ≤ i → polls ≤ i - 8 → cycle_at (read_capture row column moved polls) i ≡ cycle_at (output_cycles moved) (i - 8 - polls)
     read_output g h =

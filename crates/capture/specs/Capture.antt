@@ -1,11 +1,11 @@
 -- The cycles of each operation with the number of its status reads, and the i-th cycle of a list.
-use Rattle.std.specs.Prelude.{ℕ, zero, suc, List, [], ◌∷◌, ◌++◌, replicate}
+use Rattle.std.specs.Prelude.{ℕ, zero, suc, List, [], ◌∷◌, ◌++◌, replicate, Option, Some, None}
 use Rattle.chip_interface.specs.Interface.{read_code, read_confirm, program_confirm, erase_confirm}
 use Rattle.chip.specs.Chip.{Cycle}
 use Rattle.chip.specs.Chip.Cycle.{command, address, data_in, data_out, status, parameter_address, parameter_out}
 use Rattle.bus_sequences.specs.Cycles.{read_address, program_data, erase_address, confirm_cycles}
 use Rattle.capture.specs.declared.Captured.{Captured}
-use Rattle.capture.specs.declared.Captured.TheVariants.{Command, Address, DataIn, DataOut, Status, Past}
+use Rattle.capture.specs.declared.Captured.TheVariants.{Command, Address, DataIn, DataOut, Status}
 
 -- a cycle as it is captured: the address byte of ECh and an output of the parameter page look like any other
 abbrev pub seen : Cycle → Captured
@@ -18,9 +18,9 @@ seen (parameter_address byte) = Address byte
 seen (parameter_out page) = DataOut
 
 -- the i-th cycle of a list, none past its end
-unfoldable pub cycle_at : List Cycle → ℕ → Captured
-cycle_at [] i = Past
-cycle_at (c ∷ cs) zero = seen c
+unfoldable pub cycle_at : List Cycle → ℕ → Option Captured
+cycle_at [] i = None
+cycle_at (c ∷ cs) zero = Some (seen c)
 cycle_at (c ∷ cs) (suc i) = cycle_at cs i
 
 -- a confirm cycle, 70h and so many status reads

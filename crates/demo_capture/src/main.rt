@@ -8,6 +8,7 @@ mod runs;
 mod steps;
 
 use capture::Captured;
+use demo_store::UNCUT;
 use recover::Operation;
 use runs::Call;
 use std::io;
@@ -19,58 +20,50 @@ struct Begun {
     from: usize,
 }
 
-// The operation's cycle after `sent` cycles of the request.
-fn cycle_after(begun: Begun, sent: usize) -> Captured {
-    let operation = begun.operation;
-    let from = begun.from;
-    if sent < from {
-        return Captured::Past;
+impl Begun {
+    // The operation's cycle after `sent` cycles of the request.
+    fn cycle_after(self, sent: usize) -> Option<Captured> {
+        self.operation.cycle(sent.checked_sub(self.from)?)
     }
-    recover::cycle_of(operation, sent - from)
 }
 
-fn is_over(begun: Begun, sent: usize) -> bool {
-    match cycle_after(begun, sent) {
-        Captured::Past => true,
-        _ => false,
-    }
+fn cycle_after(begun: Option<Begun>, sent: usize) -> Option<Captured> {
+    begun?.cycle_after(sent)
 }
 
 // The operation that the next cycle belongs to: the last one, or where it is over the one that begins.
-fn under_way(call: Call, last: Begun, sent: usize, total: usize) -> Begun {
-    if is_over(last, sent) {
-        let operation = recover::operation_after(call, sent, total);
-        return Begun {
-            operation,
-            from: sent,
-        };
+fn under_way(call: Call, last: Option<Begun>, sent: usize, total: usize) -> Option<Begun> {
+    if cycle_after(last, sent).is_some() {
+        return last;
     }
-    last
+    Some(Begun {
+        operation: recover::operation_after(call, sent, total)?,
+        from: sent,
+    })
 }
 
 // Prints the cycles of a request.
 fn show_cycles(rt: &impl Print, call: Call, total: usize) -> io::Result<()> {
-    let mut begun = Begun {
-        operation: recover::unknown(),
-        from: 0,
-    };
-    let mut before = runs::left_after(call, 0);
+    let mut begun = None;
+    let mut before = call.left_after(0);
     for sent in 0..total {
         begun = under_way(call, begun, sent, total);
-        let cycle = cycle_after(begun, sent);
-        let after = runs::left_after(call, sent + 1);
-        steps::show(rt, sent + 1, cycle, before, after.interface)?;
+        let after = call.left_after(sent + 1);
+        match cycle_after(begun, sent) {
+            Some(cycle) => steps::show(rt, sent + 1, cycle, before, after.interface)?,
+            None => print::misfit(rt, sent + 1)?,
+        }
         before = after;
     }
-    if is_over(begun, total) {
-        return Ok(());
+    if cycle_after(begun, total).is_some() {
+        print::misfit(rt, total)?;
     }
-    print::misfit(rt, total)
+    Ok(())
 }
 
 // Prints a request.
 fn show(rt: &impl Print, name: &str, call: Call) -> io::Result<()> {
-    let ended = runs::ended(call, demo_store::UNCUT);
+    let ended = call.ended(UNCUT);
     print::heading(rt, name)?;
     show_cycles(rt, call, ended.sent)?;
     print::closing(rt, ended.answer, ended.sent)

@@ -1,16 +1,18 @@
 // The operations of a request, each recovered from what the request leaves where it is cut.
-use crate::runs;
-use crate::runs::{Call, Chip};
+use crate::runs::Call;
 use capture::Captured;
+use demo_store::Store;
 
+// What an operation does, as its cycles tell.
 #[derive(Clone, Copy)]
 pub enum Kind {
     Reset,
     Status,
-    Read,
-    Program,
+    // The bytes moved.
+    Read { moved: usize },
+    // The data, `count` bytes from the start.
+    Program { bytes: [u8; 48], count: usize },
     Erase,
-    Unknown,
 }
 
 #[derive(Clone, Copy)]
@@ -20,11 +22,6 @@ pub struct Operation {
     pub column: usize,
     // Status reads.
     pub polls: usize,
-    // The bytes that a read moved.
-    pub moved: usize,
-    // The bytes of a program, `count` from the start.
-    pub bytes: [u8; 48],
-    pub count: usize,
 }
 
 fn plain(kind: Kind) -> Operation {
@@ -33,59 +30,39 @@ fn plain(kind: Kind) -> Operation {
         row: 0,
         column: 0,
         polls: 0,
-        moved: 0,
-        bytes: [0; 48],
-        count: 0,
     }
 }
 
-pub(crate) fn unknown() -> Operation {
-    plain(Kind::Unknown)
-}
-
-// The i-th cycle of a program of the first `count` bytes.
-fn program_cycle(row: usize, bytes: &[u8], count: usize, polls: usize, i: usize) -> Captured {
-    if bytes.len() < count {
-        return Captured::Past;
-    }
-    capture::program_cycle(row, &bytes[..count], polls, i)
-}
-
-// The i-th cycle of an operation.
-pub(crate) fn cycle_of(operation: Operation, i: usize) -> Captured {
-    let kind = operation.kind;
-    let row = operation.row;
-    let polls = operation.polls;
-    let bytes = operation.bytes;
-    match kind {
-        Kind::Reset => capture::reset_cycle(i),
-        Kind::Status => capture::status_cycle(i),
-        Kind::Read => capture::read_cycle(row, operation.column, operation.moved, polls, i),
-        Kind::Program => program_cycle(row, &bytes, operation.count, polls, i),
-        Kind::Erase => capture::erase_cycle(row, polls, i),
-        Kind::Unknown => Captured::Past,
+impl Operation {
+    // The i-th cycle.
+    pub(crate) fn cycle(self, i: usize) -> Option<Captured> {
+        match self.kind {
+            Kind::Reset => capture::reset_cycle(i),
+            Kind::Status => capture::status_cycle(i),
+            Kind::Read { moved } => {
+                capture::read_cycle(self.row, self.column, moved, self.polls, i)
+            }
+            Kind::Program { bytes, count } => {
+                capture::program_cycle(self.row, bytes.get(..count)?, self.polls, i)
+            }
+            Kind::Erase => capture::erase_cycle(self.row, self.polls, i),
+        }
     }
 }
 
 fn phase_after(call: Call, sent: usize) -> usize {
-    let left = runs::left_after(call, sent);
-    let interface = left.interface;
-    interface.phase
+    call.left_after(sent).interface.phase
 }
 
 fn column_after(call: Call, sent: usize) -> usize {
-    let left = runs::left_after(call, sent);
-    let interface = left.interface;
-    interface.column
+    call.left_after(sent).interface.column
 }
 
 // The cycles sent up to the first confirm cycle after `sent`: the chip is busy then.
 fn confirmed_after(call: Call, sent: usize, total: usize) -> usize {
-    let mut at = sent;
-    while at < total {
-        at += 1;
-        if phase_after(call, at) == chip_interface::BUSY {
-            return at;
+    for at in sent..total {
+        if phase_after(call, at + 1) == chip_interface::BUSY {
+            return at + 1;
         }
     }
     total
@@ -94,94 +71,66 @@ fn confirmed_after(call: Call, sent: usize, total: usize) -> usize {
 // Data output cycles after `sent`: each moves the column on, and no cycle that begins an operation does.
 fn moved_after(call: Call, sent: usize, total: usize) -> usize {
     let mut column = column_after(call, sent);
-    let mut moved = 0;
-    while moved < total {
-        let next = column_after(call, sum(sent, moved + 1, total));
+    for moved in 0..total {
+        let next = column_after(call, later(sent, moved + 1, total));
         if next <= column {
             return moved;
         }
         column = next;
-        moved += 1;
     }
-    moved
+    total
 }
 
 // Status reads up to the one that reports ready.
 fn polls_for(busy: usize) -> usize {
-    if busy < 256 {
-        return busy + 1;
-    }
-    256
+    if busy < 256 { busy + 1 } else { 256 }
 }
 
-fn sum(a: usize, b: usize, most: usize) -> usize {
-    if most <= a {
-        return most;
-    }
-    if most - a <= b {
-        return most;
-    }
-    a + b
-}
-
-fn kind_of(operation: usize) -> Kind {
-    if operation == chip_interface::READ {
-        return Kind::Read;
-    }
-    if operation == chip_interface::PROGRAM {
-        return Kind::Program;
-    }
-    if operation == chip_interface::ERASE {
-        return Kind::Erase;
-    }
-    Kind::Unknown
-}
-
-// The data of a program: the bytes taken into the register from the address's column on.
-fn taken(first: usize, column: usize) -> usize {
-    if column < first {
-        return 0;
-    }
-    column - first
-}
-
-// An operation told by the chip that its confirm cycle leaves, and the bytes moved after it.
-fn confirmed(left: Chip, moved: usize) -> Operation {
-    let i = left.interface;
-    let bytes = left.register;
-    let address = i.address;
-    let kind = kind_of(i.operation);
-    Operation {
-        kind,
-        row: chip_interface::row_of_address(address),
-        column: i.first,
-        polls: polls_for(i.busy),
-        moved,
-        bytes,
-        count: taken(i.first, i.column),
-    }
+// So many cycles later, the last at most.
+fn later(sent: usize, cycles: usize, total: usize) -> usize {
+    total.min(sent.saturating_add(cycles))
 }
 
 // The operation whose first cycle comes after `sent` cycles. FFh leaves the chip ready, and 70h showing its status; any other
-// is told at its confirm cycle, and a read's bytes follow 70h, the status reads and 00h.
-pub(crate) fn operation_after(call: Call, sent: usize, total: usize) -> Operation {
-    let phase = phase_after(call, sum(sent, 1, total));
+// is told by the chip that its confirm cycle leaves, and a read's bytes follow 70h, the status reads and 00h.
+pub(crate) fn operation_after(call: Call, sent: usize, total: usize) -> Option<Operation> {
+    let phase = phase_after(call, later(sent, 1, total));
     if phase == chip_interface::READY {
-        return plain(Kind::Reset);
+        return Some(plain(Kind::Reset));
     }
     if phase == chip_interface::STATUS {
-        return plain(Kind::Status);
+        return Some(plain(Kind::Status));
     }
     let at = confirmed_after(call, sent, total);
-    let left = runs::left_after(call, at);
+    let left = call.left_after(at);
     let i = left.interface;
     if i.phase != chip_interface::BUSY {
-        return unknown();
+        return None;
     }
-    if i.operation != chip_interface::READ {
-        return confirmed(left, 0);
+    let polls = polls_for(i.busy);
+    Some(Operation {
+        kind: kind_of(call, left, later(at, polls, total), total)?,
+        row: chip_interface::row_of_address(i.address),
+        column: i.first,
+        polls,
+    })
+}
+
+// The kind of the operation that a chip is busy with, up to its last status read after `waited` cycles. The data of a program is
+// what the register took from the address's column on.
+fn kind_of(call: Call, left: Store, waited: usize, total: usize) -> Option<Kind> {
+    let i = left.interface;
+    // An array of a field goes into a literal by a variable: the proof is not made otherwise.
+    let bytes = left.register;
+    match i.operation {
+        chip_interface::READ => Some(Kind::Read {
+            moved: moved_after(call, later(waited, 2, total), total),
+        }),
+        chip_interface::PROGRAM => Some(Kind::Program {
+            bytes,
+            count: i.column.saturating_sub(i.first),
+        }),
+        chip_interface::ERASE => Some(Kind::Erase),
+        _ => None,
     }
-    let waited = sum(at, polls_for(i.busy), total);
-    let moved = moved_after(call, sum(waited, 2, total), total);
-    confirmed(left, moved)
 }

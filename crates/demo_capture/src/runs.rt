@@ -1,7 +1,5 @@
 // The requests that are captured, each from where the one before it ended, whole or with the power cut after some cycles.
-use chip_interface::Interface;
-use demo_store::{Ended, Store, UNCUT};
-use geometry::Geometry;
+use demo_store::{Depth, Ended, Store, UNCUT};
 
 #[derive(Clone, Copy)]
 pub enum Call {
@@ -12,71 +10,46 @@ pub enum Call {
     Mount,
 }
 
-#[derive(Clone, Copy)]
-pub struct Chip {
-    pub geometry: Geometry,
-    pub interface: Interface,
-    pub array: [u8; 768],
-    pub register: [u8; 48],
-    pub history: [u8; 4],
-}
-
 // No bit of an operation that is cut takes effect, and every operation passes without a busy status read.
-pub(crate) fn mask() -> [u8; 192] {
-    [0; 192]
-}
+pub(crate) const MASK: [u8; 192] = [0; 192];
 
-pub(crate) fn fates() -> [u32; 0] {
-    [0; 0]
-}
+pub(crate) const FATES: [u32; 0] = [];
 
-fn perform(call: Call, start: Store, allowed: u32) -> Ended {
-    let m = mask();
-    let f = fates();
-    match call {
-        Call::Format => demo_store::format(start, &m, &f, allowed),
-        Call::Write => demo_store::write(start, &m, &f, allowed, 0, 0, 0xa5),
-        Call::Mount => demo_store::mount(start, &m, &f, allowed),
+impl Call {
+    // How the request ends on a store with so many cycles allowed.
+    fn perform(self, store: Store, allowed: u32) -> Ended {
+        match self {
+            Call::Format => store.format(&MASK, &FATES, allowed),
+            Call::Write => store.write(&MASK, &FATES, allowed, 0, 0, 0xa5),
+            Call::Mount => store.mount(Depth::Full, &MASK, &FATES, allowed),
+        }
+    }
+
+    // The store that the request finds.
+    fn start(self) -> Store {
+        let new = Store::new(2);
+        match self {
+            Call::Format => new,
+            Call::Write => formatted(new),
+            Call::Mount => written(formatted(new)),
+        }
+    }
+
+    // How the request ends with so many cycles allowed.
+    pub(crate) fn ended(self, allowed: u32) -> Ended {
+        self.perform(self.start(), allowed)
+    }
+
+    // The chip that the request leaves where the power is cut after so many cycles.
+    pub(crate) fn left_after(self, sent: usize) -> Store {
+        self.ended((sent % 4294967296) as u32).store
     }
 }
 
-fn formatted() -> Store {
-    let ended = perform(Call::Format, demo_store::new_store(2), UNCUT);
-    ended.store
+fn formatted(store: Store) -> Store {
+    Call::Format.perform(store, UNCUT).store
 }
 
-fn written() -> Store {
-    let ended = perform(Call::Write, formatted(), UNCUT);
-    ended.store
-}
-
-fn start(call: Call) -> Store {
-    match call {
-        Call::Format => demo_store::new_store(2),
-        Call::Write => formatted(),
-        Call::Mount => written(),
-    }
-}
-
-// How the request ends with so many cycles allowed.
-pub(crate) fn ended(call: Call, allowed: u32) -> Ended {
-    perform(call, start(call), allowed)
-}
-
-// The chip that the request leaves where the power is cut after so many cycles.
-pub(crate) fn left_after(call: Call, sent: usize) -> Chip {
-    let ended = ended(call, (sent % 4294967296) as u32);
-    let store = ended.store;
-    let geometry = store.geometry;
-    let interface = store.interface;
-    let array = store.array;
-    let register = store.register;
-    let history = store.history;
-    Chip {
-        geometry,
-        interface,
-        array,
-        register,
-        history,
-    }
+fn written(store: Store) -> Store {
+    Call::Write.perform(store, UNCUT).store
 }

@@ -6,33 +6,35 @@ use bus::Bus;
 use bus_polling::{Done, Outcome};
 use chip_interface::Interface;
 use geometry::Geometry;
-use std::io;
+use std::{fmt, io};
+
+// How an operation ended, as it is printed.
+#[derive(Clone, Copy)]
+struct Word(Outcome);
+
+impl fmt::Display for Word {
+    fn fmt<W: fmt::Write>(&self, f: &mut fmt::Formatter<W>) -> fmt::Result {
+        f.write_str(match self.0 {
+            Outcome::Passed => "passed",
+            Outcome::Failed => "failed",
+            Outcome::Silent => "silent",
+            Outcome::Cut => "cut",
+            Outcome::Illegal => "illegal",
+            Outcome::Protected => "protected",
+        })
+    }
+}
 
 // The three row bytes of a page, low byte first.
 fn print_row(rt: &impl Print, row: usize) -> io::Result<()> {
-    let middle = geometry::high_part(row);
-    let low = geometry::low_byte(row);
-    let second = geometry::low_byte(middle);
-    let third = geometry::low_byte(geometry::high_part(middle));
-    println!(rt; "row {low:02x} {second:02x} {third:02x}")
+    let bytes = row.to_le_bytes();
+    println!(rt; "row {:02x} {:02x} {:02x}", bytes[0], bytes[1], bytes[2])
 }
 
 // The two bytes of a column, low byte first.
 fn print_column(rt: &impl Print, column: usize) -> io::Result<()> {
-    let low = geometry::low_byte(column);
-    let high = geometry::low_byte(geometry::high_part(column));
-    println!(rt; "column {low:02x} {high:02x}")
-}
-
-fn word_of(outcome: Outcome) -> &'static str {
-    match outcome {
-        Outcome::Passed => "passed",
-        Outcome::Failed => "failed",
-        Outcome::Silent => "silent",
-        Outcome::Cut => "cut",
-        Outcome::Illegal => "illegal",
-        Outcome::Protected => "protected",
-    }
+    let bytes = column.to_le_bytes();
+    println!(rt; "column {:02x} {:02x}", bytes[0], bytes[1])
 }
 
 fn show_addresses(rt: &impl Print) -> io::Result<()> {
@@ -72,210 +74,158 @@ fn small() -> Geometry {
     }
 }
 
-// Prints how an operation ended, and hands the bus on.
-fn shown(rt: &impl Print, label: &str, done: Done) -> io::Result<Bus> {
-    let bus = done.bus;
-    let word = word_of(done.outcome);
-    println!(rt; "{label} {word}, cycles left {}", bus.left)?;
-    Ok(bus)
+// The small chip as its operations leave it, and what is fated to them.
+#[derive(Drop)]
+struct Chip<'a> {
+    bus: Bus,
+    array: [u8; 768],
+    register: [u8; 48],
+    history: [u8; 4],
+    mask: [u8; 192],
+    fates: &'a [u32],
 }
 
-fn erase_block_1(
-    rt: &impl Print,
-    label: &str,
-    from: Bus,
-    array: &mut [u8],
-    register: &mut [u8],
-    history: &mut [u8],
-    fates: &[u32],
-) -> io::Result<Bus> {
-    let mask = [0u8; 192];
-    shown(
-        rt,
-        label,
-        operations::erase(from, small(), array, register, history, &mask, fates, 4),
-    )
-}
-
-fn program_row(
-    rt: &impl Print,
-    label: &str,
-    row: usize,
-    from: Bus,
-    array: &mut [u8],
-    register: &mut [u8],
-    history: &mut [u8],
-    fates: &[u32],
-) -> io::Result<Bus> {
-    let mask = [0u8; 192];
-    let data = [0xa5u8; 48];
-    shown(
-        rt,
-        label,
-        operations::program(
-            from,
-            small(),
-            array,
-            register,
-            history,
-            &mask,
+impl<'a> Chip<'a> {
+    // A chip filled with a byte, whose write-protect line is low at 1 and high at 0.
+    fn new(line: usize, byte: u8, fates: &'a [u32]) -> Chip<'a> {
+        let mut interface = Interface::power_on();
+        interface.protected = line;
+        Chip {
+            bus: Bus::new(interface, 10000),
+            array: [byte; 768],
+            register: [0xff; 48],
+            history: [0; 4],
+            mask: [0; 192],
             fates,
+        }
+    }
+
+    // Prints how an operation ended.
+    fn show(&mut self, rt: &impl Print, label: &str, done: Done) -> io::Result<()> {
+        self.bus = done.bus;
+        println!(rt;
+            "{label} {}, cycles left {}",
+            Word(done.outcome),
+            self.bus.left
+        )
+    }
+
+    fn reset(&mut self, rt: &impl Print, label: &str) -> io::Result<()> {
+        let done = operations::reset(
+            self.bus,
+            small(),
+            &mut self.array,
+            &mut self.register,
+            &mut self.history,
+            &self.mask,
+            self.fates,
+        );
+        self.show(
+            rt,
+            label,
+            Done {
+                bus: done.bus,
+                outcome: done.outcome,
+            },
+        )
+    }
+
+    fn read_status(&mut self, rt: &impl Print, label: &str) -> io::Result<()> {
+        let done = operations::read_status(
+            self.bus,
+            small(),
+            &mut self.array,
+            &mut self.register,
+            &mut self.history,
+            &self.mask,
+            self.fates,
+        );
+        self.show(rt, label, done)
+    }
+
+    fn erase_block_1(&mut self, rt: &impl Print, label: &str) -> io::Result<()> {
+        let done = operations::erase(
+            self.bus,
+            small(),
+            &mut self.array,
+            &mut self.register,
+            &mut self.history,
+            &self.mask,
+            self.fates,
+            4,
+        );
+        self.show(rt, label, done)
+    }
+
+    fn program_row(&mut self, rt: &impl Print, label: &str, row: usize) -> io::Result<()> {
+        let done = operations::program(
+            self.bus,
+            small(),
+            &mut self.array,
+            &mut self.register,
+            &mut self.history,
+            &self.mask,
+            self.fates,
             row,
-            &data,
-        ),
-    )
-}
+            &[0xa5; 48],
+        );
+        self.show(rt, label, done)
+    }
 
-fn read_row_4(
-    rt: &impl Print,
-    label: &str,
-    from: Bus,
-    array: &mut [u8],
-    register: &mut [u8],
-    history: &mut [u8],
-    fates: &[u32],
-) -> io::Result<Bus> {
-    let mask = [0u8; 192];
-    let mut buffer = [0u8; 48];
-    let after = shown(
-        rt,
-        label,
-        operations::read(
-            from,
+    fn read_row_4(&mut self, rt: &impl Print, label: &str) -> io::Result<()> {
+        let mut buffer = [0u8; 48];
+        let done = operations::read(
+            self.bus,
             small(),
-            array,
-            register,
-            history,
-            &mask,
-            fates,
+            &mut self.array,
+            &mut self.register,
+            &mut self.history,
+            &self.mask,
+            self.fates,
             4,
             0,
             &mut buffer,
-        ),
-    )?;
-    println!(rt; "its first byte {:02x}", buffer[0])?;
-    Ok(after)
-}
+        );
+        self.show(rt, label, done)?;
+        println!(rt; "its first byte {:02x}", buffer[0])
+    }
 
-fn reset_chip(
-    rt: &impl Print,
-    label: &str,
-    line: usize,
-    a: &mut [u8],
-    r: &mut [u8],
-    h: &mut [u8],
-    fates: &[u32],
-) -> io::Result<Bus> {
-    let mask = [0u8; 192];
-    let mut interface = Interface::power_on();
-    interface.protected = line;
-    let start = Bus::new(interface, 10000);
-    let done = operations::reset(start, small(), a, r, h, &mask, fates);
-    let bus = done.bus;
-    let outcome = done.outcome;
-    shown(rt, label, Done { bus, outcome })
+    // One status read more after an operation.
+    fn read_again(&mut self, rt: &impl Print) -> io::Result<()> {
+        let out = bus::status(
+            self.bus,
+            small(),
+            &mut self.array,
+            &self.register,
+            &mut self.history,
+        );
+        self.bus = out.bus;
+        println!(rt; "its status {:02x}", out.byte)
+    }
 }
 
 fn show_operations(rt: &impl Print) -> io::Result<()> {
-    let mut a = [0xffu8; 768];
-    let mut r = [0xffu8; 48];
-    let mut h = [0u8; 4];
-    let fates = [0u32, 0, 65536, 255, 256];
-    let b = reset_chip(rt, "reset", 0, &mut a, &mut r, &mut h, &fates)?;
-    let c = erase_block_1(rt, "erase block 1", b, &mut a, &mut r, &mut h, &fates)?;
-    let d = program_row(
-        rt,
-        "program page 0 of it",
-        4,
-        c,
-        &mut a,
-        &mut r,
-        &mut h,
-        &fates,
-    )?;
-    let e = program_row(
-        rt,
-        "program page 1, fated to fail",
-        5,
-        d,
-        &mut a,
-        &mut r,
-        &mut h,
-        &fates,
-    )?;
-    let f = read_row_4(
-        rt,
-        "read page 0, 255 times busy",
-        e,
-        &mut a,
-        &mut r,
-        &mut h,
-        &fates,
-    )?;
-    erase_block_1(
-        rt,
-        "erase block 1, 256 times busy",
-        f,
-        &mut a,
-        &mut r,
-        &mut h,
-        &fates,
-    )?;
-    Ok(())
-}
-
-// One status read more after an operation.
-fn read_again(rt: &impl Print, from: Bus, a: &mut [u8], r: &[u8], h: &mut [u8]) -> io::Result<Bus> {
-    let out = bus::status(from, small(), a, r, h);
-    println!(rt; "its status {:02x}", out.byte)?;
-    Ok(out.bus)
+    let fates = [0, 0, 65536, 255, 256];
+    let mut chip = Chip::new(0, 0xff, &fates);
+    chip.reset(rt, "reset")?;
+    chip.erase_block_1(rt, "erase block 1")?;
+    chip.program_row(rt, "program page 0 of it", 4)?;
+    chip.program_row(rt, "program page 1, fated to fail", 5)?;
+    chip.read_row_4(rt, "read page 0, 255 times busy")?;
+    chip.erase_block_1(rt, "erase block 1, 256 times busy")
 }
 
 // The line is low: D0h and 10h start nothing, and the answer is neither passed nor failed.
 fn show_protected(rt: &impl Print) -> io::Result<()> {
-    let mut a = [0x3cu8; 768];
-    let mut r = [0xffu8; 48];
-    let mut h = [0u8; 4];
-    let mask = [0u8; 192];
-    let fates = [0u32; 0];
-    let b = reset_chip(rt, "reset, line low", 1, &mut a, &mut r, &mut h, &fates)?;
-    let c = shown(
-        rt,
-        "status, line low",
-        operations::read_status(b, small(), &mut a, &mut r, &mut h, &mask, &fates),
-    )?;
-    let d = read_again(rt, c, &mut a, &r, &mut h)?;
-    let e = erase_block_1(
-        rt,
-        "erase block 1, line low",
-        d,
-        &mut a,
-        &mut r,
-        &mut h,
-        &fates,
-    )?;
-    let f = read_again(rt, e, &mut a, &r, &mut h)?;
-    let g = program_row(
-        rt,
-        "program page 0 of it, line low",
-        4,
-        f,
-        &mut a,
-        &mut r,
-        &mut h,
-        &fates,
-    )?;
-    let i = read_again(rt, g, &mut a, &r, &mut h)?;
-    read_row_4(
-        rt,
-        "read page 0, line low",
-        i,
-        &mut a,
-        &mut r,
-        &mut h,
-        &fates,
-    )?;
-    Ok(())
+    let mut chip = Chip::new(1, 0x3c, &[]);
+    chip.reset(rt, "reset, line low")?;
+    chip.read_status(rt, "status, line low")?;
+    chip.read_again(rt)?;
+    chip.erase_block_1(rt, "erase block 1, line low")?;
+    chip.read_again(rt)?;
+    chip.program_row(rt, "program page 0 of it, line low", 4)?;
+    chip.read_again(rt)?;
+    chip.read_row_4(rt, "read page 0, line low")
 }
 
 fn main(rt: HostRuntime) -> io::Result<()> {

@@ -11,7 +11,7 @@ use Rattle.demo_store.specs.declared.Ended.{Ended}
 use Rattle.demo_store.specs.Small.{chip_in, ended_as, new_store}
 use Rattle.bench_requests.specs.declared.Request.TheVariants.{Format}
 use Rattle.bench_requests.specs.Requests.{ended_by, plainly, performed}
-use Rattle.demo_journal.specs.declared.lines.Entry.{Entry}
+use Rattle.std.proofs.Common.{Option}
 use Rattle.demo_journal.specs.declared.sales.Appended.{Appended}
 use Rattle.demo_journal.specs.declared.sales.Told.{Told}
 use Rattle.demo_journal.specs.declared.sales.Served.{Served}
@@ -45,7 +45,7 @@ unfolding store_after
 reached_first e p = record { entries = []; comes = ap (λ (x : Ended). x.store) p }
 
 -- one line more
-pub reached_next : (s : Store) (entry : Entry) (d : Served) → Reached s → d ≡ served s entry → Reached d.store
+pub reached_next : (s : Store) (entry : Option Sale) (d : Served) → Reached s → d ≡ served s entry → Reached d.store
 unfolding store_after
 reached_next s entry d h p =
     record {

@@ -1,111 +1,55 @@
 // The lines of sales: selection, count, price in cents, and the number of the record that is replaced.
-ghost use Rattle.std.specs.Prelude.{◌≡◌};
-ghost use Rattle.demo_journal.specs.Lines.{fitting, pricing, parsed, line_of};
-ghost use Rattle.line_input.specs.Fields.{field_at};
+ghost use Rattle.std.specs.Prelude.{◌≡◌, ◌≤◌, length, IfOk, IfSome};
+ghost use Rattle.demo_journal.specs.Lines.{fitting, parsed, line_of};
 
 use journal::Sale;
-use line_input::{Ending, Field};
+use line_input::LineError;
 use std::io::Read;
-
-// What a line asks for.
-#[derive(Clone, Copy)]
-pub enum Entry {
-    Sold(Sale),
-    Malformed,
-}
-
-#[derive(Clone, Copy)]
-pub enum Line {
-    Entry(Entry),
-    // It did not end in the bytes for it, so that its rest cannot be told from a line.
-    Long,
-    End,
-    // The input could not be read.
-    Unread,
-}
-
-// The greatest numbers that fit a record.
-const GREATEST_SELECTION: usize = 255;
-
-const GREATEST_COUNT: usize = 65535;
-
-const GREATEST_PRICE: usize = 4294967295;
-
-const GREATEST_NUMBER: usize = 65535;
 
 // The sale, where its numbers fit a record.
 #[tactic(auto, unfolding(crate::specs::Lines::fitting))]
-fn fit(selection: usize, count: usize, price: usize, replaces: usize) -> Entry
+fn fit(selection: usize, count: usize, price: usize, replaces: usize) -> Option<Sale>
     ensures { result ≡ fitting selection count price replaces }
 {
-    if GREATEST_SELECTION < selection {
-        return Entry::Malformed;
-    }
-    if GREATEST_COUNT < count {
-        return Entry::Malformed;
-    }
-    if GREATEST_PRICE < price {
-        return Entry::Malformed;
-    }
-    if GREATEST_NUMBER < replaces {
-        return Entry::Malformed;
-    }
-    Entry::Sold(Sale {
-        selection: selection as u8,
-        count: count as u16,
-        price: price as u32,
-        replaces: replaces as u16,
+    Some(Sale {
+        selection: u8::try_from(selection).ok()?,
+        count: u16::try_from(count).ok()?,
+        price: u32::try_from(price).ok()?,
+        replaces: u16::try_from(replaces).ok()?,
     })
-}
-
-// Price and replaced number after selection and count, if they end the line.
-fn parse_price(line: &[u8], selection: usize, count: usize, at: usize) -> Entry
-    ensures { result ≡ pricing line.now selection count (field_at line.now at 10) }
-{
-    let price_field = line_input::field_at(line, at, 10);
-    let Field::Number(price, last) = price_field else {
-        return Entry::Malformed;
-    };
-    let number_field = line_input::field_at(line, last, 10);
-    let Field::Number(replaces, end) = number_field else {
-        return Entry::Malformed;
-    };
-    if end != line.len() {
-        return Entry::Malformed;
-    }
-    fit(selection, count, price, replaces)
 }
 
 // Four decimal numbers with one space between each two, and nothing else.
 #[tactic(auto, unfolding(crate::specs::Lines::parsed))]
-fn parse(line: &[u8]) -> Entry
+fn parse(line: &[u8]) -> Option<Sale>
     ensures { result ≡ parsed line.now }
 {
-    let selection_field = line_input::number_at(line, 0, 10);
-    let Field::Number(selection, second) = selection_field else {
-        return Entry::Malformed;
-    };
-    let count_field = line_input::field_at(line, second, 10);
-    let Field::Number(count, third) = count_field else {
-        return Entry::Malformed;
-    };
-    parse_price(line, selection, count, third)
+    let selection = line_input::number_at(line, 0, 10)?;
+    let count = line_input::field_at(line, selection.end, 10)?;
+    let price = line_input::field_at(line, count.end, 10)?;
+    let replaces = line_input::field_at(line, price.end, 10)?;
+    if replaces.end != line.len() {
+        return None;
+    }
+    fit(selection.value, count.value, price.value, replaces.value)
 }
 
-// What a line says that ended so.
-fn line_of(ending: Ending, line: &[u8]) -> Line
-    ensures { result ≡ line_of ending line.now }
+// What a read says that gave a line in these bytes so: none at the end of the input, and no sale in a malformed line.
+fn line_of(
+    read: Result<Option<usize>, LineError>,
+    bytes: &[u8],
+) -> Result<Option<Option<Sale>>, LineError>
+    requires { IfOk read (λ given. IfSome given (λ n. n ≤ length bytes.now)) }
+    ensures { result ≡ line_of read bytes.now }
 {
-    match ending {
-        Ending::Whole => Line::Entry(parse(line)),
-        Ending::Long => Line::Long,
-        Ending::Nothing => Line::End,
-        Ending::Unread => Line::Unread,
+    match read? {
+        Some(length) => Ok(Some(parse(&bytes[..length]))),
+        None => Ok(None),
     }
 }
 
-pub(crate) fn next_line(reader: &mut impl Read) -> Line {
+pub(crate) fn next_line(reader: &mut impl Read) -> Result<Option<Option<Sale>>, LineError> {
     let mut bytes = [0u8; 64];
     let read = line_input::read_line(reader, &mut bytes);
-    line_of(read.ending, &bytes[..read.length])
+    line_of(read, &bytes)
 }

@@ -2,7 +2,6 @@
 ghost use Rattle.std.specs.Prelude.{◌≡◌};
 ghost use Rattle.demo_journal.specs.Sales.{appended_on, told_on, entered_on, served};
 
-use crate::lines::Entry;
 use demo_store::{Ended, Store, UNCUT};
 use journal::Sale;
 
@@ -21,7 +20,7 @@ pub struct Told {
 }
 
 // What is printed of a line: answer and number of its append, and the takings told after it.
-#[derive(Clone, Copy)]
+#[derive(Clone, Copy, Debug, PartialEq, Eq)]
 pub struct Figures {
     pub answer: usize,
     pub number: usize,
@@ -36,60 +35,44 @@ pub struct Served {
 }
 
 // Appends a record.
-fn append(store: Store, sale: Sale) -> Appended
+fn append(mut store: Store, sale: Sale) -> Appended
     ensures { result ≡ appended_on store sale }
 {
-    let g = store.geometry;
-    let state = store.state;
-    let interface = store.interface;
-    let mut array = store.array;
-    let mut register = store.register;
-    let mut history = store.history;
     let entered = journal_requests::append(
-        state,
-        g,
-        interface,
-        &mut array,
-        &mut register,
-        &mut history,
+        store.state,
+        store.geometry,
+        store.interface,
+        &mut store.array,
+        &mut store.register,
+        &mut store.history,
         &[0u8; 192],
         &[0u32; 0],
         UNCUT,
         sale,
     );
-    let returned = entered.returned;
-    let ended = demo_store::put_together(returned, g, array, register, history);
     Appended {
-        ended,
+        ended: store.ended(entered.returned),
         number: entered.number,
     }
 }
 
 // Asks for the takings.
-fn tell(store: Store) -> Told
+fn tell(mut store: Store) -> Told
     ensures { result ≡ told_on store }
 {
-    let g = store.geometry;
-    let state = store.state;
-    let interface = store.interface;
-    let mut array = store.array;
-    let mut register = store.register;
-    let mut history = store.history;
     let total = journal_requests::takings(
-        state,
-        g,
-        interface,
-        &mut array,
-        &mut register,
-        &mut history,
+        store.state,
+        store.geometry,
+        store.interface,
+        &mut store.array,
+        &mut store.register,
+        &mut store.history,
         &[0u8; 192],
         &[0u32; 0],
         UNCUT,
     );
-    let returned = total.returned;
-    let ended = demo_store::put_together(returned, g, array, register, history);
     Told {
-        ended,
+        ended: store.ended(total.returned),
         takings: total.takings,
     }
 }
@@ -99,28 +82,25 @@ fn enter(store: Store, sale: Sale) -> Served
     ensures { result ≡ entered_on store sale }
 {
     let appended = append(store, sale);
-    let ended = appended.ended;
-    let told = tell(ended.store);
-    let after = told.ended;
-    let left = after.store;
+    let told = tell(appended.ended.store);
     Served {
         figures: Figures {
-            answer: ended.answer,
+            answer: appended.ended.answer,
             number: appended.number,
             takings: told.takings,
         },
-        store: left,
+        store: told.ended.store,
     }
 }
 
 // Serves a line; one that is malformed gets 2, and no request is made.
 #[tactic(auto, unfolding(crate::specs::Sales::served))]
-pub(crate) fn serve(store: Store, entry: Entry) -> Served
+pub(crate) fn serve(store: Store, entry: Option<Sale>) -> Served
     ensures { result ≡ served store entry }
 {
     match entry {
-        Entry::Sold(sale) => enter(store, sale),
-        Entry::Malformed => Served {
+        Some(sale) => enter(store, sale),
+        None => Served {
             figures: Figures {
                 answer: 2,
                 number: 0,

@@ -1,75 +1,52 @@
 // The line that asks for a load: seed and count.
-ghost use Rattle.std.specs.Prelude.{◌≡◌};
-ghost use Rattle.demo_load.specs.Lines.{fitting, counted, parsed, line_of};
-ghost use Rattle.line_input.specs.Fields.{field_at};
+ghost use Rattle.std.specs.Prelude.{◌≡◌, ◌≤◌, length, IfOk, IfSome};
+ghost use Rattle.demo_load.specs.Lines.{fitting, parsed, line_of};
 
-use line_input::{Ending, Field};
+use line_input::{InputError, LineError};
 use std::io::Read;
 
-#[derive(Clone, Copy)]
-pub enum Line {
-    // Seed and count.
-    Load(u32, u32),
-    Malformed,
-    // The input could not be read.
-    Unread,
+#[derive(Clone, Copy, Debug, PartialEq, Eq)]
+pub struct Load {
+    pub seed: u32,
+    pub count: u32,
 }
-
-const GREATEST: usize = 4294967295;
 
 // Both numbers, where they fit 32 bits.
-fn fit(seed: usize, count: usize) -> Line
+fn fit(seed: usize, count: usize) -> Option<Load>
     ensures { result ≡ fitting seed count }
 {
-    if GREATEST < seed {
-        return Line::Malformed;
-    }
-    if GREATEST < count {
-        return Line::Malformed;
-    }
-    Line::Load(seed as u32, count as u32)
-}
-
-// The count after a seed, if it ends the line.
-fn parse_count(line: &[u8], seed: usize, at: usize) -> Line
-    ensures { result ≡ counted line.now seed (field_at line.now at 10) }
-{
-    let field = line_input::field_at(line, at, 10);
-    let Field::Number(count, end) = field else {
-        return Line::Malformed;
-    };
-    if end != line.len() {
-        return Line::Malformed;
-    }
-    fit(seed, count)
+    Some(Load {
+        seed: u32::try_from(seed).ok()?,
+        count: u32::try_from(count).ok()?,
+    })
 }
 
 // A decimal seed, one space and a decimal count, and nothing else.
 #[tactic(auto, unfolding(crate::specs::Lines::parsed))]
-fn parse(line: &[u8]) -> Line
+fn parse(line: &[u8]) -> Option<Load>
     ensures { result ≡ parsed line.now }
 {
-    let field = line_input::number_at(line, 0, 10);
-    let Field::Number(seed, end) = field else {
-        return Line::Malformed;
-    };
-    parse_count(line, seed, end)
+    let seed = line_input::number_at(line, 0, 10)?;
+    let count = line_input::field_at(line, seed.end, 10)?;
+    if count.end != line.len() {
+        return None;
+    }
+    fit(seed.value, count.value)
 }
 
-// What a line says that ended so.
-fn line_of(ending: Ending, line: &[u8]) -> Line
-    ensures { result ≡ line_of ending line.now }
+// What a read says that gave a line in these bytes so. The end of the input is malformed too: it asks for no load.
+fn line_of(read: Result<Option<usize>, LineError>, bytes: &[u8]) -> Result<Load, InputError>
+    requires { IfOk read (λ given. IfSome given (λ n. n ≤ length bytes.now)) }
+    ensures { result ≡ line_of read bytes.now }
 {
-    match ending {
-        Ending::Whole => parse(line),
-        Ending::Long => Line::Malformed,
-        Ending::Nothing => Line::Malformed,
-        Ending::Unread => Line::Unread,
+    match read? {
+        Some(length) => parse(&bytes[..length]).ok_or(InputError::Malformed),
+        None => Err(InputError::Malformed),
     }
 }
 
-pub(crate) fn next_line(reader: &mut impl Read) -> Line {
+pub(crate) fn next_load(reader: &mut impl Read) -> Result<Load, InputError> {
     let mut bytes = [0u8; 64];
     let read = line_input::read_line(reader, &mut bytes);
-    line_of(read.ending, &bytes[..read.length])
+    line_of(read, &bytes)
 }

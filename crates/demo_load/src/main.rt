@@ -7,8 +7,8 @@ ghost use Rattle.std.specs.Prelude.{◌≡◌, IfOk};
 ghost use Rattle.demo_load.specs.Load.{asked, begun, request_count, load, load_end, HasLine};
 
 use bench_requests::Figures;
-use demo_store::Ended;
-use lines::Line;
+use demo_store::{Ended, Store};
+use lines::Load;
 use std::io;
 use std::io::Read;
 
@@ -38,7 +38,7 @@ fn ask(request: test_load::Request) -> bench_requests::Request
 fn begin(seed: u32) -> Ended
     ensures { result ≡ begun seed }
 {
-    let store = demo_store::new_store(2);
+    let store = Store::new(2);
     if seed == 0 {
         return Ended {
             answer: 2,
@@ -53,10 +53,7 @@ fn begin(seed: u32) -> Ended
 fn request_count(seed: u32, count: u32) -> u32
     ensures { result ≡ request_count seed count }
 {
-    if seed == 0 {
-        return 0;
-    }
-    count
+    if seed == 0 { 0 } else { count }
 }
 
 // Makes and shows the whole load.
@@ -78,20 +75,19 @@ fn serve(rt: &impl Print, seed: u32, count: u32) -> io::Result<Ended>
 }
 
 // The load that the input asks for, and a message if it asks for none.
-fn next_load(rt: &impl Eprint, reader: &mut impl Read) -> io::Result<Line> {
-    let line = lines::next_line(reader);
-    if let Line::Malformed = line {
-        eprintln!(rt; "demo_load: malformed line")?;
+fn next_load(rt: &impl Eprint, reader: &mut impl Read) -> io::Result<Option<Load>> {
+    match lines::next_load(reader) {
+        Ok(load) => Ok(Some(load)),
+        Err(error) => {
+            eprintln!(rt; "demo_load: {error}")?;
+            Ok(None)
+        }
     }
-    if let Line::Unread = line {
-        eprintln!(rt; "demo_load: the input cannot be read")?;
-    }
-    Ok(line)
 }
 
 fn main(rt: HostRuntime) -> io::Result<()> {
-    if let Line::Load(seed, count) = next_load(&rt, &mut rt.reader())? {
-        serve(&rt, seed, count)?;
+    if let Some(load) = next_load(&rt, &mut rt.reader())? {
+        serve(&rt, load.seed, load.count)?;
     }
     Ok(())
 }

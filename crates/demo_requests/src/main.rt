@@ -8,6 +8,14 @@ mod writes;
 use demo_store::{Ended, Store, UNCUT};
 use std::io;
 
+// A cut operation takes effect in no bit, or in every one.
+pub(crate) const NO_BIT: [u8; 192] = [0; 192];
+
+pub(crate) const EVERY_BIT: [u8; 192] = [0xff; 192];
+
+// Every operation passes without a busy status read.
+pub(crate) const NO_FATES: [u32; 0] = [];
+
 // Prints how a request ended.
 pub(crate) fn show(rt: &impl Print, label: &str, ended: Ended) -> io::Result<()> {
     print!(rt; "{label} ")?;
@@ -24,10 +32,9 @@ fn show_format(
     fates: &[u32],
     allowed: u32,
 ) -> io::Result<()> {
-    let mask = [0u8; 192];
-    let mut store = demo_store::new_store(logical);
+    let mut store = Store::new(logical);
     store.array[464] = mark;
-    show(rt, label, demo_store::format(store, &mask, fates, allowed))
+    show(rt, label, store.format(&NO_BIT, fates, allowed))
 }
 
 // Reads a logical page, and shows its first byte.
@@ -38,36 +45,31 @@ pub(crate) fn show_read(
     block: usize,
     page: usize,
 ) -> io::Result<()> {
-    let mask = [0u8; 192];
-    let fates = [0u32; 0];
-    let read = demo_store::read(store, &mask, &fates, UNCUT, block, page);
+    let read = store.read(&NO_BIT, &NO_FATES, UNCUT, block, page);
     show(rt, label, read.ended)?;
     println!(rt; "  first byte {:02x}", read.page[0])
 }
 
 // A new chip formatted and read.
 fn show_first_read(rt: &impl Print) -> io::Result<()> {
-    let mask = [0u8; 192];
-    let fates = [0u32; 0];
-    let formatted = demo_store::format(demo_store::new_store(2), &mask, &fates, UNCUT);
+    let formatted = Store::new(2).format(&NO_BIT, &NO_FATES, UNCUT);
     show(rt, "format", formatted)?;
     show_read(rt, "read-1-3", formatted.store, 1, 3)
 }
 
 fn main(rt: HostRuntime) -> io::Result<()> {
-    let none = [0u32; 0];
     show_first_read(&rt)?;
-    show_format(&rt, "marked-block", 2, 0, &none, UNCUT)?;
-    show_format(&rt, "three-logical", 3, 0xff, &none, UNCUT)?;
-    show_format(&rt, "busy-255", 2, 0xff, &[255u32], UNCUT)?;
-    show_format(&rt, "busy-256", 2, 0xff, &[256u32], UNCUT)?;
-    show_format(&rt, "allowed-1195", 2, 0xff, &none, 1195)?;
-    show_format(&rt, "allowed-1196", 2, 0xff, &none, 1196)?;
-    writes::show_write(&rt, "write", &none, UNCUT)?;
-    writes::show_write(&rt, "write-busy-255", &[255u32], UNCUT)?;
-    writes::show_write(&rt, "write-busy-256", &[256u32], UNCUT)?;
-    writes::show_write(&rt, "write-allowed-236", &none, 236)?;
-    writes::show_write(&rt, "write-allowed-237", &none, 237)?;
+    show_format(&rt, "marked-block", 2, 0, &NO_FATES, UNCUT)?;
+    show_format(&rt, "three-logical", 3, 0xff, &NO_FATES, UNCUT)?;
+    show_format(&rt, "busy-255", 2, 0xff, &[255], UNCUT)?;
+    show_format(&rt, "busy-256", 2, 0xff, &[256], UNCUT)?;
+    show_format(&rt, "allowed-1195", 2, 0xff, &NO_FATES, 1195)?;
+    show_format(&rt, "allowed-1196", 2, 0xff, &NO_FATES, 1196)?;
+    writes::show_write(&rt, "write", &NO_FATES, UNCUT)?;
+    writes::show_write(&rt, "write-busy-255", &[255], UNCUT)?;
+    writes::show_write(&rt, "write-busy-256", &[256], UNCUT)?;
+    writes::show_write(&rt, "write-allowed-236", &NO_FATES, 236)?;
+    writes::show_write(&rt, "write-allowed-237", &NO_FATES, 237)?;
     writes::show_last_number(&rt)?;
     writes::show_failed_erase(&rt)?;
     writes::show_cut_write(&rt)?;

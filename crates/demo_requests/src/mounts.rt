@@ -1,39 +1,30 @@
 // Mounts of the small chip, full and quick.
-use crate::{show, writes};
-use demo_store::{Store, UNCUT};
+use crate::{NO_BIT, NO_FATES, show, writes};
+use demo_store::{Depth, Store, UNCUT};
 use std::io;
 
 // A full and a quick mount of one chip.
 fn show_both(rt: &impl Print, full: &str, quick: &str, store: Store) -> io::Result<()> {
-    let mask = [0u8; 192];
-    let none = [0u32; 0];
-    show(rt, full, demo_store::mount(store, &mask, &none, UNCUT))?;
+    show(
+        rt,
+        full,
+        store.mount(Depth::Full, &NO_BIT, &NO_FATES, UNCUT),
+    )?;
     show(
         rt,
         quick,
-        demo_store::quick_mount(store, &mask, &none, UNCUT),
+        store.mount(Depth::Quick, &NO_BIT, &NO_FATES, UNCUT),
     )
 }
 
 // A quick mount that is cut a cycle before its end, that just ends, and that falls silent.
 fn show_stopped(rt: &impl Print, store: Store) -> io::Result<()> {
-    let mask = [0u8; 192];
-    let none = [0u32; 0];
-    show(
-        rt,
-        "quick-mount-allowed-626",
-        demo_store::quick_mount(store, &mask, &none, 626),
-    )?;
-    show(
-        rt,
-        "quick-mount-allowed-627",
-        demo_store::quick_mount(store, &mask, &none, 627),
-    )?;
-    show(
-        rt,
-        "quick-mount-busy-256",
-        demo_store::quick_mount(store, &mask, &[256u32], UNCUT),
-    )
+    let before = store.mount(Depth::Quick, &NO_BIT, &NO_FATES, 626);
+    show(rt, "quick-mount-allowed-626", before)?;
+    let at = store.mount(Depth::Quick, &NO_BIT, &NO_FATES, 627);
+    show(rt, "quick-mount-allowed-627", at)?;
+    let silent = store.mount(Depth::Quick, &NO_BIT, &[256], UNCUT);
+    show(rt, "quick-mount-busy-256", silent)
 }
 
 // The chip just formatted, with one copy, and with a copy in every block but the table's.

@@ -1,6 +1,6 @@
 // Requests with the write-protect line low: those that write change nothing, and the others go on.
-use crate::{show, show_read, writes};
-use demo_store::{Ended, Store, UNCUT};
+use crate::{EVERY_BIT, NO_FATES, show, show_read, writes};
+use demo_store::{Depth, Ended, Store, UNCUT};
 use std::io;
 
 // The line low at 1, high at 0.
@@ -10,29 +10,24 @@ fn with_line(mut store: Store, protected: usize) -> Store {
 }
 
 fn write(store: Store, allowed: u32) -> Ended {
-    let none = [0u32; 0];
-    writes::write(store, &none, allowed, 0)
+    writes::write(store, &NO_FATES, allowed, 0)
 }
 
 // A write, an erase and a formatting, each of which hands the state back.
 fn show_refused(rt: &impl Print, store: Store) -> io::Result<Store> {
-    let mask = [0xffu8; 192];
-    let none = [0u32; 0];
     let written = write(store, UNCUT);
     show(rt, "protected-write", written)?;
-    let erased = demo_store::erase(written.store, &mask, &none, UNCUT, 0);
+    let erased = written.store.erase(&EVERY_BIT, &NO_FATES, UNCUT, 0);
     show(rt, "protected-erase", erased)?;
-    let formatted = demo_store::format(erased.store, &mask, &none, UNCUT);
+    let formatted = erased.store.format(&EVERY_BIT, &NO_FATES, UNCUT);
     show(rt, "protected-format", formatted)?;
     Ok(formatted.store)
 }
 
 // A read with that state, a mount and another read.
 fn show_passed(rt: &impl Print, store: Store) -> io::Result<Store> {
-    let mask = [0xffu8; 192];
-    let none = [0u32; 0];
     show_read(rt, "protected-read", store, 0, 0)?;
-    let mounted = demo_store::mount(store, &mask, &none, UNCUT);
+    let mounted = store.mount(Depth::Full, &EVERY_BIT, &NO_FATES, UNCUT);
     show(rt, "protected-mount", mounted)?;
     show_read(rt, "protected-read", mounted.store, 0, 0)?;
     Ok(mounted.store)

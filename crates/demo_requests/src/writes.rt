@@ -1,27 +1,21 @@
 // Writes of page 0 of a logical block, on chips as earlier requests left them.
-use crate::show;
-use demo_store::{Ended, Store, UNCUT};
+use crate::{EVERY_BIT, NO_BIT, NO_FATES, show};
+use demo_store::{Depth, Ended, Store, UNCUT};
 use std::io;
 
 // A new chip, formatted.
 pub(crate) fn formatted() -> Store {
-    let mask = [0u8; 192];
-    let fates = [0u32; 0];
-    let ended = demo_store::format(demo_store::new_store(2), &mask, &fates, UNCUT);
-    ended.store
+    Store::new(2).format(&NO_BIT, &NO_FATES, UNCUT).store
 }
 
 // A cut operation takes effect in every bit.
 pub(crate) fn write(store: Store, fates: &[u32], allowed: u32, block: usize) -> Ended {
-    let mask = [0xffu8; 192];
-    demo_store::write(store, &mask, fates, allowed, block, 0, 0x11)
+    store.write(&EVERY_BIT, fates, allowed, block, 0, 0x11)
 }
 
 // The store after a write that passes.
 pub(crate) fn written(store: Store, block: usize) -> Store {
-    let none = [0u32; 0];
-    let ended = write(store, &none, UNCUT, block);
-    ended.store
+    write(store, &NO_FATES, UNCUT, block).store
 }
 
 // The first write on a new chip.
@@ -36,32 +30,29 @@ pub(crate) fn show_write(
 
 // A write from a state whose next number is the last, and one more.
 pub(crate) fn show_last_number(rt: &impl Print) -> io::Result<()> {
-    let none = [0u32; 0];
     let mut store = formatted();
     store.state.number = 18446744073709551614;
-    let last = write(store, &none, UNCUT, 0);
+    let last = write(store, &NO_FATES, UNCUT, 0);
     show(rt, "last-number", last)?;
-    show(rt, "number-spent", write(last.store, &none, UNCUT, 0))
+    show(rt, "number-spent", write(last.store, &NO_FATES, UNCUT, 0))
 }
 
 // A write whose first erase fails: the table fill takes the block of the old copy.
 pub(crate) fn show_failed_erase(rt: &impl Print) -> io::Result<()> {
     let store = written(formatted(), 0);
-    show(rt, "failed-erase", write(store, &[65536u32], UNCUT, 0))
+    show(rt, "failed-erase", write(store, &[65536], UNCUT, 0))
 }
 
 // A write after one that was cut past its first page and a mount: the only free block is the one filled last.
 pub(crate) fn show_cut_write(rt: &impl Print) -> io::Result<()> {
-    let none = [0u32; 0];
-    let mask = [0u8; 192];
     let store = written(written(formatted(), 0), 1);
-    let cut = write(store, &none, 70, 0);
+    let cut = write(store, &NO_FATES, 70, 0);
     show(rt, "cut-write", cut)?;
-    let mounted = demo_store::mount(cut.store, &mask, &none, UNCUT);
+    let mounted = cut.store.mount(Depth::Full, &NO_BIT, &NO_FATES, UNCUT);
     show(rt, "mount", mounted)?;
     show(
         rt,
         "block-filled-last",
-        write(mounted.store, &none, UNCUT, 0),
+        write(mounted.store, &NO_FATES, UNCUT, 0),
     )
 }

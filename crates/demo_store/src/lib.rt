@@ -6,7 +6,6 @@ ghost use Rattle.chip_array.specs.Device.{device, setting};
 ghost use Rattle.request.specs.Call.{result_with};
 ghost use Rattle.read_page.specs.Fetching.{read_result};
 ghost use Rattle.format.specs.Format.{formatting};
-ghost use Rattle.scan_summary.specs.declared.Depth.TheVariants.{Full, Quick};
 ghost use Rattle.mount.specs.Mount.{mounting};
 ghost use Rattle.read.specs.Reading.{reading_page};
 ghost use Rattle.write_changes.specs.Changes.{writing, erasing_logical};
@@ -15,7 +14,7 @@ ghost use Rattle.demo_store.specs.Small.{chip_in, ended_as, new_store};
 use chip_interface::Interface;
 use geometry::Geometry;
 use request::Returned;
-use scan_summary::Depth;
+pub use scan_summary::Depth;
 use state::State;
 
 // The allowance that cuts nothing.
@@ -47,229 +46,162 @@ pub struct ReadEnded {
     pub page: [u8; 32],
 }
 
-// A new chip, all FFh, and a state that is not mounted.
-pub fn new_store(logical: usize) -> Store
-    ensures { result ≡ new_store logical }
-{
-    Store {
-        geometry: Geometry {
-            main: 32,
-            spare: 16,
-            pages: 4,
-            blocks: 4,
-            logical,
-        },
-        state: State::blank(0),
-        interface: Interface::power_on(),
-        array: [0xff; 768],
-        register: [0xff; 48],
-        history: [0; 4],
+impl Store {
+    // A new chip, all FFh, and a state that is not mounted.
+    pub fn new(logical: usize) -> Store
+        ensures { result ≡ new_store logical }
+    {
+        Store {
+            geometry: Geometry {
+                main: 32,
+                spare: 16,
+                pages: 4,
+                blocks: 4,
+                logical,
+            },
+            state: State::blank(0),
+            interface: Interface::power_on(),
+            array: [0xff; 768],
+            register: [0xff; 48],
+            history: [0; 4],
+        }
     }
-}
 
-// What a request returned and left of the chip, put together.
-pub fn put_together(
-    returned: Returned,
-    geometry: Geometry,
-    array: [u8; 768],
-    register: [u8; 48],
-    history: [u8; 4],
-) -> Ended
-    ensures r_value { ended_as result ≡ result_with returned.answer returned.state (device returned.interface array register history) returned.sent }
-    ensures geometry_value { result.store.geometry ≡ geometry }
-{
-    let state = returned.state;
-    let interface = returned.interface;
-    Ended {
-        answer: returned.answer,
-        sent: returned.sent,
-        store: Store {
-            geometry,
-            state,
-            interface,
-            array,
-            register,
-            history,
-        },
+    // The chip as a request left it, put together with what it returned.
+    pub fn ended(self, returned: Returned) -> Ended
+        ensures r_value { ended_as result ≡ result_with returned.answer returned.state (device returned.interface self.array self.register self.history) returned.sent }
+        ensures geometry_value { result.store.geometry ≡ self.geometry }
+    {
+        Ended {
+            answer: returned.answer,
+            sent: returned.sent,
+            store: Store {
+                state: returned.state,
+                interface: returned.interface,
+                ..self
+            },
+        }
     }
-}
 
-// Formats.
-pub fn format(store: Store, mask: &[u8], fates: &[u32], allowed: u32) -> Ended
-    ensures r_value { ended_as result ≡ formatting (setting store.geometry mask.now fates.now) (chip_in store) allowed store.state }
-    ensures geometry_value { result.store.geometry ≡ store.geometry }
-{
-    let g = store.geometry;
-    let state = store.state;
-    let interface = store.interface;
-    let mut array = store.array;
-    let mut register = store.register;
-    let mut history = store.history;
-    let returned = format::format(
-        state,
-        g,
-        interface,
-        &mut array,
-        &mut register,
-        &mut history,
-        mask,
-        fates,
-        allowed,
-    );
-    put_together(returned, g, array, register, history)
-}
+    // Formats.
+    pub fn format(mut self, mask: &[u8], fates: &[u32], allowed: u32) -> Ended
+        ensures r_value { ended_as result ≡ formatting (setting self.geometry mask.now fates.now) (chip_in self) allowed self.state }
+        ensures geometry_value { result.store.geometry ≡ self.geometry }
+    {
+        let returned = format::format(
+            self.state,
+            self.geometry,
+            self.interface,
+            &mut self.array,
+            &mut self.register,
+            &mut self.history,
+            mask,
+            fates,
+            allowed,
+        );
+        self.ended(returned)
+    }
 
-// Mounts.
-pub fn mount(store: Store, mask: &[u8], fates: &[u32], allowed: u32) -> Ended
-    ensures r_value { ended_as result ≡ mounting Full (setting store.geometry mask.now fates.now) (chip_in store) allowed store.state }
-    ensures geometry_value { result.store.geometry ≡ store.geometry }
-{
-    let g = store.geometry;
-    let state = store.state;
-    let interface = store.interface;
-    let mut array = store.array;
-    let mut register = store.register;
-    let mut history = store.history;
-    let returned = mount::mount(
-        Depth::Full,
-        state,
-        g,
-        interface,
-        &mut array,
-        &mut register,
-        &mut history,
-        mask,
-        fates,
-        allowed,
-    );
-    put_together(returned, g, array, register, history)
-}
+    // Mounts, in full or quickly.
+    pub fn mount(mut self, depth: Depth, mask: &[u8], fates: &[u32], allowed: u32) -> Ended
+        ensures r_value { ended_as result ≡ mounting depth (setting self.geometry mask.now fates.now) (chip_in self) allowed self.state }
+        ensures geometry_value { result.store.geometry ≡ self.geometry }
+    {
+        let returned = mount::mount(
+            depth,
+            self.state,
+            self.geometry,
+            self.interface,
+            &mut self.array,
+            &mut self.register,
+            &mut self.history,
+            mask,
+            fates,
+            allowed,
+        );
+        self.ended(returned)
+    }
 
-// Mounts quickly.
-pub fn quick_mount(store: Store, mask: &[u8], fates: &[u32], allowed: u32) -> Ended
-    ensures r_value { ended_as result ≡ mounting Quick (setting store.geometry mask.now fates.now) (chip_in store) allowed store.state }
-    ensures geometry_value { result.store.geometry ≡ store.geometry }
-{
-    let g = store.geometry;
-    let state = store.state;
-    let interface = store.interface;
-    let mut array = store.array;
-    let mut register = store.register;
-    let mut history = store.history;
-    let returned = mount::mount(
-        Depth::Quick,
-        state,
-        g,
-        interface,
-        &mut array,
-        &mut register,
-        &mut history,
-        mask,
-        fates,
-        allowed,
-    );
-    put_together(returned, g, array, register, history)
-}
+    // Writes a page whose bytes are all the same.
+    pub fn write(
+        mut self,
+        mask: &[u8],
+        fates: &[u32],
+        allowed: u32,
+        block: usize,
+        page: usize,
+        byte: u8,
+    ) -> Ended
+        ensures r_value { ended_as result ≡ writing (setting self.geometry mask.now fates.now) (chip_in self) allowed self.state block page (replicate 32 byte) }
+        ensures geometry_value { result.store.geometry ≡ self.geometry }
+    {
+        let returned = write::write(
+            self.state,
+            self.geometry,
+            self.interface,
+            &mut self.array,
+            &mut self.register,
+            &mut self.history,
+            mask,
+            fates,
+            allowed,
+            block,
+            page,
+            &[byte; 32],
+        );
+        self.ended(returned)
+    }
 
-// Writes a page whose bytes are all the same.
-pub fn write(
-    store: Store,
-    mask: &[u8],
-    fates: &[u32],
-    allowed: u32,
-    block: usize,
-    page: usize,
-    byte: u8,
-) -> Ended
-    ensures r_value { ended_as result ≡ writing (setting store.geometry mask.now fates.now) (chip_in store) allowed store.state block page (replicate 32 byte) }
-    ensures geometry_value { result.store.geometry ≡ store.geometry }
-{
-    let g = store.geometry;
-    let state = store.state;
-    let interface = store.interface;
-    let mut array = store.array;
-    let mut register = store.register;
-    let mut history = store.history;
-    let bytes = [byte; 32];
-    let returned = write::write(
-        state,
-        g,
-        interface,
-        &mut array,
-        &mut register,
-        &mut history,
-        mask,
-        fates,
-        allowed,
-        block,
-        page,
-        &bytes,
-    );
-    put_together(returned, g, array, register, history)
-}
+    // Erases a logical block.
+    pub fn erase(mut self, mask: &[u8], fates: &[u32], allowed: u32, block: usize) -> Ended
+        ensures r_value { ended_as result ≡ erasing_logical (setting self.geometry mask.now fates.now) (chip_in self) allowed self.state block }
+        ensures geometry_value { result.store.geometry ≡ self.geometry }
+    {
+        let returned = write::erase(
+            self.state,
+            self.geometry,
+            self.interface,
+            &mut self.array,
+            &mut self.register,
+            &mut self.history,
+            mask,
+            fates,
+            allowed,
+            block,
+        );
+        self.ended(returned)
+    }
 
-// Erases a logical block.
-pub fn erase(store: Store, mask: &[u8], fates: &[u32], allowed: u32, block: usize) -> Ended
-    ensures r_value { ended_as result ≡ erasing_logical (setting store.geometry mask.now fates.now) (chip_in store) allowed store.state block }
-    ensures geometry_value { result.store.geometry ≡ store.geometry }
-{
-    let g = store.geometry;
-    let state = store.state;
-    let interface = store.interface;
-    let mut array = store.array;
-    let mut register = store.register;
-    let mut history = store.history;
-    let returned = write::erase(
-        state,
-        g,
-        interface,
-        &mut array,
-        &mut register,
-        &mut history,
-        mask,
-        fates,
-        allowed,
-        block,
-    );
-    put_together(returned, g, array, register, history)
-}
-
-// Reads a logical page into a buffer of zeros.
-pub fn read(
-    store: Store,
-    mask: &[u8],
-    fates: &[u32],
-    allowed: u32,
-    block: usize,
-    page: usize,
-) -> ReadEnded
-    ensures page_value { read_result (ended_as result.ended) result.page ≡ reading_page (setting store.geometry mask.now fates.now) (chip_in store) allowed store.state block page (replicate 32 0) }
-    ensures geometry_value { result.ended.store.geometry ≡ store.geometry }
-{
-    let g = store.geometry;
-    let state = store.state;
-    let interface = store.interface;
-    let mut array = store.array;
-    let mut register = store.register;
-    let mut history = store.history;
-    let mut buffer = [0u8; 32];
-    let returned = read::read(
-        state,
-        g,
-        interface,
-        &mut array,
-        &mut register,
-        &mut history,
-        mask,
-        fates,
-        allowed,
-        block,
-        page,
-        &mut buffer,
-    );
-    let ended = put_together(returned, g, array, register, history);
-    ReadEnded {
-        ended,
-        page: buffer,
+    // Reads a logical page into a buffer of zeros.
+    pub fn read(
+        mut self,
+        mask: &[u8],
+        fates: &[u32],
+        allowed: u32,
+        block: usize,
+        page: usize,
+    ) -> ReadEnded
+        ensures page_value { read_result (ended_as result.ended) result.page ≡ reading_page (setting self.geometry mask.now fates.now) (chip_in self) allowed self.state block page (replicate 32 0) }
+        ensures geometry_value { result.ended.store.geometry ≡ self.geometry }
+    {
+        let mut buffer = [0u8; 32];
+        let returned = read::read(
+            self.state,
+            self.geometry,
+            self.interface,
+            &mut self.array,
+            &mut self.register,
+            &mut self.history,
+            mask,
+            fates,
+            allowed,
+            block,
+            page,
+            &mut buffer,
+        );
+        ReadEnded {
+            ended: self.ended(returned),
+            page: buffer,
+        }
     }
 }

@@ -8,6 +8,14 @@ mod lists;
 
 use std::io;
 
+// A cut operation takes effect in no bit, or in every one.
+pub(crate) const NO_BIT: [u8; 192] = [0; 192];
+
+pub(crate) const EVERY_BIT: [u8; 192] = [0xff; 192];
+
+// Every operation passes without a busy status read.
+pub(crate) const NO_FATES: [u32; 0] = [];
+
 // A mask of pseudo-random bytes.
 fn fill_random(mask: &mut [u8]) {
     let mut word: u64 = 1;
@@ -17,17 +25,22 @@ fn fill_random(mask: &mut [u8]) {
     }
 }
 
-// Sweeps a write into a block with each mask, after older copies.
-fn sweep_masks(rt: &impl Print, label: &str, older: usize, block: usize) -> io::Result<usize> {
+// Sweeps a write into a block with each mask, after older copies, and answers whether each run gave old or new.
+fn sweep_masks(rt: &impl Print, label: &str, older: usize, block: usize) -> io::Result<bool> {
+    let mut clean = true;
+    for &(name, byte) in &[
+        ("00", 0u8),
+        ("ff", 0xff),
+        ("fe", 0xfe),
+        ("55", 0x55),
+        ("aa", 0xaa),
+    ] {
+        clean &= cuts::sweep(rt, label, name, older, block, &[byte; 192])?;
+    }
     let mut random = [0u8; 192];
     fill_random(&mut random);
-    let a = cuts::sweep(rt, label, "00", older, block, &[0u8; 192])?;
-    let b = cuts::sweep(rt, label, "ff", older, block, &[0xffu8; 192])?;
-    let c = cuts::sweep(rt, label, "fe", older, block, &[0xfeu8; 192])?;
-    let d = cuts::sweep(rt, label, "55", older, block, &[0x55u8; 192])?;
-    let e = cuts::sweep(rt, label, "aa", older, block, &[0xaau8; 192])?;
-    let f = cuts::sweep(rt, label, "random", older, block, &random)?;
-    Ok(a | b | c | d | e | f)
+    clean &= cuts::sweep(rt, label, "random", older, block, &random)?;
+    Ok(clean)
 }
 
 // The table is in block 0, and copies take blocks 1, 2 and 3 in turn: the write that is cut goes to block 2, which is
@@ -35,14 +48,14 @@ fn sweep_masks(rt: &impl Print, label: &str, older: usize, block: usize) -> io::
 fn sweep_writes(rt: &impl Print) -> io::Result<()> {
     let fresh = sweep_masks(rt, "erased", 0, 2)?;
     let reused = sweep_masks(rt, "reused", 2, 1)?;
-    if fresh | reused == 0 {
+    if fresh && reused {
         println!(rt; "none was anything else, by a mount or by a quick mount")?;
     }
     Ok(())
 }
 
 fn sweep_formattings(rt: &impl Print) -> io::Result<()> {
-    if formattings::sweep_both(rt)? == 0 {
+    if formattings::sweep_both(rt)? {
         println!(rt; "no entry was lost, by the formatting or by another one after it")?;
     }
     Ok(())

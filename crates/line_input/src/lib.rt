@@ -4,50 +4,32 @@
 mod lines;
 
 ghost use Rattle.std.specs.Prelude.{◌≡◌, ◌≤◌};
-ghost use Rattle.line_input.specs.Fields.{digit_value, appended, some_digit, number_at, field_at};
+ghost use Rattle.line_input.specs.Fields.{digit_of, appended, some_digit, number_at, field_at};
 
-pub use lines::{Ending, LineRead, read_line};
+pub use lines::{InputError, LineError, read_line};
 
-#[derive(Clone, Copy)]
-pub enum Field {
-    // A number, and where it ends.
-    Number(usize, usize),
-    Missing,
+// A number of a line, and where it ends.
+#[derive(Clone, Copy, Debug, PartialEq, Eq)]
+pub struct Number {
+    pub value: usize,
+    pub end: usize,
 }
 
 // Numbers above 32 bits count as this one.
 const GREATEST: usize = 4294967296;
 
-fn wide(x: u8) -> usize
-    ensures { result ≡ x }
-{
-    x as usize
-}
-
-// The value of a digit, in either case of its letter; 255, which is below no base, if the byte is none.
+// The value of a digit of this base, in either case of its letter.
 #[tactic(auto, unfolding(crate::specs::Fields::digit_value))]
-fn digit(byte: u8) -> u8
-    ensures { result ≡ digit_value byte }
+fn digit(byte: u8, base: u8) -> Option<u8>
+    ensures { result ≡ digit_of base byte }
 {
-    if byte < b'0' {
-        return 255;
-    }
-    if byte <= b'9' {
-        return byte - 48;
-    }
-    if byte < b'A' {
-        return 255;
-    }
-    if byte <= b'F' {
-        return byte - 55;
-    }
-    if byte < b'a' {
-        return 255;
-    }
-    if byte <= b'f' {
-        return byte - 87;
-    }
-    255
+    let value = match byte {
+        b'0'..=b'9' => byte - b'0',
+        b'A'..=b'F' => byte - b'A' + 10,
+        b'a'..=b'f' => byte - b'a' + 10,
+        _ => return None,
+    };
+    (value < base).then_some(value)
 }
 
 // The number one digit on.
@@ -57,49 +39,38 @@ fn append(number: usize, base: u8, digit: u8) -> usize
     ensures value { result ≡ appended number base digit }
     ensures upper_bound { result ≤ 4294967296 }
 {
-    let next = number * wide(base) + wide(digit);
-    if GREATEST < next {
-        return GREATEST;
-    }
-    next
+    GREATEST.min(number * usize::from(base) + usize::from(digit))
 }
 
-// A number that ended before a byte that is no digit. One without a digit is none.
-fn end_number(first: usize, number: usize, end: usize) -> Field
-    ensures { result ≡ some_digit first (Field.Number number end) }
+// A number without a digit is none.
+fn some_digit(first: usize, number: Number) -> Option<Number>
+    ensures { result ≡ some_digit first number }
 {
-    if end == first {
-        return Field::Missing;
-    }
-    Field::Number(number, end)
+    (number.end != first).then_some(number)
 }
 
 // The number at a place of the line: the digits of this base up to the next byte that is none.
-pub fn number_at(line: &[u8], at: usize, base: u8) -> Field
+pub fn number_at(line: &[u8], at: usize, base: u8) -> Option<Number>
     ensures { result ≡ number_at line.now at base }
 {
-    let mut number = 0;
-    let mut end = at;
-    while end < line.len() {
-        let value = digit(line[end]);
-        if base <= value {
-            return end_number(at, number, end);
-        }
-        number = append(number, base, value);
-        end += 1;
+    let mut number = Number { value: 0, end: at };
+    for &byte in line.get(at..)? {
+        let Some(digit) = digit(byte, base) else {
+            return some_digit(at, number);
+        };
+        number.value = append(number.value, base, digit);
+        number.end += 1;
     }
-    end_number(at, number, end)
+    some_digit(at, number)
 }
 
 // The field at a place of the line: one space and a number.
-pub fn field_at(line: &[u8], at: usize, base: u8) -> Field
+#[tactic(auto, unfolding(crate::specs::Fields::field_at))]
+pub fn field_at(line: &[u8], at: usize, base: u8) -> Option<Number>
     ensures { result ≡ field_at line.now at base }
 {
-    if line.len() <= at {
-        return Field::Missing;
+    match line.get(at)? {
+        b' ' => number_at(line, at + 1, base),
+        _ => None,
     }
-    if line[at] != b' ' {
-        return Field::Missing;
-    }
-    number_at(line, at + 1, base)
 }

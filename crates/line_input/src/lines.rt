@@ -1,96 +1,94 @@
 // The input, line by line.
-ghost use Rattle.std.specs.Prelude.{◌≡◌, ◌≤◌, length};
-ghost use Rattle.line_input.specs.Input.{byte_got, ending_by};
+ghost use Rattle.std.specs.Prelude.{◌≡◌, ◌≤◌, length, IfOk, IfSome};
+ghost use Rattle.line_input.specs.Input.{byte_got, ending_by, input_error};
 
-use std::io;
 use std::io::Read;
+use std::{fmt, io};
 
-// What a read of one byte gave.
-#[derive(Clone, Copy)]
-pub enum Input {
-    Byte(u8),
-    Newline,
-    End,
-    Failed,
-}
-
-// How a line ended.
-#[derive(Clone, Copy)]
-pub enum Ending {
-    // With a newline, or with the input after one byte at least.
-    Whole,
-    // It did not end in the bytes lent for it.
-    Long,
-    // The input had ended before it.
-    Nothing,
+// Why no line was read, although the input has not ended.
+#[derive(Clone, Copy, Debug, PartialEq, Eq)]
+pub enum LineError {
+    // The line did not end in the bytes lent for it.
+    TooLong,
     // A read failed: what came before it is no line.
-    Unread,
+    Unreadable,
 }
 
-// How a line ended, and its length, which counts only if it is whole.
-#[derive(Clone, Copy)]
-pub struct LineRead {
-    pub ending: Ending,
-    pub length: usize,
-}
-
-// A read of one byte that answered so.
-fn byte_got(got: io::Result<usize>, byte: u8) -> Input
-    ensures { result ≡ byte_got got byte }
-{
-    match got {
-        Ok(0) => Input::End,
-        Ok(1) => {
-            if byte == b'\n' {
-                return Input::Newline;
-            }
-            Input::Byte(byte)
+impl fmt::Display for LineError {
+    fn fmt<W: fmt::Write>(&self, f: &mut fmt::Formatter<W>) -> fmt::Result {
+        match self {
+            LineError::TooLong => write!(f, "a line is too long"),
+            LineError::Unreadable => write!(f, "the input cannot be read"),
         }
-        _ => Input::Failed,
     }
 }
 
-fn read_byte(reader: &mut impl Read) -> Input {
+// Why the input says nothing that a program takes.
+#[derive(Clone, Copy, Debug, PartialEq, Eq)]
+pub enum InputError {
+    // A line that is too long is one too.
+    Malformed,
+    Unreadable,
+}
+
+impl From<LineError> for InputError {
+    ghost from_gives = { λ error given. given ≡ input_error error };
+
+    fn from(error: LineError) -> InputError {
+        match error {
+            LineError::TooLong => InputError::Malformed,
+            LineError::Unreadable => InputError::Unreadable,
+        }
+    }
+}
+
+impl fmt::Display for InputError {
+    fn fmt<W: fmt::Write>(&self, f: &mut fmt::Formatter<W>) -> fmt::Result {
+        match self {
+            InputError::Malformed => write!(f, "malformed line"),
+            InputError::Unreadable => write!(f, "the input cannot be read"),
+        }
+    }
+}
+
+// What a read of one byte gave that answered so: none at the end of the input.
+fn byte_got(got: io::Result<usize>, byte: u8) -> Result<Option<u8>, LineError>
+    ensures { result ≡ byte_got got byte }
+{
+    match got {
+        Ok(0) => Ok(None),
+        Ok(1) => Ok(Some(byte)),
+        _ => Err(LineError::Unreadable),
+    }
+}
+
+fn read_byte(reader: &mut impl Read) -> Result<Option<u8>, LineError> {
     let mut byte = [0u8; 1];
     let got = reader.read(&mut byte);
     byte_got(got, byte[0])
 }
 
-// How a line of this length ends by what comes next: a byte is one too many.
-fn ending_by(input: Input, length: usize) -> Ending
-    ensures { result ≡ ending_by input length }
+// How a line of this length ends by what comes next: its length, or none if the input had ended before it. A byte is one too many.
+fn ending_by(next: Result<Option<u8>, LineError>, length: usize) -> Result<Option<usize>, LineError>
+    ensures { result ≡ ending_by next length }
 {
-    match input {
-        Input::Byte(_) => Ending::Long,
-        Input::Newline => Ending::Whole,
-        Input::End => {
-            if length == 0 {
-                Ending::Nothing
-            } else {
-                Ending::Whole
-            }
-        }
-        Input::Failed => Ending::Unread,
+    match next? {
+        Some(b'\n') => Ok(Some(length)),
+        Some(_) => Err(LineError::TooLong),
+        None => Ok((length != 0).then_some(length)),
     }
 }
 
-// Reads the next line, without its newline, which must come before the slice is full. It takes no byte after the newline.
-pub fn read_line(reader: &mut impl Read, line: &mut [u8]) -> LineRead
-    ensures { result.length ≤ length line.new }
+// Reads the next line, which ends with a newline, or with the input after one byte at least, and answers its length without the
+// newline, which must come before the slice is full. None if the input had ended. It takes no byte after the newline.
+pub fn read_line(reader: &mut impl Read, line: &mut [u8]) -> Result<Option<usize>, LineError>
+    ensures { IfOk result (λ read. IfSome read (λ n. n ≤ length line.new)) }
 {
     for (length, place) in line.iter_mut().enumerate() {
         match read_byte(reader) {
-            Input::Byte(byte) => *place = byte,
-            input => {
-                return LineRead {
-                    ending: ending_by(input, length),
-                    length,
-                };
-            }
+            Ok(Some(byte)) if byte != b'\n' => *place = byte,
+            next => return ending_by(next, length),
         }
     }
-    LineRead {
-        ending: Ending::Long,
-        length: 0,
-    }
+    Err(LineError::TooLong)
 }

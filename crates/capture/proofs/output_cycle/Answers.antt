@@ -1,18 +1,7 @@
 -- `capture::output_cycle` meets its contract: 00h, then bytes out up to their number. Assumes nothing.
-use mathlib.Core.Path.{sym}
-use native.Mathlib.Omega.{arith}
-use Rattle.capture.specs.Capture.{cycle_at}
-use Rattle.capture.proofs.AtLaws.{output_byte, output_past}
+use Rattle.std.proofs.Common.{sym, ◌∙◌, arith}
+use Rattle.capture.proofs.AtLaws.{at_output}
 use Rattle.capture.proofs.output_cycle.Goals as goal
 
-pub returns-then-i-eq0 : goal.returns-then-i-eq0
-unfolding cycle_at
-returns-then-i-eq0 c = rw c.if-i-eq0.true
-
-pub returns-then-i-moved : goal.returns-then-i-moved
-returns-then-i-moved c =
-    sym (output_byte c.args.moved c.args.i (omega arith) (omega arith))
-
-pub returns : goal.returns
-returns c =
-    sym (output_past c.args.moved c.args.i (omega arith) (omega arith))
+pub returns-in_default : goal.returns-in_default
+returns-in_default c = c.then_some.ensures ∙ sym (at_output c.args.moved c.args.i (omega arith))

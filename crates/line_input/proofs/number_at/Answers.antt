@@ -1,25 +1,33 @@
-use Rattle.std.proofs.Common.{◌≤◌, ◌∙◌, get_or, arith}
-use Rattle.line_input.specs.Fields.{digit_value}
-use Rattle.line_input.proofs.FieldLaws.{digits_next, digits_stop, digits_end, number_is}
+use Rattle.std.proofs.Common.{◌∙◌, arith}
+use Rattle.line_input.proofs.FieldLaws.{digits_next, digits_stop, digits_end, number_is, number_short}
 use Rattle.line_input.proofs.number_at.Goals as goal
 
-pub returns-then-base-value : goal.returns-then-base-value
-returns-then-base-value c =
-    let s = c.args in
-    let l = c.loop-end in
-    let stop : s.base ≤ digit_value (get_or s.line.now l.end 0) = omega (arith, c.if-base-value.true, c.digit-value.ensures) in
-    c.end_number.ensures
-    ∙ number_is s.line.now s.at s.base l.number l.end l.invariant.1 (digits_stop s.line.now s.base l.number l.end (omega arith) stop)
+pub returns-in_err-byte-items : goal.returns-in_err-byte-items
+returns-in_err-byte-items c =
+    c.from_residual.ensures
+    ∙ number_short c.args.line.now c.args.at c.args.base (omega (arith, c.in_err-byte-items.ensures.lookup))
 
-pub loop-end-preserved : goal.loop-end-preserved
-loop-end-preserved c =
+pub returns-in_default : goal.returns-in_default
+returns-in_default c =
     let s = c.args in
-    let l = c.loop-end in
-    (c.append-number.ensures.upper_bound, digits_next s.line.now s.base l.number l.end c.digit-value.result c.append-number.result (omega arith) c.digit-value.ensures (omega (arith, c.if-base-value.false)) c.append-number.ensures.value ∙ l.invariant.1)
+    let l = c.loop-byte in
+    let rest = c.in_ok-byte-items.byte-items.now in
+    c.some_digit.ensures
+    ∙ number_is s.line.now rest _ s.at s.base l.number.value l.number.end c.in_ok-byte-items.ensures.lookup.0.2 l.invariant.digits_left (digits_stop rest s.base l.number.value l.number.end l.byte-index (omega arith) c.in_default.ensures)
+
+pub loop-byte-preserved : goal.loop-byte-preserved
+loop-byte-preserved c =
+    let l = c.loop-byte in
+    record {
+      value_bound = c.append.ensures.upper_bound;
+      end_value = omega (arith, l.invariant.end_value);
+      digits_left = digits_next c.in_ok-byte-items.byte-items.now c.args.base l.number.value l.number.end l.byte-index c.in-Some.digit c.append.result (omega arith) c.in-Some.ensures c.append.ensures.value ∙ l.invariant.digits_left;
+    }
 
 pub returns : goal.returns
 returns c =
     let s = c.args in
-    let l = c.loop-end in
-    c.end_number-2.ensures
-    ∙ number_is s.line.now s.at s.base l.number l.end l.invariant.1 (digits_end s.line.now s.base l.number l.end (omega (arith, c.loop-end-test.false)))
+    let l = c.loop-byte in
+    let rest = c.in_ok-byte-items.byte-items.now in
+    c.some_digit-2.ensures
+    ∙ number_is s.line.now rest _ s.at s.base l.number.value l.number.end c.in_ok-byte-items.ensures.lookup.0.2 l.invariant.digits_left (digits_end rest s.base l.number.value l.number.end l.byte-index (omega (arith, c.loop-byte-test.false)))

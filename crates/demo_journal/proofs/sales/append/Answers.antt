@@ -3,4 +3,4 @@ use Rattle.demo_journal.proofs.sales.append.Goals as goal
 
 pub returns : goal.returns
 returns c =
-    append_is _ _ _ c.args.store _ c.put_together-ended.ensures.r_value c.put_together-ended.ensures.geometry_value c.append-entered.ensures
+    append_is _ _ _ c.args.store _ c.ended.ensures.r_value c.ended.ensures.geometry_value c.append-entered.ensures

@@ -3,4 +3,4 @@ use Rattle.demo_journal.proofs.sales.tell.Goals as goal
 
 pub returns : goal.returns
 returns c =
-    told_is _ _ _ c.args.store c.put_together-ended.ensures.r_value c.put_together-ended.ensures.geometry_value c.takings-total.ensures
+    told_is _ _ _ c.args.store c.ended.ensures.r_value c.ended.ensures.geometry_value c.takings-total.ensures

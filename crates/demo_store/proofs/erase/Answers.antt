@@ -1,6 +1,0 @@
--- `demo_store::erase` meets its contract. Assumes nothing.
-use mathlib.Core.Path.{◌∙◌}
-use Rattle.demo_store.proofs.erase.Goals as goal
-
-pub returns : goal.returns
-returns c = record { r_value = c.put_together.ensures.r_value ∙ c.erase-returned.ensures; geometry_value = c.put_together.ensures.geometry_value }
