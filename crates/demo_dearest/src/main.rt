@@ -2,7 +2,7 @@
 // the cycles, and the words; then, with those words, the write of each page over an old copy: answer, cycles and free blocks.
 #![tactic(auto)]
 
-use demo_store::UNCUT;
+use demo_store::{Store, UNCUT};
 use geometry::Geometry;
 use std::io;
 
@@ -46,11 +46,9 @@ fn ask(
 fn write_over(rt: &impl Print, words: &[u32], page: usize) -> io::Result<()> {
     let mask = [0u8; 192];
     let none = [0u32; 0];
-    let formatted = demo_store::format(demo_store::new_store(2), &mask, &none, UNCUT);
-    let empty = formatted.store;
-    let first = demo_store::write(empty, &mask, &none, UNCUT, 0, 0, 0xa5);
-    let store = first.store;
-    let dearest = demo_store::write(store, &mask, words, UNCUT, 0, page, 0x5a);
+    let formatted = Store::new(2).format(&mask, &none, UNCUT);
+    let first = formatted.store.write(&mask, &none, UNCUT, 0, 0, 0xa5);
+    let dearest = first.store.write(&mask, words, UNCUT, 0, page, 0x5a);
     print!(rt; "  page {page} ")?;
     bench_requests::print(rt, bench_requests::figures_of(dearest))?;
     Ok(())

@@ -17,11 +17,14 @@ fn show_crc(rt: &impl Print, label: &str, bytes: &[u8]) -> io::Result<()> {
 }
 
 fn show(rt: &impl Print, label: &str, done: Identified) -> io::Result<()> {
-    let returned = done.returned;
-    let sizes = done.sizes;
     println!(rt;
         "{label} {} {} {} {} {} {}",
-        returned.answer, returned.sent, sizes.main, sizes.spare, sizes.pages, sizes.blocks
+        done.returned.answer,
+        done.returned.sent,
+        done.sizes.main,
+        done.sizes.spare,
+        done.sizes.pages,
+        done.sizes.blocks
     )
 }
 
@@ -108,8 +111,8 @@ fn show_pages(rt: &impl Print) -> io::Result<()> {
 // A good page, asked for as the chip is busy, as power is cut, and with the line low.
 fn show_calls(rt: &impl Print) -> io::Result<()> {
     let none = [0u32; 0];
-    ask(rt, "busy-255", good(), &[255u32], UNCUT)?;
-    ask(rt, "busy-256", good(), &[256u32], UNCUT)?;
+    ask(rt, "busy-255", good(), &[255], UNCUT)?;
+    ask(rt, "busy-256", good(), &[256], UNCUT)?;
     ask(rt, "allowed-775", good(), &none, 775)?;
     ask(rt, "allowed-776", good(), &none, 776)?;
     ask_protected(rt, "write-protected", good(), &none)
