@@ -4,7 +4,7 @@ use mathlib.Core.Bool.{Bool, true, false}
 use mathlib.Core.List.{List, [], ◌∷◌, ◌++◌, map, append_assoc}
 use mathlib.Core.Path.{◌≡◌, refl, ◌∙◌}
 use native.Mathlib.Omega.{arith}
-use borrow.Author.Tests.{ltb-true, ltb-false}
+use borrow.Author.Tests.{ltb-true, ltb-false, lt-ltb}
 use lib.Dec.{ltb}
 use lib.ListN.{length, get_or, replicate, length-replicate, length-map}
 use Rattle.std.proofs.Common.{Some, None}
@@ -131,6 +131,12 @@ module _ (row column polls i : ℕ) where
   module _ (moved : ℕ) where
     pub read_fetch : i < 8 + polls → cycle_at (read_capture row column moved polls) i ≡ cycle_at (fetch_capture row column polls) i
     read_fetch h = at_front (fetch_capture row column polls) (output_cycles moved) i (omega (arith, length_fetch))
+
+    pub read_status : 8 ≤ i → i - 8 < polls → cycle_at (read_capture row column moved polls) i ≡ Some Status
+    read_status g h =
+        let e : i - 6 - 2 ≡ i - 8 = omega arith in
+        read_fetch (omega arith) ∙ fetch_polled (omega arith) ∙ at_status read_confirm polls (i - 6) (omega arith)
+        ∙ rw (e, lt-ltb (i - 8) polls h) refl
 
     pub read_output : 8 ≤ i → polls ≤ i - 8 → cycle_at (read_capture row column moved polls) i ≡ cycle_at (output_cycles moved) (i - 8 - polls)
     read_output g h =

@@ -41,10 +41,13 @@ pub fn erase_whole(block: &mut [u8])
     block.fill(255);
 }
 
-// Copies `from` over the first bytes of `into`.
+// Copies `from` over the first bytes of `into`. A loop, and not `copy_from_slice`, for which the library would need `memmove` of
+// whoever links it.
 pub fn copy(from: &[u8], into: &mut [u8])
     requires { length from.now ≤ length into.old }
     ensures { into.new ≡ over from.now into.old }
 {
-    into[..from.len()].copy_from_slice(from);
+    for (i, byte) in from.iter().enumerate() {
+        into[i] = *byte;
+    }
 }

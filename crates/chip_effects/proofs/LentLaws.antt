@@ -2,6 +2,7 @@
 use Prim.Native.Nat.{ℕ, ◌+◌, ◌-◌, ◌*◌, ◌≤◌, ◌<◌}
 use mathlib.Core.Path.{◌≡◌, ◌∙◌}
 use mathlib.Core.List.{List, ◌++◌}
+use native.Mathlib.Nat.{mul-le-mul_right}
 use native.Mathlib.Omega.{arith}
 use lib.ListN.{length, take, drop}
 use Rattle.geometry.specs.declared.Geometry.{Geometry}
@@ -17,6 +18,10 @@ pub lent : (at n : ℕ) (f : List ℕ → List ℕ) (ys xs : List ℕ) → at + 
 lent at n f ys xs h same e =
     let k : at + n - at ≡ n = omega arith in
     rw (e, k) (put-lent at n (f (part at n xs)) xs (same (part at n xs) ∙ length_part at n xs h))
+
+-- a mask for a block reaches beyond a page
+pub two_pages_in_block : (g : Geometry) → Valid g → page_size g + page_size g ≤ block_size g
+two_pages_in_block g v = omega (arith, mul-le-mul_right (page_size g) v.pages_least)
 
 -- the bytes of a row, and those of a block, lie in the array
 module _ (g : Geometry) (v : Valid g) (at size all : ℕ) (whole : all ≡ chip_size g) where

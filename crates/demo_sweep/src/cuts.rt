@@ -73,7 +73,7 @@ fn only_byte(buffer: &[u8]) -> Option<u8> {
 // The byte that fills page k of all logical pages, none if the read was refused or the page has two different bytes. A read changes
 // nothing that a later one depends on, so each starts from the store as the mount left it.
 fn page_byte(store: Store, k: usize) -> Option<u8> {
-    let read = store.read(&NO_BIT, &NO_FATES, UNCUT, k / 4, k % 4);
+    let read = store.read(&NO_BIT, &NO_FATES, UNCUT, k >> 2, k & 3);
     if read.ended.answer != 0 {
         return None;
     }

@@ -43,10 +43,10 @@ fn withdraw(state: State, block: usize, outcome: Outcome) -> State
     requires { block < 4096 }
     ensures { result ≡ withdrawn block state outcome }
 {
-    match outcome {
-        Outcome::Failed => state.mark_invalid(block),
-        _ => State::blank(2),
-    }
+    let Outcome::Failed = outcome else {
+        return State::blank(2);
+    };
+    state.mark_invalid(block)
 }
 
 impl Cursor {
@@ -156,10 +156,10 @@ impl Cursor {
     fn replace(self, outcome: Outcome) -> Self
         ensures { result ≡ unfilled self outcome }
     {
-        match outcome {
-            Outcome::Failed => self.again(self.phase, 1),
-            _ => Cursor::end(request::stop_answer(outcome)),
-        }
+        let Outcome::Failed = outcome else {
+            return Cursor::end(request::stop_answer(outcome));
+        };
+        self.again(self.phase, 1)
     }
 
     // What is due after the erase or page that was due ended so.

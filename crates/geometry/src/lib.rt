@@ -134,7 +134,7 @@ pub fn block_start(g: Geometry, block: usize) -> usize
 pub fn low_byte(address: usize) -> u8
     ensures { result ≡ address % 256 }
 {
-    address.to_le_bytes()[0]
+    (address & 0xff) as u8
 }
 
 // An address without its low byte.

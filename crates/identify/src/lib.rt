@@ -5,13 +5,14 @@ ghost use Rattle.std.specs.Prelude.{◌≡◌, ◌≤◌, true, length};
 ghost use Rattle.chip_array.specs.Device.{device, setting};
 ghost use Rattle.bus.specs.Line.{line};
 ghost use Rattle.bus_polling.specs.Outcomes.{is_passed};
+ghost use Rattle.parameters.specs.Page.{told_by};
 ghost use Rattle.request.specs.Call.{result_with};
 ghost use Rattle.identify.specs.Identify.{identified, no_sizes, unknown, identify_run, identifying};
 
 use bus_polling::{Done, Outcome};
 use chip_interface::Interface;
 use geometry::Geometry;
-use parameters::Sizes;
+use parameters::{Refusal, Sizes};
 use request::Returned;
 use state::State;
 
@@ -80,6 +81,26 @@ fn fetch(
     )
 }
 
+// The answer of a call to which the page told so. The call has one way out for all that a page can tell, and so makes its end once.
+fn answer_by(told: Result<Sizes, Refusal>) -> usize
+    ensures { result ≡ (told_by told).answer }
+{
+    match told {
+        Ok(_) => 0,
+        Err(refusal) => usize::from(refusal),
+    }
+}
+
+// The sizes that it hands out.
+fn sizes_by(told: Result<Sizes, Refusal>) -> Sizes
+    ensures { result ≡ (told_by told).sizes }
+{
+    match told {
+        Ok(sizes) => sizes,
+        Err(_) => no_sizes(),
+    }
+}
+
 // Lets the chip tell its size; the number of logical blocks is the caller's.
 pub fn identify(
     state: State,
@@ -112,14 +133,9 @@ pub fn identify(
             sizes: no_sizes(),
         };
     };
-    match parameters::tell(&bytes, logical) {
-        Ok(sizes) => Identified {
-            returned: request::end(0, state, done.bus, allowed),
-            sizes,
-        },
-        Err(refusal) => Identified {
-            returned: request::end(usize::from(refusal), state, done.bus, allowed),
-            sizes: no_sizes(),
-        },
+    let told = parameters::tell(&bytes, logical);
+    Identified {
+        returned: request::end(answer_by(told), state, done.bus, allowed),
+        sizes: sizes_by(told),
     }
 }

@@ -12,6 +12,12 @@ byte_got (Ok (suc zero)) byte = Ok (Some byte)
 byte_got (Ok (suc (suc n))) byte = Err Unreadable
 byte_got (Err e) byte = Err Unreadable
 
+-- a line goes on with any byte but a newline; the end of the input and a failure end it too
+abbrev pub byte_of_line : Result (Option ℕ) LineError → Option ℕ
+byte_of_line (Ok (Some byte)) = cond (eqb byte 10) None (Some byte)
+byte_of_line (Ok None) = None
+byte_of_line (Err error) = None
+
 -- a byte but a newline is one too many; the end of the input ends a line that has begun; a failure leaves none
 abbrev pub ending_by : Result (Option ℕ) LineError → ℕ → Result (Option ℕ) LineError
 ending_by (Ok (Some byte)) length = cond (eqb byte 10) (Ok (Some length)) (Err TooLong)

@@ -1,6 +1,6 @@
 // The input, line by line.
 ghost use Rattle.std.specs.Prelude.{◌≡◌, ◌≤◌, length, IfOk, IfSome};
-ghost use Rattle.line_input.specs.Input.{byte_got, ending_by, input_error};
+ghost use Rattle.line_input.specs.Input.{byte_got, byte_of_line, ending_by, input_error};
 
 use std::io::Read;
 use std::{fmt, io};
@@ -68,6 +68,16 @@ fn read_byte(reader: &mut impl Read) -> Result<Option<u8>, LineError> {
     byte_got(got, byte[0])
 }
 
+// The byte with which a line goes on; none where what comes next ends it.
+fn byte_of_line(next: Result<Option<u8>, LineError>) -> Option<u8>
+    ensures { result ≡ byte_of_line next }
+{
+    match next {
+        Ok(Some(byte)) if byte != b'\n' => Some(byte),
+        _ => None,
+    }
+}
+
 // How a line of this length ends by what comes next: its length, or none if the input had ended before it. A byte is one too many.
 fn ending_by(next: Result<Option<u8>, LineError>, length: usize) -> Result<Option<usize>, LineError>
     ensures { result ≡ ending_by next length }
@@ -85,9 +95,10 @@ pub fn read_line(reader: &mut impl Read, line: &mut [u8]) -> Result<Option<usize
     ensures { IfOk result (λ read. IfSome read (λ n. n ≤ length line.new)) }
 {
     for (length, place) in line.iter_mut().enumerate() {
-        match read_byte(reader) {
-            Ok(Some(byte)) if byte != b'\n' => *place = byte,
-            next => return ending_by(next, length),
+        let next = read_byte(reader);
+        match byte_of_line(next) {
+            Some(byte) => *place = byte,
+            None => return ending_by(next, length),
         }
     }
     Err(LineError::TooLong)

@@ -134,6 +134,6 @@ pub fn keep_page(bytes: &[u8], kept: &mut [u8])
     requires { length bytes.now ≤ length kept.old }
     ensures { kept.new ≡ kept_page bytes.now kept.old }
 {
-    kept[..bytes.len()].copy_from_slice(bytes);
-    kept[bytes.len()..].fill(0);
+    clear(kept);
+    cells::copy(bytes, kept);
 }

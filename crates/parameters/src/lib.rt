@@ -5,7 +5,7 @@ ghost use Rattle.std.specs.Prelude.{◌≡◌, ◌+◌, ◌≤◌, take, drop, o
 ghost use Rattle.std.specs.List.{find};
 ghost use Rattle.pages.specs.Layout.{number_of};
 ghost use Rattle.parameters.specs.Crc.{bit_into, byte_into, integrity};
-ghost use Rattle.parameters.specs.Page.{good, sizes_in, refusal_answer, told_by, judged, told};
+ghost use Rattle.parameters.specs.Page.{good, sizes_in, first_good_of, refusal_answer, told_by, judged, told};
 
 use geometry::Geometry;
 
@@ -142,18 +142,25 @@ fn judge(sizes: Sizes, logical: usize) -> Result<Sizes, Refusal>
 }
 
 // The first good one of some copies.
-fn first_good(copies: &[[u8; COPY]]) -> Option<&[u8; COPY]>
+fn find_good(copies: &[[u8; COPY]]) -> Option<&[u8; COPY]>
     ensures { option_map (λ copy. copy.now) result ≡ find good copies.now }
 {
     copies.iter().find(|copy| is_good(copy))
+}
+
+// The first good one of the three copies.
+fn first_good(parameters: &[u8; 3 * COPY]) -> Option<&[u8; COPY]>
+    ensures { option_map (λ copy. copy.now) result ≡ first_good_of parameters.now }
+{
+    let (copies, _) = parameters.as_chunks();
+    find_good(copies)
 }
 
 // What the first good of the three copies tells.
 pub fn tell(parameters: &[u8; 3 * COPY], logical: usize) -> Result<Sizes, Refusal>
     ensures { told_by result ≡ told parameters.now logical }
 {
-    let (copies, _) = parameters.as_chunks();
-    match first_good(copies) {
+    match first_good(parameters) {
         Some(copy) => judge(sizes_in(copy), logical),
         None => Err(Refusal::NoCopy),
     }

@@ -54,12 +54,12 @@ impl<'a> Copies<'a> {
         self.is_counted(bits, block) && self.numbers[block] == number
     }
 
-    // Whether a counted block below another bears a number.
+    // Whether a counted block below another bears a number, the highest looked at first.
     fn is_shared(&self, bits: &[u8; 512], number: u64, below: usize) -> bool
         requires { below ≤ 4096 }
         ensures { result ≡ some_below (bears (told self.now) bits.now number) below }
     {
-        for b in 0..below {
+        for b in (0..below).rev() {
             if self.does_bear(bits, number, b) {
                 return true;
             }
@@ -86,12 +86,12 @@ impl<'a> Copies<'a> {
                 || self.is_shared(bits, self.numbers[block], block))
     }
 
-    // Whether one of the first blocks clashes.
+    // Whether one of the first blocks clashes, the highest looked at first.
     pub fn is_clash(&self, bits: &[u8; 512], logical: usize, blocks: usize) -> bool
         requires { blocks ≤ 4096 }
         ensures { result ≡ some_below (clashing (told self.now) bits.now logical) blocks }
     {
-        for b in 0..blocks {
+        for b in (0..blocks).rev() {
             if self.is_clashing(bits, logical, b) {
                 return true;
             }

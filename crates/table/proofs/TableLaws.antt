@@ -1,12 +1,12 @@
 -- Laws of the table's page 0. Assumes nothing.
 use Prim.Native.Nat.{ℕ, zero, suc, ◌+◌, ◌-◌, ◌*◌, ◌/◌, ◌≤◌, ◌<◌}
 use mathlib.Core.Bool.{Bool, true, false, cond}
-use mathlib.Core.List.{List, ◌++◌, append_assoc}
+use mathlib.Core.List.{List, ◌++◌, append-nil, append_assoc}
 use mathlib.Core.Path.{◌≡◌, refl, sym, ap, ap₂, ◌∙◌}
 use native.Mathlib.Nat.{zero-add}
 use native.Mathlib.Omega.{arith}
 use borrow.Author.Tests.{eq-eqb, ne_eqb}
-use lib.ListN.{length, get_or, take, drop, replicate, length-append}
+use lib.ListN.{length, get_or, take, drop, replicate, length-append, length-take, drop_of_length-le}
 use lib.Seq.{length-take-le, get_or-take, take_at, drop_at, drop-drop}
 use Rattle.geometry.specs.declared.Geometry.{Geometry}
 use Rattle.geometry.specs.Limits.{Valid}
@@ -15,6 +15,7 @@ use Rattle.bitmaps.specs.Bitmap.{bit_at, count_bits, clear_from, bitmap_bytes}
 use Rattle.pages.specs.Layout.{label_of, all_ones, bytes_of}
 use Rattle.pages.proofs.ByteLaws.{take_rest, put_next, take_put}
 use Rattle.pages.proofs.LayoutLaws.{length-bytes_of, number_of-bytes_of, all_ones-replicate}
+use Rattle.cells.specs.Cells.{over}
 use Rattle.cells.specs.Part.{put}
 use Rattle.cells.proofs.PartLaws.{put-lent, length_part, part-take}
 use Rattle.copies.specs.Table.{Roomy, field_of, bitmap_of, right_first, right_page, bits_with, table_page}
@@ -140,12 +141,19 @@ module _ (main blocks logical : ℕ) (bits : List ℕ) where
       ∙ ap all_ones rest
       ∙ all_ones-replicate (main - (8 + k))
 
+-- bytes over no more than as many take their place
+pub over_all : (ys xs : List ℕ) → length xs ≤ length ys → over ys xs ≡ ys
+over_all ys xs h = rw (drop_of_length-le xs {i = length ys} h, append-nil)
+
 -- the bitmap of page 0 as it is copied to the start of a buffer
 pub bitmap_copied : (g : Geometry) (p : ℕ) (page bits : List ℕ) → Valid g → length page ≡ page_size g → (size : ℕ) (y : List ℕ) → p ≡ 0 → size ≡ bitmap_bytes g.blocks
-    → y ≡ take (8 + size - 8) (drop 8 page) → y ++ drop size bits ≡ bits_with g p page bits
+    → y ≡ over (take (8 + size - 8) (drop 8 page)) (take size bits) → y ++ drop size bits ≡ bits_with g p page bits
 unfolding bits_with
 bitmap_copied g p page bits v l size y z d f =
     let same = bits_in_main g v size page d in
     let long : length (bitmap_of g.blocks (take g.main page)) ≡ size =
     sym (ap length same) ∙ length_part 8 (8 + size - 8) page (omega (arith, d, l, (valid_roomy g v).room)) ∙ omega arith in
-    rw (eq-eqb p 0 z, f, same) (put-lent 0 size (bitmap_of g.blocks (take g.main page)) bits long)
+    let whole : y ≡ bitmap_of g.blocks (take g.main page) =
+    f ∙ ap (λ (x : List ℕ). over x (take size bits)) same
+    ∙ over_all (bitmap_of g.blocks (take g.main page)) (take size bits) (rw long (simp (length-take) (omega arith))) in
+    rw (eq-eqb p 0 z, whole) (put-lent 0 size (bitmap_of g.blocks (take g.main page)) bits long)

@@ -15,7 +15,7 @@ pub fn bitmap_bytes(blocks: usize) -> usize
     requires { blocks ≤ 4096 }
     ensures { result ≡ bitmap_bytes blocks }
 {
-    blocks.div_ceil(8)
+    (blocks + 7) >> 3
 }
 
 // Whether the main bytes of page 0 have the layout, their counts and the given geometry.
@@ -77,7 +77,7 @@ pub fn copy_bitmap(page: &[u8], g: Geometry, place: usize, bits: &mut [u8])
         return;
     }
     let size = bitmap_bytes(g.blocks);
-    bits[..size].copy_from_slice(&page[8..8 + size]);
+    cells::copy(&page[8..8 + size], &mut bits[..size]);
 }
 
 // Writes the main bytes of page 0 for these invalid blocks.
@@ -91,6 +91,6 @@ pub fn build_first(main: &mut [u8], blocks: usize, logical: usize, invalid: &[u8
     pages::write_pair(main, 2, logical);
     pages::write_pair(main, 4, bitmaps::count_set(invalid, blocks));
     pages::write_pair(main, 6, 8);
-    main[8..8 + size].copy_from_slice(&invalid[..size]);
+    cells::copy(&invalid[..size], &mut main[8..8 + size]);
     pages::fill_ones(main, 8 + size);
 }

@@ -43,7 +43,7 @@ pub fn choose(last: u32, logical: usize, pages: usize) -> Chosen
     let kind = draw(last);
     let place = draw(kind);
     let block = place as usize % logical;
-    if kind % 8 == 0 {
+    if kind & 7 == 0 {
         return Chosen {
             request: Request::Erase(block),
             last: place,
@@ -53,7 +53,7 @@ pub fn choose(last: u32, logical: usize, pages: usize) -> Chosen
     // A mask is faster than the remainder by a power of two that the code does not know.
     let page = third as usize & (pages - 1);
     let byte = (third >> 24) as u8;
-    let request = if kind % 8 < 4 {
+    let request = if kind & 7 < 4 {
         Request::Read(block, page)
     } else {
         Request::Write(block, page, byte)

@@ -8,6 +8,6 @@ pub returns-in_default : goal.returns-in_default
 returns-in_default c =
     c.blank.ensures ∙ withdrawn_stopped c.args.block c.args.state c.args.outcome (unfailed_by_not _ c.in_default.not-Failed)
 
-pub returns-in-Failed : goal.returns-in-Failed
-returns-in-Failed c =
+pub returns : goal.returns
+returns c =
     c.mark_invalid.ensures ∙ withdrawn_failed c.args.block c.args.state c.args.outcome (failed_by_is _ c.in-Failed.is)

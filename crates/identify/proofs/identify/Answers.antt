@@ -23,17 +23,10 @@ returns-in_default c =
     ap (λ (x : Result). identified x c.no_sizes-in_default.result) (c.end.ensures _ _ _)
     ∙ ends-stopped c.args.mask.now c.args.fates.now d c.args.allowed c.args.state c.args.parameters.now c.args.logical c.if-parameters-ne-PARAMETERS.false _ c.fetch-done.result.outcome c.fetch-done.ensures.history_after c.fetch-done.ensures.outcome_value stopped _ _ _ c.stop_answer-answer.ensures c.blank.ensures c.no_sizes-in_default.ensures
 
-pub returns-in-Ok : goal.returns-in-Ok
-returns-in-Ok c =
+pub returns : goal.returns
+returns c =
     let d = device c.args.interface c.args.array.now c.args.register.now c.args.history.now in
     let passed = passed_by_is c.fetch-done.result.outcome c.in-Passed.is in
-    ap (λ (x : Result). identified x c.in-Ok.sizes) (c.end-in-Ok.ensures _ _ _)
-    ∙ ends_told c.args.mask.now c.args.fates.now d c.args.allowed c.args.state c.args.parameters.now c.args.logical c.if-parameters-ne-PARAMETERS.false _ c.fetch-done.result.outcome c.fetch-done.ensures.history_after c.fetch-done.ensures.outcome_value passed _ (c.in-Ok.ensures ∙ ap (λ (xs : List ℕ). told xs c.args.logical) (c.fetch-done.ensures.fact.0 passed))
-
-pub returns-in-Err : goal.returns-in-Err
-returns-in-Err c =
-    let d = device c.args.interface c.args.array.now c.args.register.now c.args.history.now in
-    let passed = passed_by_is c.fetch-done.result.outcome c.in-Passed.is in
-    let ended = rw c.from.ensures at (c.end-in-Err.ensures c.fetch-done.new.array c.fetch-done.new.register c.fetch-done.new.history) in
-    ap₂ identified ended c.no_sizes-in-Err.ensures
-    ∙ ends_told c.args.mask.now c.args.fates.now d c.args.allowed c.args.state c.args.parameters.now c.args.logical c.if-parameters-ne-PARAMETERS.false _ c.fetch-done.result.outcome c.fetch-done.ensures.history_after c.fetch-done.ensures.outcome_value passed _ (c.in-Err.ensures ∙ ap (λ (xs : List ℕ). told xs c.args.logical) (c.fetch-done.ensures.fact.0 passed))
+    let ended = rw c.answer_by.ensures at (c.end-2.ensures c.fetch-done.new.array c.fetch-done.new.register c.fetch-done.new.history) in
+    ap₂ identified ended c.sizes_by.ensures
+    ∙ ends_told c.args.mask.now c.args.fates.now d c.args.allowed c.args.state c.args.parameters.now c.args.logical c.if-parameters-ne-PARAMETERS.false _ c.fetch-done.result.outcome c.fetch-done.ensures.history_after c.fetch-done.ensures.outcome_value passed _ (c.tell-told.ensures ∙ ap (λ (xs : List ℕ). told xs c.args.logical) (c.fetch-done.ensures.fact.0 passed))

@@ -29,9 +29,7 @@ pub pair_at-requires : goal.pair_at-requires
 pair_at-requires c = omega (arith, c.number_width-width.ensures, width_most c.kind_of.result)
 
 pub slice_bounds-zero_bits-end : goal.slice_bounds-zero_bits-end
-slice_bounds-zero_bits-end c =
-    let at = c.args.main + 5 + c.number_width-width.result in
-    sym (length-take-le at c.args.page.now (omega (arith, c.number_width-width.ensures, width_most c.kind_of.result)))
+slice_bounds-zero_bits-end c = sym (length-take-le _ c.args.page.now (omega (arith, c.number_width-width.ensures, width_most c.kind_of.result)))
 
 pub returns-then-all_ones : goal.returns-then-all_ones
 returns-then-all_ones c =

@@ -5,7 +5,6 @@ use mathlib.Core.Path.{ap, ◌∙◌}
 use Rattle.std.specs.Prelude.{Option}
 use Rattle.parameters.specs.Page.{judged, told_of, told}
 use Rattle.parameters.specs.declared.Sizes.{Sizes}
-use Rattle.parameters.proofs.PageLaws.{first_good-cut}
 use Rattle.parameters.proofs.tell.Goals as goal
 
 pub returns-in-Some : goal.returns-in-Some
@@ -13,9 +12,9 @@ unfolding told
 returns-in-Some c =
     c.judge.ensures
     ∙ ap (λ (z : Sizes). judged z c.args.logical) c.sizes_in.ensures
-    ∙ ap (λ (copy : Option (List ℕ)). told_of copy c.args.logical) (c.in-Some.ensures ∙ first_good-cut c.args.parameters.now _ c.told-parameters c.as_chunks.ensures.front)
+    ∙ ap (λ (copy : Option (List ℕ)). told_of copy c.args.logical) c.in-Some.ensures
 
 pub returns-in-None : goal.returns-in-None
 unfolding told
 returns-in-None c =
-    ap (λ (copy : Option (List ℕ)). told_of copy c.args.logical) (c.in-None.ensures ∙ first_good-cut c.args.parameters.now _ c.told-parameters c.as_chunks.ensures.front)
+    ap (λ (copy : Option (List ℕ)). told_of copy c.args.logical) c.in-None.ensures

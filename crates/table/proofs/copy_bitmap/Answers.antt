@@ -11,4 +11,4 @@ returns-then-place-ne0 c = grind (arith, common_steps)
 
 pub returns : goal.returns
 returns c =
-    bitmap_copied c.args.g c.args.place c.args.page.now c.args.bits.now c.requires.valid c.requires.page_len c.bitmap_bytes-size.result _ c.if-place-ne0.false c.bitmap_bytes-size.ensures c.copy_from_slice.ensures.after
+    bitmap_copied c.args.g c.args.place c.args.page.now c.args.bits.now c.requires.valid c.requires.page_len c.bitmap_bytes-size.result _ c.if-place-ne0.false c.bitmap_bytes-size.ensures c.copy.ensures

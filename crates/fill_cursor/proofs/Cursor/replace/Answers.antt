@@ -9,6 +9,6 @@ pub returns-in_default : goal.returns-in_default
 returns-in_default c =
     c.end.ensures ∙ ap ended c.stop_answer.ensures ∙ stopped_unfilled c.args.self c.args.outcome (unfailed_by_not _ c.in_default.not-Failed)
 
-pub returns-in-Failed : goal.returns-in-Failed
-returns-in-Failed c =
+pub returns : goal.returns
+returns c =
     c.again.ensures ∙ replaced_failed c.args.self c.args.outcome (failed_by_is _ c.in-Failed.is)

@@ -1,10 +1,8 @@
 -- `scan_found::contents::Copies::is_clash` meets its contract. Assumes nothing.
-use mathlib.Core.Bool.{false}
-use mathlib.Core.Path.{◌≡◌}
-use Rattle.copies.specs.Pick.{some_below}
+use Rattle.copies.proofs.PickLaws.{Searched}
 use Rattle.scan_found.specs.Contents.{clashing}
 use Rattle.scan_found.specs.Told.{told}
 use Rattle.scan_found.proofs.contents.Copies.is_clash.Given as goal
 
 abbrev pub invariant-loop-b : goal.invariant-loop-b
-invariant-loop-b l = some_below (clashing (told l.self) l.bits l.logical) l.b ≡ false
+invariant-loop-b l = Searched (clashing (told l.self) l.bits l.logical) l.blocks l.b
